@@ -1,0 +1,31 @@
+-- What the code computes from three bytes by shifts and masks is the field that the window law cuts out of them.
+use Prim.Native.Nat.{ℕ, _+_, _*_, _-_, _/_, _%_, _^_, _≤_, _<_}
+use mathlib.Core.Path.{_≡_, sym}
+use mathlib.Core.List.{List}
+use native.Mathlib.Omega.{arith}
+use lib.ListN.{getD}
+use lib.Bits.{bitAnd, bitOr, or-shifted, and-mask}
+use lib.Pow.{pow-mono}
+use Rattle.meaning.specs.Bits.{fieldAt}
+use Rattle.laws.specs.WindowLaws.{window, field-in}
+
+-- the three bytes put together by shifts
+window-or : (a b c : ℕ) → a < 2 ^ 8 → b < 2 ^ 8 → c < 2 ^ 8 → bitOr (bitOr (a * 2 ^ 16 % 2 ^ 32) (b * 2 ^ 8 % 2 ^ 32)) c ≡ (a * 2 ^ 8 + b) * 2 ^ 8 + c
+window-or a b c ha hb hc =
+    let e : a * 2 ^ 16 % 2 ^ 32 ≡ a * 2 ^ 16 = omega arith in
+    let f : b * 2 ^ 8 % 2 ^ 32 ≡ b * 2 ^ 8 = omega arith in
+    let g : a * 2 ^ 16 + b * 2 ^ 8 ≡ (a * 2 ^ 8 + b) * 2 ^ 8 = omega arith in
+    rw (e, f, or-shifted a 16 (b * 2 ^ 8) (omega arith), g, or-shifted (a * 2 ^ 8 + b) 8 c hc)
+
+-- what the code computes from the three bytes it read
+abbrev pub cutOf : ℕ → ℕ → ℕ → ℕ → ℕ → ℕ
+cutOf p w a b c = bitAnd (bitOr (bitOr (a * 65536 % 4294967296) (b * 256 % 4294967296)) c / 2 ^ (24 - p % 8 - w)) (1 * 2 ^ w % 4294967296 - 1)
+
+pub cut : (s : List ℕ) (p w a b c : ℕ) → w ≤ 16 → (a ≡ getD s (p / 8) 0) × (a < 256) → (b ≡ getD s (p / 8 + 1) 0) × (b < 256) → (c ≡ getD s (p / 8 + 2) 0) × (c < 256)
+    → cutOf p w a b c ≡ fieldAt s p w
+cut s p w a b c hw ha hb hc =
+    let e : 24 - p % 8 - w ≡ 24 - (p % 8 + w) = omega arith in
+    let f : 1 * 2 ^ w % 4294967296 ≡ 2 ^ w = omega (arith, pow-mono {i = w} {j = 16} hw) in
+    let g : (a * 2 ^ 8 + b) * 2 ^ 8 + c ≡ window s (p / 8) = cc in
+    rw (window-or a b c (ha .1) (hb .1) (hc .1), e, f, and-mask ((((a * 2 ^ 8 + b) * 2 ^ 8) + c) / 2 ^ (24 - (p % 8 + w))) w, g)
+    (sym (field-in s p (rw (← hb .0) (hb .1)) (rw (← hc .0) (hc .1)) w (omega arith)))

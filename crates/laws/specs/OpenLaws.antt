@@ -1,0 +1,107 @@
+-- What `open` gives is well formed.
+use mathlib.Core.Path.{_≡_, refl, sym, ap, _∙_}
+use mathlib.Core.Bool.{Bool, true, false, _&&_}
+use mathlib.Core.List.{List, [], _∷_, _++_, map}
+use Prim.Native.Nat.{ℕ, zero, suc, _+_, _-_, _*_, _^_, _≤_, _<_}
+use native.Mathlib.Omega.{arith}
+use borrow.Author.Tests.{lt-ltb, le-leb}
+use lib.Dec.{ltb, leb, eqb}
+use lib.ListN.{length, drop, replicate, length-map}
+use lib.Seq.{drop-at}
+use Rattle.meaning.specs.declared.Buffer.{Buffer}
+use Rattle.meaning.specs.declared.State.{State}
+use Rattle.meaning.specs.Base.{if_then_else_, all}
+use Rattle.meaning.specs.Model.{Model, Chunk}
+use Rattle.meaning.specs.State.{nilAfter, slotCount, wellBuffer, isNil, wellFormed}
+use Rattle.meaning.specs.Read.{Read, Refused, Got, field, times}
+use Rattle.meaning.specs.Image.{header, Header, chunk, aType, anything, eight, between, fact, rule, ending, model, decode}
+use Rattle.meaning.specs.Calls.{opens, openState}
+use Rattle.laws.specs.FieldLaws.{fieldAt-lt}
+use Rattle.laws.specs.BoolLaws.{and-left, and-right}
+use Rattle.laws.specs.ListLaws.{all-append, all-map, all-replicate}
+use Rattle.laws.specs.ReadLaws.{no-got, FieldRead, field-got, must-kept, split, times-all}
+
+all-zeros : (n : ℕ) → all (λ v. eqb v 0) (replicate n 0) ≡ true
+all-zeros zero = refl
+all-zeros (suc n) = all-zeros n
+
+all-small : (n : ℕ) → all (λ v. leb v 4095) (replicate n 0) ≡ true
+all-small zero = refl
+all-small (suc n) = all-small n
+
+-- a symbol is at most 4,095
+symbol : (image : List ℕ) (at a next : ℕ) → field 12 anything image at ≡ Got a next → leb a 4095 ≡ true
+symbol image at a next e =
+    let f : FieldRead 12 anything image at a next = field-got 12 anything image at a next e in
+    le-leb a 4095 (omega (arith, f .is, fieldAt-lt image at 12))
+
+made-well : (types : List ℕ) (k : ℕ) (vs : List ℕ) → ltb k (length types) ≡ true → all (λ v. leb v 4095) vs ≡ true → length vs ≡ slotCount types k
+    → wellBuffer types (record { isa = k; slots = eight vs; delay = 0 }) ≡ true
+made-well types k vs h small l =
+    let t : all (λ v. leb v 4095) (eight vs) ≡ true = all-append (λ v. leb v 4095) vs (replicate (8 - length vs) 0) small (all-small (8 - length vs)) in
+    let z : drop (slotCount types k) (eight vs) ≡ replicate (8 - length vs) 0 = drop-at vs (replicate (8 - length vs) 0) (slotCount types k) l in
+    rw (h, t, z) (all-zeros (8 - length vs))
+
+-- a chunk of a decoded image makes a well-formed buffer
+chunk-well : (types : List ℕ) (least : ℕ) (image : List ℕ) (at : ℕ) (c : Chunk) (end : ℕ) → chunk types least image at ≡ Got c end → wellBuffer types (opens c) ≡ true
+unfolding chunk
+chunk-well types least image at c end e =
+    split (field 6 (aType types least) image at) _ e λ k n₁ e₁ k₁.
+    split (times (slotCount types k) (field 12 anything) image n₁) _ k₁ λ vs n₂ e₂ k₂.
+    let q : record { isa = k; slots = eight vs } ≡ c = cc in
+    let r : aType types least k ≡ 0 = field-got 6 (aType types least) image at k n₁ e₁ .kept in
+    let v : (all (λ v. leb v 4095) vs ≡ true) × (length vs ≡ slotCount types k) = times-all (field 12 anything) (λ v. leb v 4095) symbol (slotCount types k) image n₁ vs n₂ e₂ in
+    rw (← q) (made-well types k vs (and-right (leb least k) (ltb k (length types)) (must-kept 2 _ r)) (v .0) (v .1))
+
+nil-well : (counts : List ℕ) → wellBuffer (0 ∷ counts) (nilAfter 0) ≡ true
+nil-well counts = rw (lt-ltb 0 (suc (length counts)) (omega arith)) refl
+
+open-made : (m : Model) (counts : List ℕ) → m .types ≡ 0 ∷ counts → all (λ c. wellBuffer (m .types) (opens c)) (m .opening) ≡ true → length (m .opening) ≡ m .buffers
+    → wellFormed m (openState m) ≡ true
+unfolding wellFormed openState
+open-made m counts k a l =
+    let n : wellBuffer (m .types) (nilAfter 0) ≡ true = rw k (nil-well counts) in
+    let t : all (wellBuffer (m .types)) (map opens (m .opening) ++ replicate (8 - m .buffers) (nilAfter 0)) ≡ true =
+    all-append (wellBuffer (m .types)) (map opens (m .opening)) (replicate (8 - m .buffers) (nilAfter 0)) (all-map (wellBuffer (m .types)) opens (m .opening) ∙ a)
+    (all-replicate (wellBuffer (m .types)) (8 - m .buffers) (nilAfter 0) n) in
+    let d : drop (m .buffers) (map opens (m .opening) ++ replicate (8 - m .buffers) (nilAfter 0)) ≡ replicate (8 - m .buffers) (nilAfter 0) =
+    drop-at (map opens (m .opening)) (replicate (8 - m .buffers) (nilAfter 0)) (m .buffers) (length-map (m .opening) opens ∙ l) in
+    rw (t, d) (all-replicate isNil (8 - m .buffers) (nilAfter 0) refl)
+
+-- what a decoded model's opening has, with the reading taken apart once
+pub record OpensWell (m : Model) : Type 0 where
+  pub counts : List ℕ
+  pub types-are : m .types ≡ 0 ∷ counts
+  pub all-well : all (λ c. wellBuffer (m .types) (opens c)) (m .opening) ≡ true
+  pub as-many : length (m .opening) ≡ m .buffers
+
+module _ (image : List ℕ) (m : Model) (end : ℕ) where
+  model-opens : model image 0 ≡ Got m end → OpensWell m
+  unfolding model
+  model-opens e =
+      split (header image 0) _ e λ h n₁ e₁ k₁.
+      split (times (h .declared) (field 4 (between 0 8)) image n₁) _ k₁ λ counts n₂ e₂ k₂.
+      split (times (h .buffers) (chunk (0 ∷ counts) 0) image n₂) _ k₂ λ opening n₃ e₃ k₃.
+      split (times (h .facts) (fact (0 ∷ counts)) image n₃) _ k₃ λ facts n₄ e₄ k₄.
+      split (times (h .rules) (rule (record { buffers = h .buffers; types = 0 ∷ counts })) image n₄) _ k₄ λ rules n₅ e₅ k₅.
+      split (ending image n₅) _ k₅ λ u n₆ e₆ k₆.
+      let m-is : m ≡ record { buffers = h .buffers; types = 0 ∷ counts; failure = h .failure; opening = opening; facts = facts; rules = rules } = made k₆ in
+      finish h counts opening n₂ n₃ e₃ (ap (λ (x : Model). x .types) m-is, ap (λ (x : Model). x .opening) m-is, ap (λ (x : Model). x .buffers) m-is)
+    where
+      finish : (h : Header) (counts : List ℕ) (opening : List Chunk) (at next : ℕ) → times (h .buffers) (chunk (0 ∷ counts) 0) image at ≡ Got opening next
+          → (m .types ≡ 0 ∷ counts) × (m .opening ≡ opening) × (m .buffers ≡ h .buffers) → OpensWell m
+      finish h counts opening at next e q =
+          let r : (all (λ c. wellBuffer (0 ∷ counts) (opens c)) opening ≡ true) × (length opening ≡ h .buffers) = times-all (chunk (0 ∷ counts) 0) (λ c. wellBuffer (0 ∷ counts) (opens c)) (chunk-well (0 ∷ counts) 0) (h .buffers) image at opening next e in
+          record { counts = counts; types-are = q .0; all-well = rw (q .0, q .1) (r .0); as-many = rw (q .1, q .2) (r .1) }
+
+      made : {x : Model} {n : ℕ} → Got x n ≡ Got m end → m ≡ x
+      made e = cc
+
+-- "Number 6 likewise": what open gives is well formed
+pub open-well : (image : List ℕ) (m : Model) (at : ℕ) → decode image ≡ Got m at → wellFormed m (openState m) ≡ true
+unfolding decode
+open-well image m at e =
+    (elim (ltb 65536 (length image)) as (λ t. (if t then Refused 1 0 else model image 0) ≡ Got m at → wellFormed m (openState m) ≡ true) [
+      | true ↦ λ h. absurd (no-got 1 0 m at h)
+      | false ↦ λ h. let o : OpensWell m = model-opens image m at h in open-made m (o .counts) (o .types-are) (o .all-well) (o .as-many)
+    ]) e

@@ -1,0 +1,76 @@
+-- A field of at most 16 bits lies in three bytes: fetch those, shift and cut. Once over the position and the width.
+use Prim.Native.Nat.{ℕ, zero, suc, _+_, _*_, _-_, _/_, _%_, _^_, _≤_, _<_}
+use mathlib.Core.Path.{_≡_, refl, sym, ap, ap₂, _∙_, subst}
+use mathlib.Core.List.{List}
+use native.Mathlib.Omega.{arith}
+use native.Mathlib.Numerals.{add-one}
+use native.Mathlib.Decide.{decLt}
+use native.Mathlib.Nat.{mod-one}
+use lib.ListN.{getD}
+use lib.Pow.{high, low, shr-shr, field, mod-mod-pow, mod-pow-add}
+use Rattle.meaning.specs.Bits.{bitAt, fieldAt}
+
+-- bit k of a number, the least first
+abbrev pub bitOf : ℕ → ℕ → ℕ
+bitOf n k = n / 2 ^ k % 2
+
+high-bit : (hi m k : ℕ) {lo : ℕ} → lo < 2 ^ m → bitOf (hi * 2 ^ m + lo) (m + k) ≡ bitOf hi k
+high-bit hi m k {lo} h = ap (λ (x : ℕ). x % 2) (sym (shr-shr (hi * 2 ^ m + lo) m k) ∙ ap (λ (x : ℕ). x / 2 ^ k) (high hi m h))
+
+low-bit-past : (hi j k : ℕ) {lo : ℕ} → lo < 2 ^ (suc j + k) → bitOf (hi * 2 ^ (suc j + k) + lo) k ≡ bitOf lo k
+low-bit-past hi j k {lo} h =
+    let n : ℕ = hi * 2 ^ (suc j + k) + lo in
+    sym (mod-mod-pow (n / 2 ^ k) j 1)
+    ∙ ap (λ (x : ℕ). n / 2 ^ k % 2 ^ x % 2) (add-one j)
+    ∙ ap (λ (x : ℕ). x % 2) (sym (field n (suc j) k))
+    ∙ ap (λ (x : ℕ). x / 2 ^ k % 2) (low hi (suc j + k) h)
+
+low-bit : (hi m k : ℕ) {lo : ℕ} → lo < 2 ^ m → k < m → bitOf (hi * 2 ^ m + lo) k ≡ bitOf lo k
+low-bit hi m k {lo} h l =
+    let e : suc (m - suc k) + k ≡ m = omega arith in
+    subst (λ (x : ℕ). lo < 2 ^ x → bitOf (hi * 2 ^ x + lo) k ≡ bitOf lo k) e (low-bit-past hi (m - suc k) k) h
+
+-- the three bytes from byte i on, as one number
+abbrev pub window : List ℕ → ℕ → ℕ
+window s i = (getD s i 0 * 2 ^ 8 + getD s (i + 1) 0) * 2 ^ 8 + getD s (i + 2) 0
+
+-- by whether a is below b
+pub by-lt : {C : Type 0} (a b : ℕ) → (a < b → C) → (b ≤ a → C) → C
+by-lt a b f g = elim (decLt a b) [ yes h ↦ f h | no h ↦ g (omega arith) ]
+
+module _ (s : List ℕ) (p : ℕ) (h1 : getD s (p / 8 + 1) 0 < 2 ^ 8) (h2 : getD s (p / 8 + 2) 0 < 2 ^ 8) where
+  bit-in : (w : ℕ) → p % 8 + w < 24 → bitAt s (p + w) ≡ bitOf (window s (p / 8)) (23 - (p % 8 + w))
+  bit-in w h =
+      let k : ℕ = 7 - (p + w) % 8 in
+      let b0 : ℕ = getD s (p / 8) 0 in
+      let b1 : ℕ = getD s (p / 8 + 1) 0 in
+      let b2 : ℕ = getD s (p / 8 + 2) 0 in
+      by-lt (p % 8 + w) 8
+      (λ a.
+      let e : (p + w) / 8 ≡ p / 8 = omega arith in
+      let f : 23 - (p % 8 + w) ≡ 8 + (8 + k) = omega arith in
+      rw (e, f) (sym (high-bit (b0 * 2 ^ 8 + b1) 8 (8 + k) h2 ∙ high-bit b0 8 k h1)))
+      (λ a.
+      by-lt (p % 8 + w) 16
+      (λ b.
+      let e : (p + w) / 8 ≡ p / 8 + 1 = omega arith in
+      let f : 23 - (p % 8 + w) ≡ 8 + k = omega arith in
+      rw (e, f) (sym (high-bit (b0 * 2 ^ 8 + b1) 8 k h2 ∙ low-bit b0 8 k h1 (omega arith))))
+      (λ b.
+      let e : (p + w) / 8 ≡ p / 8 + 2 = omega arith in
+      let f : 23 - (p % 8 + w) ≡ k = omega arith in
+      rw (e, f) (sym (low-bit (b0 * 2 ^ 8 + b1) 8 k h2 (omega arith)))))
+
+  -- the field is what the shift and the mask cut out of the window
+  pub field-in : (w : ℕ) → p % 8 + w ≤ 24 → fieldAt s p w ≡ window s (p / 8) / 2 ^ (24 - (p % 8 + w)) % 2 ^ w
+  unfolding fieldAt
+  field-in zero h = sym (mod-one (window s (p / 8) / 2 ^ (24 - (p % 8 + 0))))
+  field-in (suc w) h =
+      let k : ℕ = 23 - (p % 8 + w) in
+      let n : ℕ = window s (p / 8) in
+      let e : 24 - (p % 8 + w) ≡ k + 1 = omega arith in
+      let f : 24 - (p % 8 + suc w) ≡ k = omega arith in
+      ap₂ (λ (x y : ℕ). x * 2 + y) (field-in w (omega arith) ∙ ap (λ (x : ℕ). n / 2 ^ x % 2 ^ w) e ∙ ap (λ (x : ℕ). x % 2 ^ w) (sym (shr-shr n k 1))) (bit-in w (omega arith))
+      ∙ sym (mod-pow-add (n / 2 ^ k) w 1)
+      ∙ ap (λ (x : ℕ). n / 2 ^ k % 2 ^ x) (add-one w)
+      ∙ ap (λ (x : ℕ). n / 2 ^ x % 2 ^ suc w) (sym f)

@@ -1,0 +1,100 @@
+-- "Calls and their numbers": open, run and refresh, for all that they could be handed.
+use mathlib.Core.Bool.{Bool, not}
+use mathlib.Core.List.{List, _++_, map}
+use Prim.Native.Nat.{ℕ, zero, suc, _+_, _-_, _*_, _^_}
+use lib.Dec.{leb, eqb}
+use lib.ListN.{length, replicate}
+use Rattle.meaning.specs.declared.Buffer.{Buffer}
+use Rattle.meaning.specs.declared.State.{State}
+use Rattle.meaning.specs.Base.{if_then_else_}
+use Rattle.meaning.specs.Numbers.{all-done, wrong-table, ill-formed, bad-mark}
+use Rattle.meaning.specs.Model.{Model, Chunk}
+use Rattle.meaning.specs.State.{nilAfter, zeroState, wellFormed}
+use Rattle.meaning.specs.Read.{Read, Refused, Got}
+use Rattle.meaning.specs.Image.{decode}
+use Rattle.meaning.specs.Match.{freshTable}
+use Rattle.meaning.specs.Step.{Step, Stopped, Made, stepOf}
+use Rattle.meaning.specs.Refresh.{refresh, refreshCount}
+
+-- "Order: 1; then 2 and 3, the earlier in reading order; 4; 5": what all three calls look at first
+abbrev pub fitting : List ℕ → Read Model → Read Model
+fitting table (Refused n at) = Refused n at
+fitting table (Got m at) = if eqb (length table) (9 * length (m .rules)) then Got m at else Refused wrong-table 0
+
+unfoldable pub accepted : List ℕ → List ℕ → Read Model
+accepted image table = fitting table (decode image)
+
+-- the words that the table of an image needs, 0 for an image that is refused: what a caller asks before it opens
+abbrev pub wordsFor : Read Model → ℕ
+wordsFor (Refused n at) = 0
+wordsFor (Got m at) = 9 * length (m .rules)
+
+unfoldable pub tableLength : List ℕ → ℕ
+tableLength image = wordsFor (decode image)
+
+-- ---- "Open: image, table; gives a number and the state."
+
+pub record Opened : Type 0 where
+  pub number : ℕ
+  pub state : State
+  pub table : List ℕ
+
+abbrev pub opens : Chunk → Buffer
+opens c = record { isa = c .isa; slots = c .slots; delay = 0 }
+
+-- "For each buffer, its opening chunk"; "buffers past the image's count hold nil"; "Opening delays and the opening clock are 0."
+unfoldable pub openState : Model → State
+openState m = record { buffers = map opens (m .opening) ++ replicate (8 - m .buffers) (nilAfter 0); clock = 0 }
+
+-- "an all-zero state from open) and an unaltered table". "Open that is accepted writes the fresh table."
+abbrev pub openedBy : List ℕ → Read Model → Opened
+openedBy table (Refused n at) = record { number = n; state = zeroState; table = table }
+openedBy table (Got m at) = record { number = all-done; state = openState m; table = freshTable (m .rules) (openState m) }
+
+unfoldable pub openOf : List ℕ → List ℕ → Opened
+openOf image table = openedBy table (accepted image table)
+
+-- ---- "Run: image, state, table, steps asked (0 to 65,535); gives a number, the state and the steps made."
+
+pub record Ran : Type 0 where
+  pub number : ℕ
+  pub state : State
+  pub table : List ℕ
+  pub made : ℕ
+
+-- one step, and what follows it: "After each step the table is refreshed with that mark."
+-- "Numbers 7, 8 and 9 return the state, table and count after the steps already made; the step in question changes nothing."
+abbrev pub goOn : Model → State → List ℕ → ℕ → (State → List ℕ → ℕ → Ran) → Step → Ran
+goOn m s table made next (Stopped n) = record { number = n; state = s; table = table; made = made }
+goOn m s table made next (Made e s′ mark) = next s′ (refresh (m .rules) s′ mark table) (made + 1)
+
+unfoldable pub runFrom : Model → ℕ → State → List ℕ → ℕ → Ran
+runFrom m zero s table made = record { number = all-done; state = s; table = table; made = made }
+runFrom m (suc n) s table made = goOn m s table made (λ s′ table′ made′. runFrom m n s′ table′ made′) (stepOf m s table)
+
+-- "Numbers 1 to 6 and 10 return count 0, the state as handed in .. and an unaltered table." "Run with 0 steps asked answers 0 after checks 1 to 6."
+abbrev pub ranBy : State → List ℕ → ℕ → Read Model → Ran
+ranBy s table steps (Refused n at) = record { number = n; state = s; table = table; made = 0 }
+ranBy s table steps (Got m at) =
+    if wellFormed m s then runFrom m steps s table 0 else (record { number = ill-formed; state = s; table = table; made = 0 })
+
+unfoldable pub runOf : List ℕ → State → List ℕ → ℕ → Ran
+runOf image s table steps = ranBy s table steps (accepted image table)
+
+-- ---- "Refresh: image, state, mark (16 bits), table; .. gives a number and how many rules test a marked buffer."
+
+pub record Refreshed : Type 0 where
+  pub number : ℕ
+  pub count : ℕ
+  pub table : List ℕ
+
+-- "6; 10"
+abbrev pub refreshedBy : State → ℕ → List ℕ → Read Model → Refreshed
+refreshedBy s mark table (Refused n at) = record { number = n; count = 0; table = table }
+refreshedBy s mark table (Got m at) =
+    if not (wellFormed m s) then record { number = ill-formed; count = 0; table = table }
+    else (if leb (2 ^ m .buffers) mark then record { number = bad-mark; count = 0; table = table }
+    else record { number = all-done; count = refreshCount (m .rules) mark; table = refresh (m .rules) s mark table })
+
+unfoldable pub refreshOf : List ℕ → State → ℕ → List ℕ → Refreshed
+refreshOf image s mark table = refreshedBy s mark table (accepted image table)

@@ -1,0 +1,21 @@
+-- What document 01 says, as definitions that compute: one file for one notion, in its order.
+pub mod Base
+pub mod Highest
+pub mod Numbers
+pub mod State
+pub mod Model
+pub mod Bits
+pub mod Read
+pub mod Image
+pub mod Match
+pub mod Choice
+pub mod Retrieval
+pub mod Fire
+pub mod Wait
+pub mod Mark
+pub mod Step
+pub mod Refresh
+pub mod Calls
+pub mod Print
+pub mod Examples
+pub mod Telling

@@ -1,0 +1,59 @@
+-- "A match": the entries of the table.
+use mathlib.Core.Bool.{Bool, _&&_}
+use mathlib.Core.List.{List, [], _∷_, _++_, map}
+use Prim.Native.Nat.{ℕ}
+use lib.Dec.{eqb}
+use lib.ListN.{getD, replicate}
+use Rattle.meaning.specs.declared.Buffer.{Buffer}
+use Rattle.meaning.specs.declared.State.{State}
+use Rattle.meaning.specs.Base.{if_then_else_, all, count}
+use Rattle.meaning.specs.Model.{Rule, Test, Named, Term, Symbol, Variable}
+use Rattle.meaning.specs.State.{bufferOf, visible}
+use Rattle.meaning.specs.Image.{isVariable}
+
+-- a named slot of a test: its term, and the value that stands there
+pub record Place : Type 0 where
+  pub term : Term
+  pub value : ℕ
+
+abbrev pub place : Buffer → Named → Place
+place b n = record { term = n .term; value = getD (b .slots) (n .slot) 0 }
+
+-- all named slots of a rule's tests, in their order
+unfoldable pub places : List Test → State → List Place
+places [] s = []
+places (t ∷ ts) s = map (place (bufferOf s (t .buffer))) (t .named) ++ places ts s
+
+-- the value of a variable is the one at its first place, "0 where unused"
+unfoldable pub valueIn : List Place → ℕ → ℕ
+valueIn [] v = 0
+valueIn (p ∷ ps) v = if isVariable v (p .term) then p .value else valueIn ps v
+
+-- what a term stands for: "A variable may take any value, nil too."
+abbrev pub termIn : List Place → Term → ℕ
+termIn ps (Symbol x) = x
+termIn ps (Variable v) = valueIn ps v
+
+-- "each named slot's value equals the term; a variable has one value throughout the rule"
+abbrev pub agrees : List Place → Place → Bool
+agrees ps p = eqb (p .value) (termIn ps (p .term))
+
+abbrev pub agreed : List Place → Bool
+agreed ps = all (agrees ps) ps
+
+-- "the buffer is visible, its type is the test's". "A test of type 0 holds on a visible empty buffer."
+abbrev pub shows : Test → Buffer → Bool
+shows t b = visible b && eqb (b .isa) (t .isa)
+
+-- "A rule matches when all its tests hold"
+unfoldable pub matches : Rule → State → Bool
+matches r s = all (λ t. shows t (bufferOf s (t .buffer))) (r .tests) && agreed (places (r .tests) s)
+
+-- "An entry is 1 and then the values of variables 0 to 7 (0 where unused) if the rule matches, nine zeros if it does not."
+unfoldable pub entryOf : Rule → State → List ℕ
+entryOf r s = if matches r s then 1 ∷ map (valueIn (places (r .tests) s)) (count 0 8) else replicate 9 0
+
+-- "The fresh table is the entry of each rule under this definition"
+unfoldable pub freshTable : List Rule → State → List ℕ
+freshTable [] s = []
+freshTable (r ∷ rs) s = entryOf r s ++ freshTable rs s

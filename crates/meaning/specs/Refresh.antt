@@ -1,0 +1,22 @@
+-- "After each step the table is refreshed with that mark."
+use mathlib.Core.Bool.{Bool}
+use mathlib.Core.List.{List, [], _∷_, _++_}
+use Prim.Native.Nat.{ℕ}
+use lib.ListN.{length, take, drop}
+use Rattle.meaning.specs.declared.State.{State}
+use Rattle.meaning.specs.Base.{if_then_else_, any, keep, bit}
+use Rattle.meaning.specs.Model.{Rule}
+use Rattle.meaning.specs.Match.{entryOf}
+
+-- a rule that "tests a marked buffer"
+abbrev pub testsMarked : ℕ → Rule → Bool
+testsMarked mark r = any (λ t. bit mark (t .buffer)) (r .tests)
+
+-- "makes the entry of each rule that tests a marked buffer equal to the fresh match, returns all other entries unaltered"
+unfoldable pub refresh : List Rule → State → ℕ → List ℕ → List ℕ
+refresh [] s mark table = []
+refresh (r ∷ rs) s mark table = (if testsMarked mark r then entryOf r s else take 9 table) ++ refresh rs s mark (drop 9 table)
+
+-- "how many rules test a marked buffer"
+unfoldable pub refreshCount : List Rule → ℕ → ℕ
+refreshCount rules mark = length (keep (testsMarked mark) rules)
