@@ -1,0 +1,58 @@
+-- Laws of words written one after the other.
+use Prim.Native.Nat.{ℕ, zero, suc, _+_, _≤_, _<_}
+use mathlib.Core.Path.{_≡_, refl, sym, ap, _∙_}
+use mathlib.Core.List.{List, [], _∷_}
+use native.Mathlib.Omega.{arith}
+use native.Mathlib.Numerals.{add-one}
+use lib.ListN.{length, getD, set, take, drop, length-set, length-drop}
+use lib.Seq.{sets, drop-cons, getD-set-same, getD-set-other, getD-take, take-set-le}
+
+-- one word of a list more, in a loop that counts i up to its length
+pub sets-step : (w : List ℕ) (o i : ℕ) (xs : List ℕ) → i < length xs → sets (set w (o + i) (getD xs i 0)) (o + (i + 1)) (drop (i + 1) xs) ≡ sets w (o + i) (drop i xs)
+sets-step w o i xs h =
+    let e : o + (i + 1) ≡ suc (o + i) = omega arith in
+    rw (e, add-one i, drop-cons xs i 0 h)
+
+pub sets-end : (w : List ℕ) (o i : ℕ) (xs : List ℕ) → length xs ≤ i → w ≡ sets w o (drop i xs)
+sets-end w o i xs h = go (drop i xs) (omega (arith, length-drop i xs))
+  where
+    go : (ys : List ℕ) → length ys ≡ 0 → w ≡ sets w o ys
+    go [] e = refl
+    go (y ∷ ys) e = absurd (omega arith)
+
+-- what is written from q on leaves what stands below
+pub sets-below : (w : List ℕ) (q : ℕ) (ws : List ℕ) (j : ℕ) → j < q → getD (sets w q ws) j 0 ≡ getD w j 0
+sets-below w q [] j h = refl
+sets-below w q (x ∷ ws) j h =
+    let ne : (j ≡ q → ⊥) = λ e. omega arith in
+    sets-below (set w q x) (suc q) ws j (omega arith) ∙ getD-set-other w q j x 0 ne
+
+-- and stands there
+pub sets-at : (w : List ℕ) (q : ℕ) (ws : List ℕ) (j : ℕ) → j < length ws → q + length ws ≤ length w → getD (sets w q ws) (q + j) 0 ≡ getD ws j 0
+sets-at w q [] j h g = absurd (omega arith)
+sets-at w q (x ∷ ws) zero h g =
+    let e : q + 0 ≡ q = omega arith in
+    rw e (sets-below (set w q x) (suc q) ws q (omega arith) ∙ getD-set-same w q x 0 (omega arith))
+sets-at w q (x ∷ ws) (suc j) h g =
+    let e : q + suc j ≡ suc q + j = omega arith in
+    rw e (sets-at (set w q x) (suc q) ws j (omega arith) (omega (arith, length-set w q x)))
+
+pub sets-take : (o : ℕ) (w : List ℕ) (q : ℕ) (ws : List ℕ) → o ≤ q → take o (sets w q ws) ≡ take o w
+sets-take o w q [] h = refl
+sets-take o w q (x ∷ ws) h = sets-take o (set w q x) (suc q) ws (omega arith) ∙ take-set-le o w q x h
+
+-- two lists with the same beginning have the same words in it
+pub below-get : (o : ℕ) (w w′ : List ℕ) → take o w′ ≡ take o w → (j : ℕ) → j < o → getD w′ j 0 ≡ getD w j 0
+below-get o w w′ e j h = sym (getD-take o w′ j 0 h) ∙ ap (λ (l : List ℕ). getD l j 0) e ∙ getD-take o w j 0 h
+
+-- ---- a list of a known length is its elements in a row
+
+abbrev pub tab : ℕ → (ℕ → ℕ) → List ℕ
+tab zero f = []
+tab (suc n) f = f zero ∷ tab n (λ k. f (suc k))
+
+pub listed : (n : ℕ) (l : List ℕ) → length l ≡ n → tab n (λ k. getD l k 0) ≡ l
+listed zero [] e = refl
+listed zero (x ∷ l) e = absurd (omega arith)
+listed (suc n) [] e = absurd (omega arith)
+listed (suc n) (x ∷ l) e = ap (λ (t : List ℕ). x ∷ t) (listed n l (omega arith))

@@ -1,0 +1,3 @@
+-- How words are read as facts, tests, actions and rules, and what the code's answers say.
+pub mod Walks
+pub mod Rows

@@ -1,0 +1,3 @@
+-- Laws of masks and their terms.
+pub mod MaskBits
+pub mod TermLaws

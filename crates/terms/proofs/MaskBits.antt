@@ -1,0 +1,104 @@
+-- A bit of the mask, as the code tests it, names its slot or does not; the slots that are passed and that are left.
+use Prim.Native.Nat.{ℕ, zero, suc, _+_, _-_, _/_, _%_, _^_, _≤_, _<_}
+use mathlib.Core.Path.{_≡_, refl, sym, ap, _∙_}
+use mathlib.Core.Bool.{Bool, true, false}
+use mathlib.Core.List.{List, [], _∷_, _++_, append-nil}
+use native.Mathlib.Omega.{arith}
+use lib.ListN.{length}
+use lib.Bits.{bitAnd, and-mask}
+use lib.Pow.{shr-shr}
+use lib.Dec.{eqb}
+use borrow.Author.Tests.{eq-eqb, ne-eqb}
+use Rattle.meaning.specs.Base.{keep, admit, count, bit}
+use Rattle.meaning.specs.Image.{names, slotsIn}
+
+pub bit-is : (m b : ℕ) → bit m b ≡ eqb (m / 2 ^ b % 2) 1
+bit-is m zero = let e : m % 2 ≡ m / 1 % 2 = omega arith in ap (λ (n : ℕ). eqb n 1) e
+bit-is m (suc b) =
+    let e : 1 + b ≡ suc b = omega arith in
+    bit-is (m / 2) b ∙ ap (λ (n : ℕ). eqb (n % 2) 1) (shr-shr m 1 b ∙ ap (λ (k : ℕ). m / 2 ^ k) e)
+
+pub names-on : (m b : ℕ) → bitAnd (m / 2 ^ (7 - b)) 1 ≡ 1 → names m b ≡ true
+names-on m b z = bit-is m (7 - b) ∙ eq-eqb (m / 2 ^ (7 - b) % 2) 1 (sym (and-mask (m / 2 ^ (7 - b)) 1) ∙ z)
+
+pub names-off : (m b : ℕ) → (bitAnd (m / 2 ^ (7 - b)) 1 ≡ 1 → ⊥) → names m b ≡ false
+names-off m b z = bit-is m (7 - b) ∙ ne-eqb (m / 2 ^ (7 - b) % 2) 1 (λ y. z (and-mask (m / 2 ^ (7 - b)) 1 ∙ y))
+
+-- ---- named slots from b on, and below b
+
+unfoldable pub rest : ℕ → ℕ → List ℕ
+rest m b = keep (names m) (count b (8 - b))
+
+unfoldable pub below : ℕ → ℕ → List ℕ
+below m b = keep (names m) (count 0 b)
+
+pub rest-start : (m : ℕ) → rest m 0 ≡ slotsIn m
+unfolding rest slotsIn
+rest-start m = refl
+
+pub rest-on : (m b : ℕ) → b < 8 → names m b ≡ true → rest m b ≡ b ∷ rest m (b + 1)
+unfolding rest
+rest-on m b h e = let g : 8 - b ≡ suc (8 - (b + 1)) = omega arith in rw (g, e)
+
+pub rest-off : (m b : ℕ) → b < 8 → names m b ≡ false → rest m b ≡ rest m (b + 1)
+unfolding rest
+rest-off m b h e = let g : 8 - b ≡ suc (8 - (b + 1)) = omega arith in rw (g, e)
+
+-- where a named slot is left, the last one is not passed
+pub rest-some : (m b : ℕ) → 0 < length (rest m b) → b < 8
+unfolding rest
+rest-some m b h = go (8 - b) refl h
+  where
+    go : (n : ℕ) → 8 - b ≡ n → 0 < length (keep (names m) (count b n)) → b < 8
+    go zero e l = absurd (omega arith)
+    go (suc n) e l = omega arith
+
+count-more : (i n : ℕ) → count i (n + 1) ≡ count i n ++ ((i + n) ∷ [])
+count-more i zero = let e : i + 0 ≡ i = omega arith in rw e
+count-more i (suc n) =
+    let e : suc n + 1 ≡ suc (n + 1) = omega arith in
+    let g : i + suc n ≡ i + 1 + n = omega arith in
+    rw (e, g) (ap (λ (l : List ℕ). i ∷ l) (count-more (i + 1) n))
+
+keep-append : (p : ℕ → Bool) (xs ys : List ℕ) → keep p (xs ++ ys) ≡ keep p xs ++ keep p ys
+keep-append p [] ys = refl
+keep-append p (x ∷ xs) ys =
+    elim (p x) as (λ t. admit t x (keep p (xs ++ ys)) ≡ admit t x (keep p xs) ++ keep p ys) [
+      | true ↦ ap (λ (l : List ℕ). x ∷ l) (keep-append p xs ys)
+      | false ↦ keep-append p xs ys
+    ]
+
+below-cons : (m b : ℕ) (u : Bool) → names m b ≡ u → below m (b + 1) ≡ below m b ++ admit u b []
+unfolding below
+below-cons m b u e = let z : 0 + b ≡ b = omega arith in rw (count-more 0 b, z, keep-append, e)
+
+pub below-on : (m b : ℕ) → names m b ≡ true → below m (b + 1) ≡ below m b ++ (b ∷ [])
+below-on m b e = below-cons m b true e
+
+pub below-off : (m b : ℕ) → names m b ≡ false → below m (b + 1) ≡ below m b
+below-off m b e = below-cons m b false e ∙ append-nil (below m b)
+
+-- once none is left, all named slots are passed
+pub below-all : (m b : ℕ) → b ≤ 8 → rest m b ≡ [] → below m b ≡ slotsIn m
+unfolding below rest slotsIn
+below-all m b h e =
+    let s : count 0 8 ≡ count 0 b ++ count b (8 - b) = ap (count 0) (split-at b h) ∙ count-split 0 b (8 - b) ∙ ap (λ (k : ℕ). count 0 b ++ count k (8 - b)) (zero-left b) in
+    let p : ℕ → Bool = names m in
+    sym (append-nil (keep p (count 0 b))) ∙ ap (λ (l : List ℕ). keep p (count 0 b) ++ l) (sym e) ∙ sym (keep-append p (count 0 b) (count b (8 - b))) ∙ ap (keep p) (sym s)
+  where
+    split-at : (k : ℕ) → k ≤ 8 → 8 ≡ k + (8 - k)
+    split-at k l = omega arith
+
+    zero-left : (k : ℕ) → 0 + k ≡ k
+    zero-left k = omega arith
+
+    count-split : (i k n : ℕ) → count i (k + n) ≡ count i k ++ count (i + k) n
+    count-split i zero n = let e : 0 + n ≡ n = omega arith in let g : i + 0 ≡ i = omega arith in rw (e, g)
+    count-split i (suc k) n =
+        let e : suc k + n ≡ suc (k + n) = omega arith in
+        let g : i + suc k ≡ i + 1 + k = omega arith in
+        rw (e, g) (ap (λ (l : List ℕ). i ∷ l) (count-split (i + 1) k n))
+
+pub none-left : (l : List ℕ) → length l ≡ 0 → l ≡ []
+none-left [] e = refl
+none-left (x ∷ l) e = absurd (omega arith)
