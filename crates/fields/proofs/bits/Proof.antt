@@ -57,7 +57,7 @@ is-field c =
 cast-result-3 : tie.Need-cast-result-3
 cast-result-3 c =
     let a = c .before .before .before .before .args in
-    record { fits = rw (is-field c) (omega (arith, fieldAt-lt (a .image .now) (a .at) (a .width), pow-mono {i = a .width} {j = 16} (c .before .before .before .before .pre .0))) }
+    record { fits = omega (arith, is-field c, fieldAt-lt (a .image .now) (a .at) (a .width), pow-mono {i = a .width} {j = 16} (c .before .before .before .before .pre .0)) }
 
 returns : tie.Need-returns
 returns c = is-field c
