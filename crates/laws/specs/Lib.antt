@@ -9,3 +9,6 @@ pub mod ReadLaws
 pub mod OpenLaws
 pub mod ChoiceLaws
 pub mod RetrievalLaws
+pub mod PlaceLaws
+pub mod EntryLaws
+pub mod MarkLaws

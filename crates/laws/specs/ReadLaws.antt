@@ -1,15 +1,17 @@
 -- Laws of reading: the three answers of a field, a reading taken apart, n things one after the other.
 use mathlib.Core.Path.{_≡_, refl, sym, ap, _∙_}
-use mathlib.Core.Bool.{Bool, true, false}
+use mathlib.Core.Bool.{Bool, true, false, _&&_}
 use mathlib.Core.List.{List, [], _∷_}
 use Prim.Native.Nat.{ℕ, zero, suc, _+_, _*_, _≤_, _<_}
 use native.Mathlib.Omega.{arith}
-use borrow.Author.Tests.{ltb-false, lt-ltb, le-ltb}
-use lib.Dec.{ltb}
+use borrow.Author.Tests.{ltb-false, lt-ltb, le-ltb, leb-true}
+use lib.Dec.{ltb, leb}
 use lib.ListN.{length}
 use Rattle.meaning.specs.Base.{if_then_else_, all}
 use Rattle.meaning.specs.Bits.{fieldAt}
 use Rattle.meaning.specs.Read.{Read, Refused, Got, Reader, follow, must, judged, field, times}
+use Rattle.meaning.specs.Image.{between}
+use Rattle.laws.specs.BoolLaws.{and-left, and-right}
 
 -- ---- one field
 
@@ -59,7 +61,18 @@ pub must-kept : (n : ℕ) (t : Bool) → must (suc n) t ≡ 0 → t ≡ true
 must-kept n true e = refl
 must-kept n false e = absurd (omega arith)
 
+-- a count that was read lies between its bounds
+pub between-got : (width low high : ℕ) (s : List ℕ) (at n next : ℕ) → field width (between low high) s at ≡ Got n next → (low ≤ n) × (n ≤ high)
+between-got width low high s at n next e =
+    let k = must-kept 2 (leb low n && leb n high) (field-got width (between low high) s at n next e .kept) in
+    (leb-true low n (and-left (leb low n) (leb n high) k), leb-true n high (and-right (leb low n) (leb n high) k))
+
 -- ---- a reading taken apart
+
+-- three readings in a row, taken together either way
+pub follow-follow : {A B C : Type 0} (r : Read A) (f : A → ℕ → Read B) (g : B → ℕ → Read C) → follow (follow r f) g ≡ follow r (λ a n. follow (f a n) g)
+follow-follow (Refused x y) f g = refl
+follow-follow (Got a n) f g = refl
 
 -- A reading that went well went well at its first part, and from there on: each part's value and place are variables of their own, as in the reader's `do` block.
 pub split : {A B R : Type 0} (r : Read A) (k : A → ℕ → Read B) {b : B} {end : ℕ} → follow r k ≡ Got b end

@@ -4,3 +4,5 @@ pub mod WordLaws
 pub mod RowLaws
 pub mod LoopLaws
 pub mod FieldReads
+pub mod StateLaws
+pub mod BestLaws

@@ -58,7 +58,7 @@ map-below {A} f g p i (suc n) h =
       | false ↦ map-below f g p (i + 1) n (λ j l. h j (omega arith))
     ]
 
-map-count : {A : Type 0} (f g : ℕ → A) (i n : ℕ) → ((j : ℕ) → j < i + n → f j ≡ g j) → map f (count i n) ≡ map g (count i n)
+pub map-count : {A : Type 0} (f g : ℕ → A) (i n : ℕ) → ((j : ℕ) → j < i + n → f j ≡ g j) → map f (count i n) ≡ map g (count i n)
 map-count f g i zero h = refl
 map-count {A} f g i (suc n) h = ap₂ (λ (y : A) (r : List A). y ∷ r) (h i (omega arith)) (map-count f g (i + 1) n (λ j l. h j (omega arith)))
 

@@ -18,3 +18,7 @@ bad-within w n p m e q g = let z : _≡_ {A = ℕ} 0 1 = cc in absurd (omega ari
 
 pub next-within : (w : Walk) (p m : ℕ) → w ≡ Next p → p ≤ m → Within w m
 next-within w p m e h q g = let z : p ≡ q = cc in omega arith
+
+-- what a refusal promises of a place after it
+pub bad-never : {C : Type 0} (w : Walk) (n p : ℕ) → w ≡ Bad n p → (q : ℕ) → w ≡ Next q → C
+bad-never w n p e q g = let z : _≡_ {A = ℕ} 0 1 = cc in absurd (omega arith)

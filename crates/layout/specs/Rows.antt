@@ -1,12 +1,13 @@
 -- What stands in words. Every list of words is read as something (a buffer is below 8, a variable too),
 -- so that whoever reads words needs no fact that they are valid.
-use Prim.Native.Nat.{ℕ, zero, suc, _+_, _*_, _%_}
+use Prim.Native.Nat.{ℕ, zero, suc, _+_, _*_, _%_, _≤_, _<_}
+use mathlib.Core.Path.{_≡_}
 use mathlib.Core.List.{List, [], _∷_, map}
 use lib.Dec.{ltb, eqb}
-use lib.ListN.{getD}
-use Rattle.meaning.specs.Base.{if_then_else_, count}
+use lib.ListN.{length, getD}
+use Rattle.meaning.specs.Base.{if_then_else_, count, weigh}
 use Rattle.meaning.specs.Model.{Term, Symbol, Variable, Named, Test, Deed, Modify, Request, Clear, Action, Fact, Rule, Sizes}
-use Rattle.meaning.specs.Image.{slotsIn, utilityOf}
+use Rattle.meaning.specs.Image.{slotsIn, utilityOf, isTested}
 
 -- n things from number i on, each as `thing` reads it
 unfoldable pub rowsIn : {A : Type 0} → (ℕ → A) → ℕ → ℕ → List A
@@ -74,3 +75,16 @@ ruleIn heads words k =
 
 abbrev pub rulesIn : List ℕ → List ℕ → ℕ → List Rule
 rulesIn heads words n = rowsIn (ruleIn heads words) 0 n
+
+-- the number in which each tested buffer b has weight 2 to the power b
+abbrev pub testedMask : List Test → ℕ
+testedMask ts = weigh (map (isTested ts) (count 0 8))
+
+-- what holds of n rules that were laid out: there is room, no rule has more than eight tests or actions, and the masks are those of the tests
+pub record Laid (heads words : List ℕ) (n : ℕ) : Type 0 where
+  pub at-most : n ≤ 256
+  pub heads-room : 4 * n ≤ length heads
+  pub words-room : 176 * n ≤ length words
+  pub tests-few : (k : ℕ) → k < n → getD heads (4 * k) 0 ≤ 8
+  pub actions-few : (k : ℕ) → k < n → getD heads (4 * k + 1) 0 ≤ 8
+  pub masks : (k : ℕ) → k < n → getD heads (4 * k + 3) 0 ≡ testedMask (ruleIn heads words k .tests)

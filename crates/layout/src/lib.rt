@@ -34,15 +34,23 @@ pub fn no_row(number: u8, at: usize) -> RowRead
     }
 }
 
+// Words into words from o on.
+pub fn copy_into(words: &mut [u16], o: usize, from: &[u16])
+    requires { ⌜ o + length (now from) ≤ length (now words) ⌝ }
+    ensures { λ _. ⌜ now (words .exit) ≡ sets (now (words .entry)) o (now (from .entry)) ⌝ }
+{
+    let mut i = 0;
+    while i < from.len() {
+        words[o + i] = from[i];
+        i += 1;
+    }
+}
+
 // The eleven words of a row into words from o on.
 pub fn lay(words: &mut [u16], o: usize, row: RowRead)
     requires { ⌜ o + 11 ≤ length (now words) ⌝ }
     ensures { λ _. ⌜ now (words .exit) ≡ sets (now (words .entry)) o (row .words) ⌝ }
 {
     let xs = row.words;
-    let mut i = 0;
-    while i < 11 {
-        words[o + i] = xs[i];
-        i += 1;
-    }
+    copy_into(words, o, &xs);
 }

@@ -5,7 +5,7 @@ ghost use Rattle.meaning.specs.State.{nilAfter, zeroState};
 // One buffer: the type of its chunk, eight slot values, and the ms until it is visible.
 // (`isa` is ACT-R's own word for a chunk's type; Rattle keeps the word `type` for itself.)
 pub struct Buffer {
-    pub isa: u8,
+    pub isa: u16,
     pub slots: [u16; 8],
     pub delay: u16,
 }

@@ -5,8 +5,9 @@ ghost use Prim.Native.Nat.{_+_, _*_, _≤_, _<_};
 ghost use lib.Dec.{leb, ltb};
 ghost use lib.ListN.{length};
 ghost use Rattle.meaning.specs.Read.{field, must};
-ghost use Rattle.meaning.specs.Image.{aType};
+ghost use Rattle.meaning.specs.Image.{aType, anything};
 ghost use Rattle.layout.specs.Walks.{answer, Within};
+ghost use Rattle.ranges.specs.After.{after};
 use fields::Field;
 use layout::Walk;
 
@@ -73,5 +74,44 @@ pub fn type_at(image: &[u8], p: usize, types: &[u16], least: u16) -> Number
     Number {
         walk: Walk::Next(p + 6),
         value: k,
+    }
+}
+
+// A field as `ranged` reads it, after what was read before; a refusal before it is handed on.
+pub fn ranged_after(
+    image: &[u8],
+    walk: Walk,
+    width: usize,
+    low: u16,
+    end: u16,
+    number: u8,
+) -> Number
+    requires { ⌜ (length (now image) ≤ 65536) × Within walk (8 * length (now image)) × (width ≤ 16) × (0 < number) ⌝ }
+    ensures { λ r. ⌜ answer (r .walk) (r .value) ≡ after walk (field width (λ n. must number (leb low n && ltb n end)) (now (image .entry))) ⌝ }
+    ensures within { λ r. ⌜ Within (r .walk) (8 * length (now (image .entry))) ⌝ }
+{
+    match walk {
+        Walk::Next(p) => ranged(image, p, width, low, end, number),
+        Walk::Bad(n, p) => no_number(n, p),
+    }
+}
+
+// A field of any value, after what was read before; a refusal before it is handed on.
+pub fn any_after(image: &[u8], walk: Walk, width: usize) -> Number
+    requires { ⌜ (length (now image) ≤ 65536) × Within walk (8 * length (now image)) × (width ≤ 16) ⌝ }
+    ensures { λ r. ⌜ answer (r .walk) (r .value) ≡ after walk (field width anything (now (image .entry))) ⌝ }
+    ensures within { λ r. ⌜ Within (r .walk) (8 * length (now (image .entry))) ⌝ }
+{
+    match walk {
+        Walk::Next(p) => {
+            let Field::Value(n) = fields::field_at(image, p, width) else {
+                return no_number(2, p);
+            };
+            Number {
+                walk: Walk::Next(p + width),
+                value: n,
+            }
+        }
+        Walk::Bad(n, p) => no_number(n, p),
     }
 }

@@ -44,6 +44,10 @@ pub rest-off : (m b : ℕ) → b < 8 → names m b ≡ false → rest m b ≡ re
 unfolding rest
 rest-off m b h e = let g : 8 - b ≡ suc (8 - (b + 1)) = omega arith in rw (g, e)
 
+pub rest-end : (m b : ℕ) → 8 ≤ b → rest m b ≡ []
+unfolding rest
+rest-end m b h = let e : 8 - b ≡ 0 = omega arith in rw e
+
 -- where a named slot is left, the last one is not passed
 pub rest-some : (m b : ℕ) → 0 < length (rest m b) → b < 8
 unfolding rest

@@ -1,0 +1,2 @@
+-- Laws of the action on a buffer.
+pub mod ActLaws

@@ -1,0 +1,2 @@
+-- Where the action on a buffer stands.
+pub mod Acts

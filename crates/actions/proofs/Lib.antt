@@ -1,0 +1,2 @@
+-- Laws of actions, their rows and the loop over them.
+pub mod ActionLaws

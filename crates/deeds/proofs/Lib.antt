@@ -1,0 +1,3 @@
+-- Laws of tested buffers, kinds and deeds.
+pub mod TestedLaws
+pub mod DeedLaws

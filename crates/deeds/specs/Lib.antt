@@ -1,0 +1,2 @@
+-- What the code's answers about an action say.
+pub mod Deeds

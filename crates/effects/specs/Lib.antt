@@ -1,0 +1,2 @@
+-- What a deed makes of a buffer.
+pub mod Deeds

@@ -1,0 +1,2 @@
+-- Laws of the whole image.
+pub mod WholeLaws

@@ -1,0 +1,104 @@
+-- The match place by place: each named slot is held against those before it, and itself.
+use mathlib.Core.Path.{_≡_, refl, sym, ap, ap₂, _∙_}
+use mathlib.Core.Bool.{Bool, true, false, _&&_, _||_, or-false}
+use mathlib.Core.List.{List, [], _∷_, _++_, append-assoc}
+use Prim.Native.Nat.{ℕ}
+use borrow.Author.Tests.{eq-eqb}
+use lib.Dec.{eqb}
+use Rattle.meaning.specs.Base.{if_then_else_, all, any}
+use Rattle.meaning.specs.Model.{Term, Symbol, Variable}
+use Rattle.meaning.specs.Image.{isVariable}
+use Rattle.meaning.specs.Match.{Place, valueIn, termIn, agrees, agreed}
+
+-- variable v has a place among these
+unfoldable pub stands : List Place → ℕ → Bool
+stands ps v = any (λ p. isVariable v (p .term)) ps
+
+unfoldable pub agreedFrom : List Place → List Place → Bool
+agreedFrom before [] = true
+agreedFrom before (p ∷ ps) = agrees (before ++ (p ∷ [])) p && agreedFrom (before ++ (p ∷ [])) ps
+
+value-stands : (xs ys : List Place) (v : ℕ) → stands xs v ≡ true → valueIn (xs ++ ys) v ≡ valueIn xs v
+unfolding stands valueIn
+value-stands [] ys v e = cc
+value-stands (x ∷ xs) ys v e =
+    (elim (isVariable v (x .term)) as
+    (λ t. (t || any (λ p. isVariable v (p .term)) xs) ≡ true → (if t then x .value else valueIn (xs ++ ys) v) ≡ (if t then x .value else valueIn xs v)) [
+      | true ↦ λ h. refl
+      | false ↦ λ h. value-stands xs ys v h
+    ]) e
+
+-- the last place's own variable stands there
+stands-last : (xs : List Place) (p : Place) (v : ℕ) → isVariable v (p .term) ≡ true → stands (xs ++ (p ∷ [])) v ≡ true
+unfolding stands
+stands-last [] p v e = rw e refl
+stands-last (x ∷ xs) p v e =
+    elim (isVariable v (x .term)) as (λ t. (t || any (λ p. isVariable v (p .term)) (xs ++ (p ∷ []))) ≡ true) [ true ↦ refl | false ↦ stands-last xs p v e ]
+
+self : (v : ℕ) → eqb v v ≡ true
+self v = eq-eqb v v refl
+
+term-last : (before : List Place) (p : Place) (ps : List Place) (t : Term) → p .term ≡ t → termIn (before ++ (p ∷ []) ++ ps) t ≡ termIn (before ++ (p ∷ [])) t
+term-last before p ps (Symbol x) e = refl
+term-last before p ps (Variable v) e = value-stands (before ++ (p ∷ [])) ps v (stands-last before p v (rw e (self v)))
+
+agreed-from : (before ps : List Place) → all (agrees (before ++ ps)) ps ≡ agreedFrom before ps
+unfolding agreedFrom
+agreed-from before [] = refl
+agreed-from before (p ∷ ps) =
+    let e : before ++ (p ∷ ps) ≡ before ++ (p ∷ []) ++ ps = sym (append-assoc before (p ∷ []) ps) in
+    rw e (ap₂ (λ (x y : Bool). x && y) (ap (eqb (p .value)) (term-last before p ps (p .term) refl)) (agreed-from (before ++ (p ∷ [])) ps))
+
+pub agreed-walk : (ps : List Place) → agreed ps ≡ agreedFrom [] ps
+agreed-walk ps = agreed-from [] ps
+
+-- ---- one place more, for code that keeps which variables were seen and their values
+
+pub stands-more : (before : List Place) (p : Place) (w : ℕ) → stands (before ++ (p ∷ [])) w ≡ (stands before w || isVariable w (p .term))
+unfolding stands
+stands-more [] p w = or-false (isVariable w (p .term))
+stands-more (x ∷ xs) p w =
+    elim (isVariable w (x .term)) as (λ t. (t || any (λ p. isVariable w (p .term)) (xs ++ (p ∷ []))) ≡ (t || any (λ p. isVariable w (p .term)) xs || isVariable w (p .term))) [
+      | true ↦ refl
+      | false ↦ stands-more xs p w
+    ]
+
+value-absent : (xs ys : List Place) (w : ℕ) → stands xs w ≡ false → valueIn (xs ++ ys) w ≡ valueIn ys w
+unfolding stands valueIn
+value-absent [] ys w e = refl
+value-absent (x ∷ xs) ys w e =
+    (elim (isVariable w (x .term)) as
+    (λ t. (t || any (λ p. isVariable w (p .term)) xs) ≡ false → (if t then x .value else valueIn (xs ++ ys) w) ≡ valueIn ys w) [
+      | true ↦ λ h. cc
+      | false ↦ λ h. value-absent xs ys w h
+    ]) e
+
+-- a variable that was seen keeps its value; one that was not has the new place's, or none
+pub value-seen : (before : List Place) (p : Place) (w : ℕ) → stands before w ≡ true → valueIn (before ++ (p ∷ [])) w ≡ valueIn before w
+value-seen before p w e = value-stands before (p ∷ []) w e
+
+pub value-new : (before : List Place) (p : Place) (w : ℕ) → stands before w ≡ false → valueIn (before ++ (p ∷ [])) w ≡ (if isVariable w (p .term) then p .value else 0)
+unfolding valueIn
+value-new before p w e = value-absent before (p ∷ []) w e
+
+-- another place changes no variable but its own
+pub value-other : (before : List Place) (p : Place) (w : ℕ) → isVariable w (p .term) ≡ false → valueIn (before ++ (p ∷ [])) w ≡ valueIn before w
+unfolding valueIn
+value-other [] p w e = rw e refl
+value-other (x ∷ xs) p w e =
+    elim (isVariable w (x .term)) as (λ t. (if t then x .value else valueIn (xs ++ (p ∷ [])) w) ≡ (if t then x .value else valueIn xs w)) [
+      | true ↦ refl
+      | false ↦ value-other xs p w e
+    ]
+
+-- what a place is held against, by its term
+pub agrees-symbol : (before : List Place) (x value : ℕ) → let p : Place = record { term = Symbol x; value = value } in agrees (before ++ (p ∷ [])) p ≡ eqb value x
+agrees-symbol before x value = refl
+
+pub agrees-seen : (before : List Place) (v value : ℕ) → stands before v ≡ true
+    → let p : Place = record { term = Variable v; value = value } in agrees (before ++ (p ∷ [])) p ≡ eqb value (valueIn before v)
+agrees-seen before v value e = rw (value-seen before (record { term = Variable v; value = value }) v e) refl
+
+pub agrees-new : (before : List Place) (v value : ℕ) → stands before v ≡ false
+    → let p : Place = record { term = Variable v; value = value } in agrees (before ++ (p ∷ [])) p ≡ true
+agrees-new before v value e = rw (value-new before (record { term = Variable v; value = value }) v e, self v) (self value)

@@ -1,0 +1,5 @@
+-- Laws of the match.
+pub mod TestLaws
+pub mod WordMatch
+pub mod Link
+pub mod Agree

@@ -1,0 +1,2 @@
+-- Laws of readings one after the other.
+pub mod AfterLaws

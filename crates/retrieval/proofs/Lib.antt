@@ -1,0 +1,3 @@
+-- Laws of the retrieval.
+pub mod FitLaws
+pub mod TurnLaws

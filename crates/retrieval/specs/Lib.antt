@@ -1,0 +1,2 @@
+-- What the number of a fact stands for.
+pub mod Found

@@ -1,0 +1,4 @@
+-- Laws of the reading of rules.
+pub mod HeadLaws
+pub mod RuleLaws
+pub mod RowsOfRules

@@ -1,0 +1,2 @@
+-- What the masks of the code hold.
+pub mod Masks

@@ -1,0 +1,87 @@
+-- Laws of a buffer laid into its ten words.
+use Prim.Native.Nat.{ℕ, suc, _+_, _*_, _≤_, _<_}
+use mathlib.Core.Path.{_≡_, sym, ap, ap₂, _∙_}
+use mathlib.Core.List.{List, [], _∷_, _++_, map}
+use native.Mathlib.Omega.{arith}
+use native.Mathlib.Numerals.{add-one}
+use lib.ListN.{length, getD, set, take, length-append, length-map, List·getD-append}
+use lib.Seq.{sets, take-suc, ext-getD, getD-at, take-all}
+use Rattle.meaning.specs.declared.Buffer.{Buffer}
+use Rattle.meaning.specs.State.{nothing}
+use Rattle.layout.specs.Rows.{rowsIn}
+use Rattle.layout.specs.StateWords.{bufferIn, buffersIn}
+use Rattle.layout.proofs.WordLaws.{sets-at, sets-take, below-get}
+use Rattle.layout.proofs.RowLaws.{rows-more, rows-same, rows-get, rows-length}
+use Rattle.layout.proofs.StateLaws.{buffer-like}
+
+-- one word more after others
+pub sets-last : (w : List ℕ) (q : ℕ) (xs : List ℕ) (y : ℕ) → set (sets w q xs) (q + length xs) y ≡ sets w q (xs ++ (y ∷ []))
+sets-last w q [] y = let e : q + 0 ≡ q = omega arith in rw e
+sets-last w q (x ∷ xs) y = let e : q + suc (length xs) ≡ suc q + length xs = omega arith in rw e (sets-last (set w q x) (suc q) xs y)
+
+-- a list is its elements in a row
+pub rows-list : (n : ℕ) (l : List ℕ) → length l ≡ n → rowsIn (λ j. getD l j 0) 0 n ≡ l
+rows-list n l e =
+    let m : length (rowsIn (λ j. getD l j 0) 0 n) ≡ n = rows-length (λ j. getD l j 0) 0 n in
+    ext-getD 0 (rowsIn (λ j. getD l j 0) 0 n) l (m ∙ sym e) (λ i h.
+    let z : 0 + i ≡ i = omega arith in
+    rows-get (λ j. getD l j 0) 0 n i 0 (omega arith) ∙ ap (λ (j : ℕ). getD l j 0) z)
+
+-- type, eight slots, delay
+abbrev pub bufferWords : Buffer → List ℕ
+bufferWords b = b .isa ∷ b .slots ++ (b .delay ∷ [])
+
+-- what was laid is read back
+module _ (w : List ℕ) (k : ℕ) (b : Buffer) (e : length (b .slots) ≡ 8) (h : 10 * k + 10 ≤ length w) where
+  word-laid : (j : ℕ) → j < 10 → getD (sets w (10 * k) (bufferWords b)) (10 * k + j) 0 ≡ getD (bufferWords b) j 0
+  word-laid j l =
+      let ten : length (b .slots ++ (b .delay ∷ [])) ≡ 9 = omega (arith, length-append (b .slots) (b .delay ∷ [])) in
+      sets-at w (10 * k) (bufferWords b) j (omega arith) (omega arith)
+
+  slots-laid : bufferIn (sets w (10 * k) (bufferWords b)) k .slots ≡ b .slots
+  slots-laid =
+      let w′ : List ℕ = sets w (10 * k) (bufferWords b) in
+      rows-same (λ j. getD w′ (10 * k + 1 + j) 0) (λ j. getD (b .slots) j 0) 0 8 (λ j x y.
+      let g : 10 * k + 1 + j ≡ 10 * k + suc j = omega arith in
+      ap (λ (n : ℕ). getD w′ n 0) g ∙ word-laid (suc j) (omega arith) ∙ List·getD-append (b .slots) (b .delay ∷ []) 0 j (omega arith))
+      ∙ rows-list 8 (b .slots) e
+
+  pub buffer-laid : bufferIn (sets w (10 * k) (bufferWords b)) k ≡ b
+  buffer-laid =
+      let w′ : List ℕ = sets w (10 * k) (bufferWords b) in
+      let z : 10 * k ≡ 10 * k + 0 = omega arith in
+      let first : getD w′ (10 * k) 0 ≡ b .isa = ap (λ (n : ℕ). getD w′ n 0) z ∙ word-laid 0 (omega arith) in
+      let last : getD w′ (10 * k + 9) 0 ≡ b .delay = word-laid 9 (omega arith) ∙ getD-at (b .slots) (b .delay) [] 0 8 e in
+      ap₂ (λ (x y : ℕ). record { isa = x; slots = bufferIn w′ k .slots; delay = y }) first last
+      ∙ ap (λ (l : List ℕ). record { isa = b .isa; slots = l; delay = b .delay }) slots-laid
+
+-- the type first, then the slots, then the delay
+pub lay-done : (w w′ : List ℕ) (k : ℕ) (b : Buffer) → length (b .slots) ≡ 8 → 10 * k + 10 ≤ length w → w′ ≡ sets (set w (10 * k) (b .isa)) (10 * k + 1) (b .slots)
+    → (bufferIn (set w′ (10 * k + 9) (b .delay)) k ≡ b) × (take (10 * k) (set w′ (10 * k + 9) (b .delay)) ≡ take (10 * k) w)
+lay-done w w′ k b e h laid =
+    let n : 10 * k + 9 ≡ 10 * k + 1 + length (b .slots) = omega arith in
+    let whole : set w′ (10 * k + 9) (b .delay) ≡ sets w (10 * k) (bufferWords b) =
+    ap₂ (λ (l : List ℕ) (j : ℕ). set l j (b .delay)) laid n
+    ∙ sets-last (set w (10 * k) (b .isa)) (10 * k + 1) (b .slots) (b .delay)
+    ∙ ap (λ (j : ℕ). sets (set w (10 * k) (b .isa)) j (b .slots ++ (b .delay ∷ []))) (add-one (10 * k)) in
+    (ap (λ (l : List ℕ). bufferIn l k) whole ∙ buffer-laid w k b e h, ap (take (10 * k)) whole ∙ sets-take (10 * k) w (10 * k) (bufferWords b) (omega arith))
+
+-- the length of an array of structs is known of what its structs are mapped to
+pub length-mapped : (A B : Type 0) (f : A → B) (l : List A) (n : ℕ) → length (map f l) ≡ n → length l ≡ n
+length-mapped A B f l n e = sym (length-map l f) ∙ e
+
+-- one buffer more, in a loop over the buffers of a state
+pub lay-more : (w w′ : List ℕ) (k : ℕ) (bs : List Buffer) → k < length bs → rowsIn (bufferIn w) 0 k ≡ take k bs
+    → bufferIn w′ k ≡ getD bs k nothing → take (10 * k) w′ ≡ take (10 * k) w → rowsIn (bufferIn w′) 0 (k + 1) ≡ take (k + 1) bs
+lay-more w w′ k bs h before made kept =
+    let z : 0 + k ≡ k = omega arith in
+    rows-more (bufferIn w′) 0 k
+    ∙ ap₂ (λ (l : List Buffer) (x : Buffer). l ++ (x ∷ []))
+    (rows-same (bufferIn w′) (bufferIn w) 0 k (λ i a b. buffer-like w′ w i (λ j l. below-get (10 * k) w w′ kept (10 * i + j) (omega arith))) ∙ before)
+    (ap (bufferIn w′) z ∙ made)
+    ∙ sym (take-suc bs k nothing h)
+    ∙ ap (λ (n : ℕ). take n bs) (sym (add-one k))
+
+-- the buffers of a state are eight
+pub lay-end : (w : List ℕ) (k : ℕ) (bs : List Buffer) → k ≡ 8 → length bs ≡ 8 → rowsIn (bufferIn w) 0 k ≡ take k bs → buffersIn w ≡ bs
+lay-end w k bs z e laid = sym (ap (rowsIn (bufferIn w) 0) z) ∙ laid ∙ take-all k bs (omega arith)

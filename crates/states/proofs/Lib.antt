@@ -1,0 +1,4 @@
+-- Laws of a state laid into words and judged there.
+pub mod LayLaws
+pub mod AllLaws
+pub mod WellLaws

@@ -1,0 +1,2 @@
+-- Laws of a step.
+pub mod StepLaws

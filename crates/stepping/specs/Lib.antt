@@ -1,0 +1,2 @@
+-- What a step's answer stands for.
+pub mod Done

@@ -1,0 +1,2 @@
+-- Laws of the loops over the table's entries.
+pub mod TableLaws

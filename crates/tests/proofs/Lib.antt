@@ -1,0 +1,2 @@
+-- Laws of a test, read field by field.
+pub mod TestLaws
