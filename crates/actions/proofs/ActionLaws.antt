@@ -1,39 +1,29 @@
 -- One action: its buffer, and then its kind and deed; the row of an action says that action; the loop that lays out a rule's actions.
-use Prim.Native.Nat.{ℕ, suc, _+_, _*_, _%_, _≤_, _<_}
+use Prim.Native.Nat.{ℕ, _+_, _*_, _%_, _≤_, _<_}
 use mathlib.Core.Path.{_≡_, refl, sym, ap, ap₂, _∙_}
-use mathlib.Core.List.{List, [], _∷_, map}
+use mathlib.Core.List.{List, _∷_}
 use native.Mathlib.Omega.{arith}
 use lib.ListN.{length, getD, take}
 use lib.Seq.{sets}
 use Rattle.meaning.specs.Model.{Test, Named, Deed, Action, Sizes}
 use Rattle.meaning.specs.Read.{Read, Refused, Got, follow, field}
-use Rattle.meaning.specs.Image.{aBuffer, aKind, deed, action, actions, slotsIn}
-use Rattle.laws.specs.ReadLaws.{FieldRead, field-got}
+use Rattle.meaning.specs.Image.{aBuffer, aKind, deed, action, actions}
+use Rattle.laws.specs.ReadLaws.{FieldRead, field-got, follow-follow}
 use Rattle.laws.specs.FieldLaws.{fieldAt-lt}
 use Rattle.layout.specs.declared.Walk.{Walk}
 use Rattle.layout.specs.declared.Walk.the-variants.{Next, Bad}
 use Rattle.layout.specs.Walks.{answer}
-use Rattle.layout.specs.Rows.{rowsIn, wordTerm, namedAt, namedBy, namedIn, maskedIn, deedOf, testIn, actionIn, testsIn, actionsIn}
+use Rattle.layout.specs.Rows.{rowsIn, namedBy, deedOf, testIn, actionIn, testsIn, actionsIn}
 use Rattle.layout.proofs.WalkLaws.{answer-bad, answer-next}
 use Rattle.layout.proofs.WordLaws.{below-get}
-use Rattle.layout.proofs.RowLaws.{in-same, in-more, test-like, action-like}
+use Rattle.layout.proofs.RowLaws.{masked-row, in-same, in-more, test-like, action-like}
 use Rattle.layout.proofs.LoopLaws.{onward, onward-start, onward-end, onward-bad, onward-turn}
 use Rattle.deeds.specs.Deeds.{kindAndDeed, acts}
 
 -- ---- a row
 
-map-same : {A B : Type 0} (f g : A → B) → ((x : A) → f x ≡ g x) → (l : List A) → map f l ≡ map g l
-map-same f g h [] = refl
-map-same {A} {B} f g h (x ∷ l) = ap₂ (λ (y : B) (r : List B). y ∷ r) (h x) (map-same f g h l)
-
--- the mask and the terms of a row that stands by itself
-pub row-masked : (x y m : ℕ) (xs : List ℕ) → maskedIn (x ∷ y ∷ m ∷ xs) 0 ≡ namedBy m xs
-row-masked x y m xs =
-    map-same (namedIn (x ∷ y ∷ m ∷ xs) 0) (namedAt xs)
-    (λ j. let g : 0 + 3 + j ≡ suc (suc (suc j)) = omega arith in ap (λ (n : ℕ). record { slot = j; term = wordTerm (getD (x ∷ y ∷ m ∷ xs) n 0) }) g) (slotsIn m)
-
 pub row-acts : (b d m : ℕ) (xs : List ℕ) → b < 8 → actionIn (b ∷ d ∷ m ∷ xs) 0 ≡ acts b (deedOf d (namedBy m xs))
-row-acts b d m xs h = let e : b % 8 ≡ b = omega arith in ap₂ (λ (x : ℕ) (l : List Named). acts x (deedOf d l)) e (row-masked b d m xs)
+row-acts b d m xs h = let e : b % 8 ≡ b = omega arith in ap₂ (λ (x : ℕ) (l : List Named). acts x (deedOf d l)) e (masked-row b d m xs)
 
 -- ---- an action
 
@@ -42,10 +32,6 @@ pub buffer-small : (rule : ℕ → ℕ) (s : List ℕ) (p : ℕ) (v : Walk) (b q
 buffer-small rule s p v b q e h =
     let f : FieldRead 3 rule s p b q = field-got 3 rule s p b q (sym e ∙ answer-next v b q h) in
     omega (arith, f .is, fieldAt-lt s p 3)
-
-follow-then : {A B C : Type 0} (r : Read A) (k : A → ℕ → Read B) (g : B → ℕ → Read C) → follow (follow r k) g ≡ follow r (λ a n. follow (k a n) g)
-follow-then (Refused x y) k g = refl
-follow-then (Got a n) k g = refl
 
 module _ (z : Sizes) (variables : ℕ) (ts : List Test) (least : ℕ) (s : List ℕ) (p : ℕ) (v : Walk) (b : ℕ) (e : answer v b ≡ field 3 (aBuffer (z .buffers) least) s p) where
   pub action-bad : (x y : ℕ) → v ≡ Bad x y → Refused x y ≡ action z variables ts least s p
@@ -57,7 +43,7 @@ module _ (z : Sizes) (variables : ℕ) (ts : List Test) (least : ℕ) (s : List 
   action-on q h w d g =
       rw (← e, h)
       (go w ∙ ap (λ (r : Read Deed). follow r (λ d n. Got (acts b d) n)) g
-      ∙ follow-then (field 2 (aKind ts b) s q) (λ kind n. deed z variables ts b kind s n) (λ d n. Got (acts b d) n))
+      ∙ follow-follow (field 2 (aKind ts b) s q) (λ kind n. deed z variables ts b kind s n) (λ d n. Got (acts b d) n))
     where
       go : (w : Walk) → answer w (acts b d) ≡ follow (answer w d) (λ d n. Got (acts b d) n)
       go (Next n) = refl

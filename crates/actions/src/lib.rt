@@ -19,22 +19,7 @@ fn row(b: u16, d: DeedRead) -> RowRead
     let word = d.deed;
     let m = d.mask;
     let xs = d.slots;
-    RowRead {
-        walk: w,
-        words: [
-            b,
-            word,
-            m,
-            xs[0],
-            xs[1],
-            xs[2],
-            xs[3],
-            xs[4],
-            xs[5],
-            xs[6],
-            xs[7],
-        ],
-    }
+    layout::row(w, b, word, m, xs)
 }
 
 // One action: a buffer below the count and not below `least`, a kind, and what the kind asks. The rule's n tests stand in words from o on.

@@ -77,22 +77,7 @@ fn row(walk: Walk, c: ChunkRead, activation: u16, latency: u16) -> RowRead
     ensures { λ r. ⌜ (r .walk ≡ walk) × (factIn (r .words) 0 ≡ aFact (aChunk (c .isa) (c .slots)) activation latency) ⌝ }
 {
     let xs = c.slots;
-    RowRead {
-        walk: walk,
-        words: [
-            c.isa,
-            activation,
-            latency,
-            xs[0],
-            xs[1],
-            xs[2],
-            xs[3],
-            xs[4],
-            xs[5],
-            xs[6],
-            xs[7],
-        ],
-    }
+    layout::row(walk, c.isa, activation, latency, xs)
 }
 
 // A fact: a chunk of a declared type, its activation and its latency.

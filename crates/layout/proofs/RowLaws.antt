@@ -1,6 +1,6 @@
 -- Laws of rows in words: one more, the same words say the same thing wherever they stand, what stands below a place is kept.
 use Prim.Native.Nat.{ℕ, zero, suc, _+_, _-_, _*_, _%_, _≤_, _<_}
-use mathlib.Core.Path.{_≡_, refl, sym, ap, ap₂, _∙_}
+use mathlib.Core.Path.{_≡_, refl, sym, ap, ap₂, _∙_, fun-ext}
 use mathlib.Core.Bool.{Bool, true, false}
 use mathlib.Core.List.{List, [], _∷_, _++_, map}
 use native.Mathlib.Omega.{arith}
@@ -94,6 +94,12 @@ module _ (w w′ : List ℕ) (o o′ : ℕ) (h : Alike w o w′ o′) where
   action-like =
       ap₂ (λ (x : ℕ) (k : ℕ). record { buffer = x % 8; deed = deedOf k (maskedIn w o) }) first-like (h 1 (omega arith))
       ∙ ap (λ (l : List Named). record { buffer = getD w′ o′ 0 % 8; deed = deedOf (getD w′ (o′ + 1) 0) l }) masked-like
+
+-- the mask and the terms of a row that stands by itself
+pub masked-row : (x y m : ℕ) (xs : List ℕ) → maskedIn (x ∷ y ∷ m ∷ xs) 0 ≡ namedBy m xs
+masked-row x y m xs =
+    let at : (j : ℕ) → namedIn (x ∷ y ∷ m ∷ xs) 0 j ≡ namedAt xs j = λ j. let g : 0 + 3 + j ≡ suc (suc (suc j)) = omega arith in ap (λ (n : ℕ). record { slot = j; term = wordTerm (getD (x ∷ y ∷ m ∷ xs) n 0) }) g in
+    ap (λ (f : ℕ → Named). map f (slotsIn m)) (fun-ext at)
 
 -- a row that was just written says what it says by itself
 pub written-like : (w : List ℕ) (q : ℕ) (ws : List ℕ) → length ws ≡ 11 → q + 11 ≤ length w → Alike (sets w q ws) q ws 0

@@ -2,6 +2,7 @@
 // A fact: type, activation, latency, eight slot values. A test: buffer, type, mask, eight terms at their slots.
 // An action: buffer, deed, mask, eight terms at their slots; the deed is 0 to modify, a type to request, 64 to clear.
 ghost use mathlib.Core.Path.{_≡_};
+ghost use mathlib.Core.List.{_∷_};
 ghost use Prim.Native.Nat.{_+_, _≤_};
 ghost use lib.ListN.{length};
 ghost use lib.Seq.{sets};
@@ -31,6 +32,28 @@ pub fn no_row(number: u8, at: usize) -> RowRead
     RowRead {
         walk: Walk::Bad(number, at),
         words: [0; 11],
+    }
+}
+
+// A row of three words and eight, read so far.
+pub fn row(walk: Walk, first: u16, second: u16, third: u16, eight: [u16; 8]) -> RowRead
+    ensures { λ r. ⌜ (r .walk ≡ walk) × (r .words ≡ first ∷ second ∷ third ∷ eight) ⌝ }
+{
+    RowRead {
+        walk: walk,
+        words: [
+            first,
+            second,
+            third,
+            eight[0],
+            eight[1],
+            eight[2],
+            eight[3],
+            eight[4],
+            eight[5],
+            eight[6],
+            eight[7],
+        ],
     }
 }
 

@@ -1,22 +1,22 @@
 -- A test, field by field, by what the code fetched; and the row that says it.
-use Prim.Native.Nat.{ℕ, suc, _+_, _%_, _<_}
-use mathlib.Core.Path.{_≡_, sym, ap, ap₂, fun-ext}
+use Prim.Native.Nat.{ℕ, suc, _%_, _<_}
+use mathlib.Core.Path.{_≡_, sym, ap, ap₂}
 use mathlib.Core.Bool.{_&&_}
-use mathlib.Core.List.{List, _∷_, map}
+use mathlib.Core.List.{List, _∷_}
 use native.Mathlib.Omega.{arith}
-use lib.ListN.{getD}
 use lib.Dec.{leb, ltb}
 use borrow.Author.Tests.{ltb-true}
 use Rattle.meaning.specs.Model.{Named, Test}
 use Rattle.meaning.specs.State.{slotCount}
 use Rattle.meaning.specs.Read.{Refused, Got, field, must}
-use Rattle.meaning.specs.Image.{aBuffer, aType, slotsIn, masked, test}
+use Rattle.meaning.specs.Image.{aBuffer, aType, masked, test}
 use Rattle.laws.specs.BoolLaws.{and-right}
 use Rattle.laws.specs.ReadLaws.{FieldRead, field-got, must-kept}
 use Rattle.layout.specs.declared.Walk.{Walk}
 use Rattle.layout.specs.declared.Walk.the-variants.{Next, Bad}
 use Rattle.layout.specs.Walks.{answer}
-use Rattle.layout.specs.Rows.{sizes, wordTerm, namedAt, namedBy, namedIn, maskedIn, testIn}
+use Rattle.layout.specs.Rows.{sizes, namedBy, testIn}
+use Rattle.layout.proofs.RowLaws.{masked-row}
 
 -- a field that was read in a range is below its end
 pub range-below : (w number low end : ℕ) (s : List ℕ) (p n q : ℕ) → Got n q ≡ field w (λ n. must (suc number) (leb low n && ltb n end)) s p → n < end
@@ -46,11 +46,6 @@ module _ (buffers : ℕ) (types : List ℕ) (variables least : ℕ) (s : List �
     test-on k o e₂ (Bad x y) ns e = rw (← e₁, ← e₂, ← e)
 
 -- ---- the row of a test says that test
-
-pub masked-row : (b k m : ℕ) (xs : List ℕ) → maskedIn (b ∷ k ∷ m ∷ xs) 0 ≡ namedBy m xs
-masked-row b k m xs =
-    let at : (j : ℕ) → namedIn (b ∷ k ∷ m ∷ xs) 0 j ≡ namedAt xs j = λ j. let g : 0 + 3 + j ≡ suc (suc (suc j)) = omega arith in ap (λ (n : ℕ). record { slot = j; term = wordTerm (getD (b ∷ k ∷ m ∷ xs) n 0) }) g in
-    ap (λ (f : ℕ → Named). map f (slotsIn m)) (fun-ext at)
 
 pub test-row : (b k m : ℕ) (xs : List ℕ) → b < 8 → testIn (b ∷ k ∷ m ∷ xs) 0 ≡ aTest b k (namedBy m xs)
 test-row b k m xs h = let e : b % 8 ≡ b = omega arith in ap₂ (λ (x : ℕ) (l : List Named). aTest x k l) e (masked-row b k m xs)

@@ -34,22 +34,7 @@ fn test(image: &[u8], p: usize, buffers: u16, types: &[u16], variables: u16, lea
     let named = terms::masked(image, o, types[k], variables);
     let w = named.walk;
     let xs = named.slots;
-    RowRead {
-        walk: w,
-        words: [
-            buffer.value,
-            isa.value,
-            named.mask,
-            xs[0],
-            xs[1],
-            xs[2],
-            xs[3],
-            xs[4],
-            xs[5],
-            xs[6],
-            xs[7],
-        ],
-    }
+    layout::row(w, buffer.value, isa.value, named.mask, xs)
 }
 
 // n tests into words, a row each, from o on; the buffers rise.

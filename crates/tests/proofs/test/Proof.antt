@@ -1,14 +1,14 @@
 -- `tests::test` meets its contract: buffer, type, mask with terms, each read from where the one before ends.
-use Prim.Native.Nat.{ℕ, _<_}
-use mathlib.Core.Path.{_≡_, sym, ap, _∙_}
-use mathlib.Core.List.{List, _∷_}
+use Prim.Native.Nat.{ℕ, _*_, _<_}
+use mathlib.Core.Path.{_≡_, sym, ap, ap₂, subst, _∙_}
+use mathlib.Core.List.{List}
 use native.Mathlib.Omega.{arith}
 use lib.ListN.{length}
 use Rattle.meaning.specs.Model.{Test}
-use Rattle.layout.specs.Walks.{answer}
+use Rattle.layout.specs.declared.Walk.{Walk}
+use Rattle.layout.specs.Walks.{answer, Within}
 use Rattle.layout.specs.Rows.{namedBy, testIn}
 use Rattle.layout.proofs.WalkLaws.{answer-bad, answer-next, bad-within}
-use Rattle.layout.proofs.WordLaws.{listed}
 use Rattle.tests.proofs.TestLaws.{range-below, test-first, test-second, test-on, test-row}
 use borrow.Author.Needs.{needs}
 use Rattle.tests.proofs.test.Statement.{statement}
@@ -68,43 +68,21 @@ shared-slice-read-masked c =
 masked-requires : tie.Need-masked-requires
 masked-requires c κs = (search needs, c .before .before .before .before .before .type-at .ensures .1 _ (c .before .before .before .after-type .given .1), search needs)
 
-array-read-t27 : tie.Need-array-read-t27
-array-read-t27 c = search needs
-
-array-read-t32 : tie.Need-array-read-t32
-array-read-t32 c = search needs
-
-array-read-t35 : tie.Need-array-read-t35
-array-read-t35 c = search needs
-
-array-read-t38 : tie.Need-array-read-t38
-array-read-t38 c = search needs
-
-array-read-t41 : tie.Need-array-read-t41
-array-read-t41 c = search needs
-
-array-read-t44 : tie.Need-array-read-t44
-array-read-t44 c = search needs
-
-array-read-t47 : tie.Need-array-read-t47
-array-read-t47 c = search needs
-
-array-read-t50 : tie.Need-array-read-t50
-array-read-t50 c = search needs
+row-requires : tie.Need-row-requires
+row-requires c κs = search needs
 
 returns-3 : tie.Need-returns-3
 returns-3 c =
-    let a = c .before .before .before .before .before .before .before .before .before .before .before .before .before .before .args in
-    let e₁ = sym (answer-next _ (c .before .before .before .before .before .before .before .before .before .before .before .ranged .result .value) _ (c .before .before .before .before .before .before .before .before .before .after-buffer .given .1)) ∙ c .before .before .before .before .before .before .before .before .before .before .before .ranged .ensures .0 in
-    let e₂ = sym (answer-next _ (c .before .before .before .before .before .before .before .type-at .result .value) _ (c .before .before .before .before .before .after-type .given .1)) ∙ c .before .before .before .before .before .before .before .type-at .ensures .0 in
-    let b = c .before .before .before .before .before .before .before .before .before .before .before .ranged .result .value in
-    let k = c .before .before .before .before .before .before .before .type-at .result .value in
-    let r = c .before .masked .result in
-    let n : length (r .slots) ≡ 8 = search needs in
-    let h : b < 8 = omega (arith, range-below 3 2 (a .least) (a .buffers) (a .image .now) (a .p) _ _ e₁, c .before .before .before .before .before .before .before .before .before .before .before .before .before .before .pre .2) in (
-      ap (λ (l : List ℕ). answer (r .walk) (testIn (b ∷ k ∷ r .mask ∷ l) 0)) (listed 8 (r .slots) n) ∙ ap (λ (t : Test). answer (r .walk) t) (test-row b k (r .mask) (r .slots) h)
-          ∙ test-on (a .buffers) (a .types .now) (a .variables) (a .least) (a .image .now) (a .p) b _ e₁ k _ e₂ (r .walk) (namedBy (r .mask) (r .slots)) (c .before .masked .ensures .0),
-      c .before .masked .ensures .1,
+    let a = c .before .before .before .before .before .before .before .before .before .before .before .before .before .before .before .args in
+    let e₁ = sym (answer-next _ (c .before .before .before .before .before .before .before .before .before .before .before .before .ranged .result .value) _ (c .before .before .before .before .before .before .before .before .before .before .after-buffer .given .1)) ∙ c .before .before .before .before .before .before .before .before .before .before .before .before .ranged .ensures .0 in
+    let e₂ = sym (answer-next _ (c .before .before .before .before .before .before .before .before .type-at .result .value) _ (c .before .before .before .before .before .before .after-type .given .1)) ∙ c .before .before .before .before .before .before .before .before .type-at .ensures .0 in
+    let b = c .before .before .before .before .before .before .before .before .before .before .before .before .ranged .result .value in
+    let k = c .before .before .before .before .before .before .before .before .type-at .result .value in
+    let r = c .before .before .masked .result in
+    let h : b < 8 = omega (arith, range-below 3 2 (a .least) (a .buffers) (a .image .now) (a .p) _ _ e₁, c .before .before .before .before .before .before .before .before .before .before .before .before .before .before .before .pre .2) in (
+      ap₂ (λ (w : Walk) (l : List ℕ). answer w (testIn l 0)) (c .row .ensures .0) (c .row .ensures .1) ∙ ap (λ (t : Test). answer (r .walk) t) (test-row b k (r .mask) (r .slots) h)
+          ∙ test-on (a .buffers) (a .types .now) (a .variables) (a .least) (a .image .now) (a .p) b _ e₁ k _ e₂ (r .walk) (namedBy (r .mask) (r .slots)) (c .before .before .masked .ensures .0),
+      subst (λ (w : Walk). Within w (8 * length (a .image .now))) (sym (c .row .ensures .0)) (c .before .before .masked .ensures .1),
     )
 
 pub test-spec : {M : Type 1} → statement M
@@ -125,12 +103,5 @@ test-spec =
     mul-masked
     shared-slice-read-masked
     masked-requires
-    array-read-t27
-    array-read-t32
-    array-read-t35
-    array-read-t38
-    array-read-t41
-    array-read-t44
-    array-read-t47
-    array-read-t50
+    row-requires
     returns-3)
