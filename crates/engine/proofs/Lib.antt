@@ -1,3 +1,2 @@
--- Laws of the calls.
-pub mod CallLaws
-pub mod RunLaws
+-- Laws of the table's length.
+pub mod LengthLaws

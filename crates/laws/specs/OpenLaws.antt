@@ -43,7 +43,7 @@ made-well types k vs h small l =
     rw (h, t, z) (all-zeros (8 - length vs))
 
 -- a chunk of a decoded image makes a well-formed buffer
-chunk-well : (types : List ℕ) (least : ℕ) (image : List ℕ) (at : ℕ) (c : Chunk) (end : ℕ) → chunk types least image at ≡ Got c end → wellBuffer types (opens c) ≡ true
+pub chunk-well : (types : List ℕ) (least : ℕ) (image : List ℕ) (at : ℕ) (c : Chunk) (end : ℕ) → chunk types least image at ≡ Got c end → wellBuffer types (opens c) ≡ true
 unfolding chunk
 chunk-well types least image at c end e =
     split (field 6 (aType types least) image at) _ e λ k n₁ e₁ k₁.
@@ -53,7 +53,7 @@ chunk-well types least image at c end e =
     let v : (all (λ v. leb v 4095) vs ≡ true) × (length vs ≡ slotCount types k) = times-all (field 12 anything) (λ v. leb v 4095) symbol (slotCount types k) image n₁ vs n₂ e₂ in
     rw (← q) (made-well types k vs (and-right (leb least k) (ltb k (length types)) (must-kept 2 _ r)) (v .0) (v .1))
 
-nil-well : (counts : List ℕ) → wellBuffer (0 ∷ counts) (nilAfter 0) ≡ true
+pub nil-well : (counts : List ℕ) → wellBuffer (0 ∷ counts) (nilAfter 0) ≡ true
 nil-well counts = rw (lt-ltb 0 (suc (length counts)) (omega arith)) refl
 
 open-made : (m : Model) (counts : List ℕ) → m .types ≡ 0 ∷ counts → all (λ c. wellBuffer (m .types) (opens c)) (m .opening) ≡ true → length (m .opening) ≡ m .buffers

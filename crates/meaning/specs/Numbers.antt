@@ -13,7 +13,7 @@ too-long = 1
 abbrev pub not-there : ℕ
 not-there = 2
 
--- "a field breaks its rule above". What the rule is about is named apart: request 2026-03 gives these four numbers of their own.
+-- "a field breaks its rule above". What the rule is about is named apart, so that finer numbers have their places.
 abbrev pub bad-number : ℕ
 bad-number = 3
 

@@ -1,7 +1,6 @@
 -- "The printing program": the lines of a run, apart from their letters.
 use mathlib.Core.List.{List, [], _∷_}
 use Prim.Native.Nat.{ℕ, zero, suc, _+_}
-use lib.ListN.{replicate}
 use Rattle.meaning.specs.declared.State.{State}
 use Rattle.meaning.specs.Numbers.{all-done}
 use Rattle.meaning.specs.Model.{Model}

@@ -8,11 +8,11 @@ use Rattle.meaning.specs.Base.{if_then_else_, any, keep, bit}
 use Rattle.meaning.specs.Model.{Rule}
 use Rattle.meaning.specs.Match.{entryOf}
 
--- a rule that "tests a marked buffer"
+-- the rules that "test a marked buffer"
 abbrev pub testsMarked : ℕ → Rule → Bool
 testsMarked mark r = any (λ t. bit mark (t .buffer)) (r .tests)
 
--- "makes the entry of each rule that tests a marked buffer equal to the fresh match, returns all other entries unaltered"
+-- the entries of those rules are made afresh, and all others are left word for word (01 says what is shut out: "Rebuilding the whole table at each refresh")
 unfoldable pub refresh : List Rule → State → ℕ → List ℕ → List ℕ
 refresh [] s mark table = []
 refresh (r ∷ rs) s mark table = (if testsMarked mark r then entryOf r s else take 9 table) ++ refresh rs s mark (drop 9 table)

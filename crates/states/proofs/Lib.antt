@@ -2,3 +2,4 @@
 pub mod LayLaws
 pub mod AllLaws
 pub mod WellLaws
+pub mod ValueLaws

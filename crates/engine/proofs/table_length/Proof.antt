@@ -1,7 +1,7 @@
 -- `engine::table_length` meets its contract: an accepted image has as many rules as its header says.
 use mathlib.Core.Path.{_≡_, sym, _∙_}
 use Rattle.layout.proofs.WalkLaws.{answer-bad, answer-next}
-use Rattle.engine.proofs.CallLaws.{length-bad, length-next}
+use Rattle.engine.proofs.LengthLaws.{length-bad, length-next}
 use borrow.Author.Needs.{needs}
 use Rattle.engine.proofs.table_length.Statement.{statement}
 use Rattle.engine.proofs.table_length.Tie as tie

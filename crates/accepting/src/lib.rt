@@ -1,0 +1,34 @@
+// What every call looks at first, numbers 1 to 5: the image, and then the table's length.
+ghost use Prim.Native.Nat.{_*_, _≤_};
+ghost use Rattle.image.specs.Whole.{Begun};
+ghost use Rattle.accepting.specs.Acceptance.{Room, TakenMet};
+use image::ImageRead;
+use layout::Walk;
+
+// Whether an image and a table's length are accepted, or the number (1 to 5) of the refusal.
+pub enum Taken {
+    Accepted,
+    Refused(u8),
+}
+
+// Lays the image out in words, and then looks at the table's length.
+pub fn accept(
+    image: &[u8],
+    begun: ImageRead,
+    lent: usize,
+    facts: &mut [u16],
+    heads: &mut [u16],
+    words: &mut [u16],
+) -> Taken
+    requires { ⌜ Begun begun (now image) × Room begun (now facts) (now heads) (now words) ⌝ }
+    ensures { λ r. ⌜ TakenMet r begun (now (image .entry)) lent (now (facts .exit)) (now (heads .exit)) (now (words .exit)) ⌝ }
+{
+    let walk = image::lay_out(image, begun, facts, heads, words);
+    if let Walk::Bad(number, _) = walk {
+        return Taken::Refused(number);
+    }
+    if lent != 9 * (begun.rules as usize) {
+        return Taken::Refused(5);
+    }
+    Taken::Accepted
+}

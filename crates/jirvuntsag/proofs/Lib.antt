@@ -1,0 +1,3 @@
+-- Laws of the state in words, and of the calls on words.
+pub mod WordLaws
+pub mod ToldLaws

@@ -1,0 +1,98 @@
+-- Laws of the calls on words: a word too large stands for a state that is well formed in no model, and the state's words stay.
+use Prim.Native.Nat.{ℕ}
+use mathlib.Core.Path.{_≡_, refl, ap, _∙_}
+use mathlib.Core.Bool.{Bool, true, false, _&&_}
+use mathlib.Core.List.{List, []}
+use native.Mathlib.Omega.{arith}
+use lib.Dec.{ltb}
+use lib.ListN.{length}
+use Rattle.meaning.specs.declared.State.{State}
+use Rattle.meaning.specs.Base.{if_then_else_}
+use Rattle.meaning.specs.Model.{Model}
+use Rattle.meaning.specs.State.{wellFormed}
+use Rattle.meaning.specs.Read.{Read, Refused, Got}
+use Rattle.meaning.specs.Calls.{accepted, Opened, openOf, Ran, runOf, ranBy, Refreshed, refreshOf, refreshedBy}
+use Rattle.running.specs.Events.{inscribed}
+use Rattle.runs.specs.Answers.{eventsOf, eventsBy}
+use Rattle.jirvuntsag.specs.Words.{stateOf, wordsOf, fits, unfitState, givenBy}
+use Rattle.jirvuntsag.specs.Told.{answer, unfitBy, told, toldOpen, toldRun, toldRefresh, openIn, runIn, refreshIn, eventsIn}
+
+and-none : (b : Bool) → (b && false) ≡ false
+and-none true = refl
+and-none false = refl
+
+unfit : (m : Model) → wellFormed m unfitState ≡ false
+unfolding wellFormed
+unfit m = rw (and-none (ltb 0 (length (m .types))))
+
+answer-none : (n : ℕ) → answer n 0 ≡ n
+answer-none n = omega arith
+
+abbrev ranNone : ℕ → List ℕ → Ran
+ranNone n table = record { number = n; state = unfitState; table = table; made = 0 }
+
+abbrev refreshedNone : ℕ → List ℕ → Refreshed
+refreshedNone n table = record { number = n; count = 0; table = table }
+
+-- ---- what the calls answer on the unfit state
+
+module _ (table : List ℕ) (k : ℕ) where
+  unfit-ran : (r : Read Model) → ranBy unfitState table k r ≡ ranNone (unfitBy r) table
+  unfit-ran (Refused n at) = refl
+  unfit-ran (Got m at) = rw (unfit m)
+
+  unfit-events : (r : Read Model) → eventsBy unfitState table k r ≡ []
+  unfit-events (Refused n at) = refl
+  unfit-events (Got m at) = rw (unfit m)
+
+  unfit-refreshed : (r : Read Model) → refreshedBy unfitState k table r ≡ refreshedNone (unfitBy r) table
+  unfit-refreshed (Refused n at) = refl
+  unfit-refreshed (Got m at) = rw (unfit m)
+
+-- ---- an opening
+
+pub open-told : (image table : List ℕ) (o : Opened) (a : ℕ) (w′ : List ℕ) → o ≡ openOf image table
+    → w′ ≡ wordsOf (o .state) → a ≡ answer (o .number) 0 → told a w′ (o .table) ≡ openIn image table
+unfolding openIn
+open-told image table o a w′ e l n = rw (n, l) (ap toldOpen e)
+
+-- ---- a call on the state that the words gave
+
+module _ (image w table : List ℕ) (k : ℕ) where
+  run-by : (b : Bool) (r : Ran) → r ≡ runOf image (if b then stateOf w else unfitState) table k
+      → told (answer (r .number) (r .made)) (if b then wordsOf (r .state) else w) (r .table)
+      ≡ (if b then toldRun (runOf image (stateOf w) table k) else told (unfitBy (accepted image table)) w table)
+  unfolding runOf
+  run-by true r e = ap toldRun e
+  run-by false r e =
+      ap (λ (r : Ran). told (answer (r .number) (r .made)) w (r .table)) (e ∙ unfit-ran table k (accepted image table))
+      ∙ ap (λ (n : ℕ). told n w table) (answer-none (unfitBy (accepted image table)))
+
+  pub run-told : (b : Bool) (s : State) (r : Ran) (a : ℕ) (w′ : List ℕ) → b ≡ fits w → s ≡ givenBy w → r ≡ runOf image s table k
+      → w′ ≡ (if b then wordsOf (r .state) else w) → a ≡ answer (r .number) (r .made) → told a w′ (r .table) ≡ runIn image w table k
+  unfolding runIn
+  run-told b s r a w′ f g e l n =
+      rw (n, l, f) (run-by (fits w) r (e ∙ ap (λ (s : State). runOf image s table k) g))
+
+  events-by : (b : Bool) → eventsOf image (if b then stateOf w else unfitState) table k ≡ (if b then eventsOf image (stateOf w) table k else [])
+  unfolding eventsOf
+  events-by true = refl
+  events-by false = unfit-events table k (accepted image table)
+
+  pub events-told : (s : State) (lent lent′ : List ℕ) → s ≡ givenBy w → lent′ ≡ inscribed lent 0 (eventsOf image s table k)
+      → lent′ ≡ inscribed lent 0 (eventsIn image w table k)
+  unfolding eventsIn
+  events-told s lent lent′ g e = e ∙ ap (inscribed lent 0) (ap (λ (s : State). eventsOf image s table k) g ∙ events-by (fits w))
+
+  refresh-by : (b : Bool) (r : Refreshed) → r ≡ refreshOf image (if b then stateOf w else unfitState) k table
+      → toldRefresh w r ≡ (if b then toldRefresh w (refreshOf image (stateOf w) k table) else told (unfitBy (accepted image table)) w table)
+  unfolding refreshOf
+  refresh-by true r e = ap (toldRefresh w) e
+  refresh-by false r e =
+      ap (toldRefresh w) (e ∙ unfit-refreshed table k (accepted image table))
+      ∙ ap (λ (n : ℕ). told n w table) (answer-none (unfitBy (accepted image table)))
+
+  pub refresh-told : (s : State) (r : Refreshed) (a : ℕ) → s ≡ givenBy w → r ≡ refreshOf image s k table
+      → a ≡ answer (r .number) (r .count) → told a w (r .table) ≡ refreshIn image w k table
+  unfolding refreshIn
+  refresh-told s r a g e n = rw n (refresh-by (fits w) r (e ∙ ap (λ (s : State). refreshOf image s k table) g))

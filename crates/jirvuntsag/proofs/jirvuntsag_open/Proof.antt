@@ -1,0 +1,24 @@
+-- `jirvuntsag::jirvuntsag_open` meets its contract: the answer, the state and the table are those of the opening.
+use Rattle.jirvuntsag.proofs.ToldLaws.{open-told}
+use borrow.Author.Needs.{needs}
+use Rattle.jirvuntsag.proofs.jirvuntsag_open.Statement.{statement}
+use Rattle.jirvuntsag.proofs.jirvuntsag_open.Tie as tie
+
+open-requires : tie.Need-open-requires
+open-requires c κs = search needs
+
+lay-requires : tie.Need-lay-requires
+lay-requires c κs = search needs
+
+answer-requires : tie.Need-answer-requires
+answer-requires c κs = search needs
+
+same-length : tie.Need-same-length
+same-length c = search needs
+
+returns : tie.Need-returns
+returns c = let a = c .before .before .before .before .before .before .before .before .before .before .args in open-told (a .image .now) (a .table .now) _ (c .answer .result) (c .before .lay .last .1 .0) (c .before .before .before .before .before .before .«open» .ensures) (c .before .lay .ensures) (c .answer .ensures)
+
+pub jirvuntsag-open-spec : {M : Type 1} → statement M
+jirvuntsag-open-spec =
+    tie.close (tie.spec open-requires lay-requires answer-requires same-length returns)

@@ -1,0 +1,28 @@
+-- `jirvuntsag::jirvuntsag_run` meets its contract: the run is of the state that the words gave, and the words stay if they gave none.
+use Rattle.jirvuntsag.proofs.ToldLaws.{run-told}
+use borrow.Author.Needs.{needs}
+use Rattle.jirvuntsag.proofs.jirvuntsag_run.Statement.{statement}
+use Rattle.jirvuntsag.proofs.jirvuntsag_run.Tie as tie
+
+given-requires : tie.Need-given-requires
+given-requires c κs = search needs
+
+run-requires : tie.Need-run-requires
+run-requires c κs = search needs
+
+lay-back-requires : tie.Need-lay-back-requires
+lay-back-requires c κs = search needs
+
+answer-requires : tie.Need-answer-requires
+answer-requires c κs = search needs
+
+same-length : tie.Need-same-length
+same-length c = search needs
+
+returns : tie.Need-returns
+returns c = let a = c .before .before .before .before .before .before .before .before .before .before .before .before .before .before .args in let g = c .before .before .before .before .before .before .before .before .before .given in run-told (a .image .now) (a .state .now) (a .table .now) (a .steps) (g .result .fitting) (g .result .state) _ (c .answer .result) (c .before .lay-back .last .1 .1 .0) (g .ensures .0) (g .ensures .1) (c .before .before .before .before .before .before .run .ensures) (c .before .lay-back .ensures) (c .answer .ensures)
+
+pub jirvuntsag-run-spec : {M : Type 1} → statement M
+jirvuntsag-run-spec =
+    tie.close
+    (tie.spec given-requires run-requires lay-back-requires answer-requires same-length returns)

@@ -1,0 +1,38 @@
+-- `jirvuntsag::jirvuntsag_trace` meets its contract: the run is of the state that the words gave, and so are the events.
+use Rattle.jirvuntsag.proofs.ToldLaws.{run-told, events-told}
+use borrow.Author.Needs.{needs}
+use Rattle.jirvuntsag.proofs.jirvuntsag_trace.Statement.{statement}
+use Rattle.jirvuntsag.proofs.jirvuntsag_trace.Tie as tie
+
+given-requires : tie.Need-given-requires
+given-requires c κs = search needs
+
+trace-requires : tie.Need-trace-requires
+trace-requires c κs = search needs
+
+lay-back-requires : tie.Need-lay-back-requires
+lay-back-requires c κs = search needs
+
+answer-requires : tie.Need-answer-requires
+answer-requires c κs = search needs
+
+same-length : tie.Need-same-length
+same-length c = search needs
+
+same-length-2 : tie.Need-same-length-2
+same-length-2 c = search needs
+
+returns : tie.Need-returns
+returns c = let a = c .before .before .before .before .before .before .before .before .before .before .before .before .before .before .before .before .before .before .args in let g = c .before .before .before .before .before .before .before .before .before .before .before .before .given in (run-told (a .image .now) (a .state .now) (a .table .now) (a .steps) (g .result .fitting) (g .result .state) _ (c .answer .result) (c .before .lay-back .last .1 .1 .0) (g .ensures .0) (g .ensures .1) (c .before .before .before .before .before .before .before .before .trace .ensures .0) (c .before .lay-back .ensures) (c .answer .ensures), events-told (a .image .now) (a .state .now) (a .table .now) (a .steps) (g .result .state) (a .events .now) _ (g .ensures .1) (c .before .before .before .before .before .before .before .before .trace .ensures .1))
+
+pub jirvuntsag-trace-spec : {M : Type 1} → statement M
+jirvuntsag-trace-spec =
+    tie.close
+    (tie.spec
+    given-requires
+    trace-requires
+    lay-back-requires
+    answer-requires
+    same-length
+    same-length-2
+    returns)

@@ -1,0 +1,53 @@
+-- What each call answers, for all that C could hand in: the answer is the number and 65,536 times the steps made or the rules counted.
+use Prim.Native.Nat.{ℕ, _+_, _*_}
+use mathlib.Core.List.{List, []}
+use Rattle.meaning.specs.Base.{if_then_else_}
+use Rattle.meaning.specs.Numbers.{ill-formed}
+use Rattle.meaning.specs.Model.{Model}
+use Rattle.meaning.specs.Read.{Read, Refused, Got}
+use Rattle.meaning.specs.Calls.{accepted, Opened, openOf, Ran, runOf, Refreshed, refreshOf}
+use Rattle.runs.specs.Answers.{eventsOf}
+use Rattle.jirvuntsag.specs.Words.{stateOf, wordsOf, fits}
+
+abbrev pub answer : ℕ → ℕ → ℕ
+answer number count = number + 65536 * count
+
+-- a word too large for its field: "state not well formed", after numbers 1 to 5
+abbrev pub unfitBy : Read Model → ℕ
+unfitBy (Refused n at) = n
+unfitBy (Got m at) = ill-formed
+
+-- the answer, the state's words and the table, as a call leaves them
+pub record Told : Type 0 where
+  pub answered : ℕ
+  pub words : List ℕ
+  pub table : List ℕ
+
+abbrev pub told : ℕ → List ℕ → List ℕ → Told
+told a w t = record { answered = a; words = w; table = t }
+
+abbrev pub toldOpen : Opened → Told
+toldOpen o = told (answer (o .number) 0) (wordsOf (o .state)) (o .table)
+
+abbrev pub toldRun : Ran → Told
+toldRun r = told (answer (r .number) (r .made)) (wordsOf (r .state)) (r .table)
+
+abbrev pub toldRefresh : List ℕ → Refreshed → Told
+toldRefresh w r = told (answer (r .number) (r .count)) w (r .table)
+
+-- ---- the calls
+
+unfoldable pub openIn : List ℕ → List ℕ → Told
+openIn image table = toldOpen (openOf image table)
+
+unfoldable pub runIn : List ℕ → List ℕ → List ℕ → ℕ → Told
+runIn image w table steps =
+    if fits w then toldRun (runOf image (stateOf w) table steps) else told (unfitBy (accepted image table)) w table
+
+unfoldable pub refreshIn : List ℕ → List ℕ → ℕ → List ℕ → Told
+refreshIn image w mark table =
+    if fits w then toldRefresh w (refreshOf image (stateOf w) mark table) else told (unfitBy (accepted image table)) w table
+
+-- the events of a run, none if it is refused
+unfoldable pub eventsIn : List ℕ → List ℕ → List ℕ → ℕ → List (List ℕ)
+eventsIn image w table steps = if fits w then eventsOf image (stateOf w) table steps else []

@@ -1,0 +1,184 @@
+// The library for C: open, run, trace and refresh over plain words (include/jirvuntsag.h).
+// Each takes whatever it is handed, and none has a `requires`.
+ghost use mathlib.Core.Path.{_≡_};
+ghost use mathlib.Core.Bool.{true};
+ghost use mathlib.Core.List.{_∷_};
+ghost use lib.ListN.{length, getD, drop};
+ghost use Rattle.meaning.specs.Base.{if_then_else_};
+ghost use Rattle.meaning.specs.Calls.{tableLength};
+ghost use Rattle.running.specs.Events.{inscribed};
+ghost use Rattle.jirvuntsag.specs.Words.{wordsOf, fits, unfitState, givenBy};
+ghost use Rattle.jirvuntsag.specs.Told.{told, openIn, runIn, refreshIn, eventsIn};
+ghost use Rattle.jirvuntsag.specs.Told.{answer as Told·answer};
+use meaning::Buffer;
+use meaning::State;
+
+// A state as it was handed in, and whether each of its words was small enough for its field.
+struct Handed {
+    fitting: bool,
+    state: State,
+}
+
+// The number, and 65,536 times a count.
+fn answer(number: u8, count: u16) -> u32
+    ensures { λ r. ⌜ r ≡ Told·answer number count ⌝ }
+{
+    number as u32 + 65536 * (count as u32)
+}
+
+// A state that is well formed in no model.
+fn unfit_state() -> State
+    ensures { λ r. ⌜ r ≡ unfitState ⌝ }
+{
+    let buffer = Buffer {
+        isa: 0,
+        slots: [65535; 8],
+        delay: 0,
+    };
+    State {
+        buffers: [buffer; 8],
+        clock: 0,
+    }
+}
+
+// The words past the clock in 16 bits, and whether each has room there.
+fn narrow(words: &[u32], buffers: &mut [u16]) -> bool
+    requires { ⌜ (length (now words) ≡ 81) × (length (now buffers) ≡ 80) ⌝ }
+    ensures { λ r. ⌜ (r ≡ fits (now (words .entry))) × (r ≡ true → now (buffers .exit) ≡ drop 1 (now (words .entry))) ⌝ }
+{
+    let mut i = 0;
+    while i < 80 {
+        let word = words[1 + i];
+        if 65535 < word {
+            return false;
+        }
+        buffers[i] = word as u16;
+        i += 1;
+    }
+    true
+}
+
+// Eighty words of 16 bits, after the clock.
+fn widen(buffers: &[u16], words: &mut [u32])
+    requires { ⌜ (length (now buffers) ≡ 80) × (length (now words) ≡ 81) ⌝ }
+    ensures { λ _. ⌜ now (words .exit) ≡ getD (now (words .entry)) 0 0 ∷ now (buffers .entry) ⌝ }
+{
+    let mut i = 0;
+    while i < 80 {
+        words[1 + i] = buffers[i] as u32;
+        i += 1;
+    }
+}
+
+// The state that 81 words hold, or the unfit one if a word is too large.
+fn given(words: &[u32]) -> Handed
+    requires { ⌜ length (now words) ≡ 81 ⌝ }
+    ensures { λ r. ⌜ (r .fitting ≡ fits (now (words .entry))) × (r .state ≡ givenBy (now (words .entry))) ⌝ }
+{
+    let mut buffers = [0u16; 80];
+    if !narrow(words, &mut buffers) {
+        let unfit = unfit_state();
+        return Handed {
+            fitting: false,
+            state: unfit,
+        };
+    }
+    let state = states::read_state(&buffers, words[0]);
+    Handed {
+        fitting: true,
+        state: state,
+    }
+}
+
+// A state into its 81 words.
+fn lay(state: State, words: &mut [u32])
+    requires { ⌜ length (now words) ≡ 81 ⌝ }
+    ensures { λ _. ⌜ now (words .exit) ≡ wordsOf state ⌝ }
+{
+    let mut buffers = [0u16; 80];
+    states::lay_state(state, &mut buffers);
+    widen(&buffers, words);
+    words[0] = state.clock;
+}
+
+// A state into its 81 words if the words held one before; otherwise they stay.
+fn lay_back(fitting: bool, state: State, words: &mut [u32])
+    requires { ⌜ length (now words) ≡ 81 ⌝ }
+    ensures { λ _. ⌜ now (words .exit) ≡ (if fitting then wordsOf state else now (words .entry)) ⌝ }
+{
+    if fitting {
+        lay(state, words);
+    }
+}
+
+// The words that the table of an image needs: nine for each rule, 0 for an image that is refused.
+#[no_mangle]
+pub extern "C" fn jirvuntsag_table_len(image: &[u8]) -> u32
+    ensures { λ r. ⌜ r ≡ tableLength (now (image .entry)) ⌝ }
+{
+    engine::table_length(image) as u32
+}
+
+// Opens an image: writes the opening state (all zero if it is refused), and the fresh table if it is accepted.
+#[no_mangle]
+pub extern "C" fn jirvuntsag_open(image: &[u8], table: &mut [u16], state: &mut [u32; 81]) -> u32
+    ensures { λ r. ⌜ told r (now (state .exit)) (now (table .exit)) ≡ openIn (now (image .entry)) (now (table .entry)) ⌝ }
+{
+    let done = engine::open(image, table);
+    let opened = done.state;
+    lay(opened, state);
+    answer(done.number, 0)
+}
+
+// Runs at most `steps` steps: writes the state and the table after them.
+#[no_mangle]
+pub extern "C" fn jirvuntsag_run(
+    image: &[u8],
+    state: &mut [u32; 81],
+    table: &mut [u16],
+    steps: u16,
+) -> u32
+    ensures { λ r. ⌜ told r (now (state .exit)) (now (table .exit)) ≡ runIn (now (image .entry)) (now (state .entry)) (now (table .entry)) steps ⌝ }
+{
+    let before = given(state);
+    let from = before.state;
+    let done = engine::run(image, from, table, steps);
+    let after = done.state;
+    lay_back(before.fitting, after, state);
+    answer(done.number, done.made)
+}
+
+// Runs as `jirvuntsag_run` does, and notes each step in three lent words, as long as there is room: the clock after it, 0 and the rule that fired or 1 and the ms waited.
+#[no_mangle]
+pub extern "C" fn jirvuntsag_trace(
+    image: &[u8],
+    state: &mut [u32; 81],
+    table: &mut [u16],
+    steps: u16,
+    events: &mut [u32],
+) -> u32
+    ensures { λ r. ⌜ (told r (now (state .exit)) (now (table .exit)) ≡ runIn (now (image .entry)) (now (state .entry)) (now (table .entry)) steps) × (now (events .exit) ≡ inscribed (now (events .entry)) 0 (eventsIn (now (image .entry)) (now (state .entry)) (now (table .entry)) steps)) ⌝ }
+{
+    let before = given(state);
+    let from = before.state;
+    let done = engine::trace(image, from, table, steps, events);
+    let after = done.state;
+    lay_back(before.fitting, after, state);
+    answer(done.number, done.made)
+}
+
+// Makes the entries of the rules that test a marked buffer afresh.
+#[no_mangle]
+pub extern "C" fn jirvuntsag_refresh(
+    image: &[u8],
+    state: &[u32; 81],
+    mark: u16,
+    table: &mut [u16],
+) -> u32
+    ensures { λ r. ⌜ told r (now (state .entry)) (now (table .exit)) ≡ refreshIn (now (image .entry)) (now (state .entry)) mark (now (table .entry)) ⌝ }
+{
+    let before = given(state);
+    let from = before.state;
+    let done = engine::refresh(image, from, mark, table);
+    answer(done.number, done.count)
+}

@@ -1,0 +1,2 @@
+-- Laws of an opening.
+pub mod OpenLaws

@@ -1,0 +1,80 @@
+-- What an opening has and each made step keeps, every chain of calls keeps.
+use mathlib.Core.Path.{_≡_, refl}
+use mathlib.Core.Bool.{Bool, true, false}
+use mathlib.Core.List.{List}
+use Prim.Native.Nat.{ℕ, zero, suc, _+_, _*_, _^_}
+use native.Mathlib.Omega.{arith}
+use lib.Dec.{eqb, leb}
+use lib.ListN.{length}
+use Rattle.meaning.specs.declared.State.{State}
+use Rattle.meaning.specs.Base.{if_then_else_}
+use Rattle.meaning.specs.Numbers.{wrong-table}
+use Rattle.meaning.specs.Model.{Model}
+use Rattle.meaning.specs.State.{wellFormed}
+use Rattle.meaning.specs.Read.{Refused, Got}
+use Rattle.meaning.specs.Image.{decode}
+use Rattle.meaning.specs.Match.{freshTable}
+use Rattle.meaning.specs.Step.{Event, Step, Stopped, Made, stepOf}
+use Rattle.meaning.specs.Refresh.{refresh}
+use Rattle.meaning.specs.Calls.{accepted, openState, openedBy, openOf, Ran, goOn, runFrom, ranBy, runOf, refreshedBy, refreshOf}
+use Rattle.promises.specs.Words.{Reached, opened, ran, refreshed}
+
+module _ (m : Model) (Kept : State → List ℕ → Type 0)
+    (steps-keep : (s : State) (table : List ℕ) → Kept s table → (e : Event) (s′ : State) (mark : ℕ) → stepOf m s table ≡ Made e s′ mark → Kept s′ (refresh (m .rules) s′ mark table)) where
+  -- ---- a run
+
+  abbrev RanKept : Ran → Type 0
+  RanKept a = Kept (a .state) (a .table)
+
+  go-on : (s : State) (table : List ℕ) (made : ℕ) (run : State → List ℕ → ℕ → Ran) (st : Step) → Kept s table
+      → ((e : Event) (s′ : State) (mark : ℕ) → st ≡ Made e s′ mark → Kept s′ (refresh (m .rules) s′ mark table))
+      → ((s′ : State) (table′ : List ℕ) (made′ : ℕ) → Kept s′ table′ → RanKept (run s′ table′ made′))
+      → RanKept (goOn m s table made run st)
+  go-on s table made run (Stopped n) h keeps ih = h
+  go-on s table made run (Made e s′ mark) h keeps ih = ih s′ (refresh (m .rules) s′ mark table) (made + 1) (keeps e s′ mark refl)
+
+  run-keeps : (n : ℕ) (s : State) (table : List ℕ) (made : ℕ) → Kept s table → RanKept (runFrom m n s table made)
+  unfolding runFrom
+  run-keeps zero s table made h = h
+  run-keeps (suc n) s table made h =
+      go-on s table made (λ s′ table′ made′. runFrom m n s′ table′ made′) (stepOf m s table) h (steps-keep s table h) (λ s′ table′ made′ h′. run-keeps n s′ table′ made′ h′)
+
+  -- ---- the calls, over an image that is accepted; the cases are: the table's length, the state, the mark
+
+  module _ (opening-has : Kept (openState m) (freshTable (m .rules) (openState m)))
+      (refresh-keeps : (s : State) (mark : ℕ) (table : List ℕ) → Kept s table → Kept s (refresh (m .rules) s mark table)) where
+    opened-by : (table : List ℕ) (at : ℕ) (t : Bool) → openedBy table (if t then Got m at else Refused wrong-table 0) .number ≡ 0
+        → Kept (openedBy table (if t then Got m at else Refused wrong-table 0) .state) (openedBy table (if t then Got m at else Refused wrong-table 0) .table)
+    opened-by table at true e = opening-has
+    opened-by table at false e = absurd (omega arith)
+
+    ran-by : (s : State) (table : List ℕ) (steps at : ℕ) (t u : Bool) → wellFormed m s ≡ u → Kept s table → RanKept (ranBy s table steps (if t then Got m at else Refused wrong-table 0))
+    ran-by s table steps at true true w h = rw w (run-keeps steps s table 0 h)
+    ran-by s table steps at true false w h = rw w h
+    ran-by s table steps at false u w h = h
+
+    refreshed-by : (s : State) (mark : ℕ) (table : List ℕ) (at : ℕ) (t u v : Bool) → wellFormed m s ≡ u → leb (2 ^ m .buffers) mark ≡ v → Kept s table
+        → Kept s (refreshedBy s mark table (if t then Got m at else Refused wrong-table 0) .table)
+    refreshed-by s mark table at true true true w l h = rw (w, l) h
+    refreshed-by s mark table at true true false w l h = rw (w, l) (refresh-keeps s mark table h)
+    refreshed-by s mark table at true false v w l h = rw w h
+    refreshed-by s mark table at false u v w l h = h
+
+    module _ (image : List ℕ) (at : ℕ) (d : decode image ≡ Got m at) where
+      opened-keeps : (table : List ℕ) → openOf image table .number ≡ 0 → Kept (openOf image table .state) (openOf image table .table)
+      unfolding openOf accepted
+      opened-keeps table e = rw d (opened-by table at (eqb (length table) (9 * length (m .rules))) (rw d at e))
+
+      ran-keeps : (s : State) (table : List ℕ) (steps : ℕ) → Kept s table → RanKept (runOf image s table steps)
+      unfolding runOf accepted
+      ran-keeps s table steps h = rw d (ran-by s table steps at (eqb (length table) (9 * length (m .rules))) (wellFormed m s) refl h)
+
+      refreshed-keeps : (s : State) (mark : ℕ) (table : List ℕ) → Kept s table → Kept s (refreshOf image s mark table .table)
+      unfolding refreshOf accepted
+      refreshed-keeps s mark table h =
+          rw d (refreshed-by s mark table at (eqb (length table) (9 * length (m .rules))) (wellFormed m s) (leb (2 ^ m .buffers) mark) refl refl h)
+
+      pub chain-keeps : {s : State} {table : List ℕ} → Reached image s table → Kept s table
+      chain-keeps (opened table e) = opened-keeps table e
+      chain-keeps (ran {s} {table} r steps) = ran-keeps s table steps (chain-keeps r)
+      chain-keeps (refreshed {s} {table} r mark) = refreshed-keeps s mark table (chain-keeps r)

@@ -1,0 +1,174 @@
+-- The test `matches` finds a binding exactly if there is one, and the entry holds its values.
+use mathlib.Core.Path.{_≡_, refl, sym, ap, _∙_}
+use mathlib.Core.Logic.{⊎-elim}
+use mathlib.Core.Bool.{Bool, true, false, _||_}
+use mathlib.Core.List.{List, [], _∷_, map, List·Memᴰ, List·Memᴰ·head, List·Memᴰ·tail, List·Memᴰ·not-nil, List·Memᴰ·cases-cons, List·Memᴰ·append-cases, Memᴰ·append-left, Memᴰ·append-right}
+use Prim.Native.Nat.{ℕ, zero, suc, _+_, _<_}
+use native.Mathlib.Nat.{add-zero, zero-add}
+use native.Mathlib.Omega.{arith}
+use borrow.Author.Tests.{eqb-true, eq-eqb, ltb-true}
+use lib.Dec.{eqb, ltb}
+use lib.ListN.{getD}
+use Rattle.meaning.specs.declared.Buffer.{Buffer}
+use Rattle.meaning.specs.declared.State.{State}
+use Rattle.meaning.specs.Base.{if_then_else_, all, any, count}
+use Rattle.meaning.specs.Model.{Rule, Test, Named, Term, Symbol, Variable}
+use Rattle.meaning.specs.State.{bufferOf, visible}
+use Rattle.meaning.specs.Image.{isVariable, standsIn}
+use Rattle.meaning.specs.Match.{Place, place, places, valueIn, termIn, agrees, agreed, shows, matches, entryOf}
+use Rattle.meaning.specs.Retrieval.{valueOf}
+use Rattle.laws.specs.BoolLaws.{no-true, and-left, and-right}
+use Rattle.laws.specs.ListLaws.{all-member}
+use Rattle.promises.specs.Published.{standsFor, Holds, Binds, Matches}
+use Rattle.promises.specs.Proofs.Decoded.{and-true, goodTerm}
+
+pub member-all : {A : Type 0} (p : A → Bool) (xs : List A) → ((y : A) → List·Memᴰ y xs → p y ≡ true) → all p xs ≡ true
+member-all p [] h = refl
+member-all p (x ∷ xs) h = and-true (p x) (all p xs) (h x (List·Memᴰ·head refl)) (member-all p xs (λ y k. h y (List·Memᴰ·tail k)))
+
+-- ---- the places of a rule's tests
+
+place-in : (s : State) (ts : List Test) (t : Test) (n : Named) → List·Memᴰ t ts → List·Memᴰ n (t .named) → List·Memᴰ (place (bufferOf s (t .buffer)) n) (places ts s)
+unfolding places
+place-in s [] t n h k = absurd (List·Memᴰ·not-nil h)
+place-in s (x ∷ ts) t n h k =
+    ⊎-elim (λ (q : t ≡ x). Memᴰ·append-left {s = map (place (bufferOf s (x .buffer))) (x .named)} (places ts s) (rw (← q) (mapped (bufferOf s (t .buffer)) (t .named) n k)))
+    (λ (m : List·Memᴰ t ts). Memᴰ·append-right (map (place (bufferOf s (x .buffer))) (x .named)) (place-in s ts t n m k))
+    (List·Memᴰ·cases-cons h)
+  where
+    mapped : (b : Buffer) (ns : List Named) (n : Named) → List·Memᴰ n ns → List·Memᴰ (place b n) (map (place b) ns)
+    mapped b [] n k = absurd (List·Memᴰ·not-nil k)
+    mapped b (y ∷ ns) n k =
+        ⊎-elim (λ (q : n ≡ y). List·Memᴰ·head (ap (place b) q)) (λ (m : List·Memᴰ n ns). List·Memᴰ·tail (mapped b ns n m)) (List·Memᴰ·cases-cons k)
+
+-- all places have the values of a binding
+abbrev Bound : (ℕ → ℕ) → List Place → Type 0
+Bound v ps = (p : Place) → List·Memᴰ p ps → p .value ≡ standsFor v (p .term)
+
+named-bound : (v : ℕ → ℕ) (b : Buffer) (ns : List Named) → ((n : Named) → List·Memᴰ n ns → getD (b .slots) (n .slot) 0 ≡ standsFor v (n .term)) → Bound v (map (place b) ns)
+named-bound v b [] h p k = absurd (List·Memᴰ·not-nil k)
+named-bound v b (n ∷ ns) h p k =
+    ⊎-elim (λ (q : p ≡ place b n). rw q (h n (List·Memᴰ·head refl))) (λ (m : List·Memᴰ p (map (place b) ns)). named-bound v b ns (λ x j. h x (List·Memᴰ·tail j)) p m)
+    (List·Memᴰ·cases-cons k)
+
+places-bound : (v : ℕ → ℕ) (s : State) (ts : List Test) → ((t : Test) → List·Memᴰ t ts → Holds v s t) → Bound v (places ts s)
+unfolding places
+places-bound v s [] h p k = absurd (List·Memᴰ·not-nil k)
+places-bound v s (t ∷ ts) h p k =
+    ⊎-elim (λ (m : List·Memᴰ p (map (place (bufferOf s (t .buffer))) (t .named))). named-bound v (bufferOf s (t .buffer)) (t .named) (h t (List·Memᴰ·head refl) .valued) p m)
+    (λ (m : List·Memᴰ p (places ts s)). places-bound v s ts (λ x j. h x (List·Memᴰ·tail j)) p m)
+    (List·Memᴰ·append-cases (map (place (bufferOf s (t .buffer))) (t .named)) k)
+
+is-variable : (w : ℕ) (t : Term) → isVariable w t ≡ true → t ≡ Variable w
+is-variable w (Symbol x) e = absurd (no-true (sym e))
+is-variable w (Variable u) e = ap Variable (sym (eqb-true w u e))
+
+-- a variable that stands at one of the places has its value there
+value-bound : (v : ℕ → ℕ) (ps : List Place) → Bound v ps → (w : ℕ) (p : Place) → List·Memᴰ p ps → p .term ≡ Variable w → valueIn ps w ≡ v w
+unfolding valueIn
+value-bound v [] h w p k e = absurd (List·Memᴰ·not-nil k)
+value-bound v (x ∷ ps) h w p k e =
+    (elim (isVariable w (x .term)) as (λ t. isVariable w (x .term) ≡ t → (if t then x .value else valueIn ps w) ≡ v w) [
+      | true ↦ λ t. h x (List·Memᴰ·head refl) ∙ ap (standsFor v) (is-variable w (x .term) t)
+      | false ↦ λ t.
+          ⊎-elim
+          (λ (q : p ≡ x).
+          let z : isVariable w (x .term) ≡ true = ap (isVariable w) (sym (ap (λ (y : Place). y .term) q) ∙ e) ∙ eq-eqb w w refl in
+          absurd (no-true (sym z ∙ t)))
+          (λ (m : List·Memᴰ p ps). value-bound v ps (λ y j. h y (List·Memᴰ·tail j)) w p m e)
+          (List·Memᴰ·cases-cons k)
+    ]) refl
+
+term-bound : (v : ℕ → ℕ) (ps : List Place) → Bound v ps → (p : Place) → List·Memᴰ p ps → (t : Term) → p .term ≡ t → termIn ps t ≡ standsFor v t
+term-bound v ps h p k (Symbol x) e = refl
+term-bound v ps h p k (Variable w) e = value-bound v ps h w p k e
+
+term-own : (ps : List Place) (t : Term) → termIn ps t ≡ standsFor (valueIn ps) t
+term-own ps (Symbol x) = refl
+term-own ps (Variable w) = refl
+
+-- ---- the test and the relation
+
+pub matches-bind : (r : Rule) (s : State) → matches r s ≡ true → Matches r s
+unfolding matches
+matches-bind r s e =
+    let ps : List Place = places (r .tests) s in
+    let seen : all (λ t. shows t (bufferOf s (t .buffer))) (r .tests) ≡ true = and-left (all (λ t. shows t (bufferOf s (t .buffer))) (r .tests)) (agreed ps) e in
+    let agree : agreed ps ≡ true = and-right (all (λ t. shows t (bufferOf s (t .buffer))) (r .tests)) (agreed ps) e in
+    record {
+      binding = valueIn ps;
+      binds = λ t h.
+          let b : Buffer = bufferOf s (t .buffer) in
+          let y : shows t b ≡ true = all-member (λ t. shows t (bufferOf s (t .buffer))) (r .tests) seen h in
+          record {
+            visible = eqb-true (b .delay) 0 (and-left (visible b) (eqb (b .isa) (t .isa)) y);
+            typed = eqb-true (b .isa) (t .isa) (and-right (visible b) (eqb (b .isa) (t .isa)) y);
+            valued = λ n k.
+                eqb-true (getD (b .slots) (n .slot) 0) (termIn ps (n .term)) (all-member (agrees ps) ps agree (place-in s (r .tests) t n h k)) ∙ term-own ps (n .term);
+          };
+    }
+
+pub bind-matches : (r : Rule) (s : State) (v : ℕ → ℕ) → Binds r s v → matches r s ≡ true
+unfolding matches
+bind-matches r s v h =
+    let ps : List Place = places (r .tests) s in
+    let bound : Bound v ps = places-bound v s (r .tests) h in
+    and-true (all (λ t. shows t (bufferOf s (t .buffer))) (r .tests)) (agreed ps)
+    (member-all (λ t. shows t (bufferOf s (t .buffer))) (r .tests)
+    (λ t k.
+    let b : Buffer = bufferOf s (t .buffer) in
+    and-true (visible b) (eqb (b .isa) (t .isa)) (eq-eqb (b .delay) 0 (h t k .visible)) (eq-eqb (b .isa) (t .isa) (h t k .typed))))
+    (member-all (agrees ps) ps (λ p k. eq-eqb (p .value) (termIn ps (p .term)) (bound p k ∙ sym (term-bound v ps bound p k (p .term) refl))))
+
+-- ---- the entry holds the values of every binding
+
+record Standing (ts : List Test) (w : ℕ) : Type 0 where
+  test : Test
+  test-in : List·Memᴰ test ts
+  named : Named
+  named-in : List·Memᴰ named (test .named)
+  is : named .term ≡ Variable w
+
+record StandingIn (ns : List Named) (w : ℕ) : Type 0 where
+  named : Named
+  named-in : List·Memᴰ named ns
+  is : named .term ≡ Variable w
+
+standing-in : (ns : List Named) (w : ℕ) → any (λ n. isVariable w (n .term)) ns ≡ true → StandingIn ns w
+standing-in [] w e = absurd (no-true (sym e))
+standing-in (n ∷ ns) w e =
+    (elim (isVariable w (n .term)) as (λ t. isVariable w (n .term) ≡ t → (t || any (λ n. isVariable w (n .term)) ns) ≡ true → StandingIn (n ∷ ns) w) [
+      | true ↦ λ t k. record { named = n; named-in = List·Memᴰ·head refl; is = is-variable w (n .term) t }
+      | false ↦ λ t k. let i : StandingIn ns w = standing-in ns w k in record { named = i .named; named-in = List·Memᴰ·tail (i .named-in); is = i .is }
+    ]) refl e
+
+standing : (ts : List Test) (w : ℕ) → standsIn ts w ≡ true → Standing ts w
+standing [] w e = absurd (no-true (sym e))
+standing (x ∷ ts) w e =
+    (elim (any (λ n. isVariable w (n .term)) (x .named)) as (λ t. any (λ n. isVariable w (n .term)) (x .named) ≡ t → (t || standsIn ts w) ≡ true → Standing (x ∷ ts) w) [
+      | true ↦ λ t k. let i : StandingIn (x .named) w = standing-in (x .named) w t in record { test = x; test-in = List·Memᴰ·head refl; named = i .named; named-in = i .named-in; is = i .is }
+      | false ↦ λ t k. let i : Standing ts w = standing ts w k in record { test = i .test; test-in = List·Memᴰ·tail (i .test-in); named = i .named; named-in = i .named-in; is = i .is }
+    ]) refl e
+
+getD-values : (f : ℕ → ℕ) (i n b : ℕ) → b < n → getD (map f (count i n)) b 0 ≡ f (i + b)
+getD-values f i zero b h = absurd (omega arith)
+getD-values f i (suc n) zero h = rw add-zero
+getD-values f i (suc n) (suc b) h = getD-values f (i + 1) n b (omega arith) ∙ ap f (omega arith)
+
+entry-value : (r : Rule) (s : State) (w : ℕ) → matches r s ≡ true → w < 8 → getD (entryOf r s) (w + 1) 0 ≡ valueIn (places (r .tests) s) w
+unfolding entryOf
+entry-value r s w e h =
+    let z : w + 1 ≡ suc w = omega arith in
+    rw (e, z) (getD-values (valueIn (places (r .tests) s)) 0 8 w h ∙ ap (valueIn (places (r .tests) s)) (zero-add w))
+
+-- a term of an action means under the entry what it means under any binding
+pub value-binds : (r : Rule) (s : State) (v : ℕ → ℕ) → Binds r s v → (t : Term) → goodTerm (r .tests) t ≡ true → valueOf (entryOf r s) t ≡ standsFor v t
+value-binds r s v h (Symbol x) g = refl
+value-binds r s v h (Variable w) g =
+    let i : Standing (r .tests) w = standing (r .tests) w (and-right (ltb w 8) (standsIn (r .tests) w) g) in
+    entry-value r s w (bind-matches r s v h) (ltb-true w 8 (and-left (ltb w 8) (standsIn (r .tests) w) g))
+    ∙ value-bound v (places (r .tests) s) (places-bound v s (r .tests) h) w (place (bufferOf s (i .test .buffer)) (i .named)) (place-in s (r .tests) (i .test) (i .named) (i .test-in) (i .named-in)) (i .is)
+
+-- the relation, for a test
+pub is-match : (r : Rule) (s : State) → Matches r s → matches r s ≡ true
+is-match r s h = bind-matches r s (h .binding) (h .binds)

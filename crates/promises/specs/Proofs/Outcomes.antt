@@ -1,0 +1,180 @@
+-- What a step and a run with the fresh table come to.
+use mathlib.Core.Path.{_≡_, refl, sym, ap, subst, _∙_}
+use mathlib.Core.Logic.{_⊎_, inl, inr, ⊎-elim}
+use mathlib.Core.Bool.{true}
+use mathlib.Core.List.{List, [], _∷_}
+use mathlib.Core.Option.{Option, none, some}
+use Prim.Native.Nat.{ℕ, zero, suc, _+_, _*_, _≤_, _<_}
+use native.Mathlib.Nat.{add-zero, zero-add}
+use native.Mathlib.Omega.{arith}
+use borrow.Author.Tests.{eq-eqb}
+use lib.ListN.{length, length-append}
+use Rattle.meaning.specs.declared.State.{State}
+use Rattle.meaning.specs.Model.{Model, Rule}
+use Rattle.meaning.specs.State.{bufferOf, wellFormed}
+use Rattle.meaning.specs.Read.{Got}
+use Rattle.meaning.specs.Image.{decode}
+use Rattle.meaning.specs.Match.{entryOf, freshTable}
+use Rattle.meaning.specs.Choice.{Candidate, choose, utilities}
+use Rattle.meaning.specs.Step.{Event, Step, Stopped, Made, largest, unlessPast, stepOf}
+use Rattle.meaning.specs.Calls.{accepted, Ran, runFrom, runOf}
+use Rattle.laws.specs.EntryLaws.{entry-length}
+use Rattle.laws.specs.WindowLaws.{by-lt}
+use Rattle.promises.specs.Words.{Reached}
+use Rattle.promises.specs.Published.{Selected, NoneSelected, Transition, Final, Transitions, no-step, one-step, Passes, Ended, done, full, over, RanOn}
+use Rattle.promises.specs.Proofs.Decoded.{Decoded, decoded}
+use Rattle.promises.specs.Proofs.Runs.{step-fresh, chain-fresh}
+use Rattle.promises.specs.Proofs.WellFormed.{chain-well}
+use Rattle.promises.specs.Proofs.Selection.{chosen-selected}
+use Rattle.promises.specs.Proofs.Steps.{no-made, InTime, unless-made, unless-stopped, unless-full, unless-on}
+use Rattle.promises.specs.Proofs.Transitions.{transition-once, Outcome, goes, stays, outcome, stays-final}
+
+same-number : (a b : ℕ) → Stopped a ≡ Stopped b → a ≡ b
+same-number a b e = cc
+
+-- nothing is chosen where nothing is selected
+pub none-chosen : (m : Model) (s : State) → NoneSelected m s → choose (m .rules) (utilities (m .rules)) (freshTable (m .rules) s) ≡ none
+none-chosen m s n = by (choose (m .rules) (utilities (m .rules)) (freshTable (m .rules) s)) refl
+  where
+    by : (o : Option Candidate) → choose (m .rules) (utilities (m .rules)) (freshTable (m .rules) s) ≡ o → o ≡ none
+    by none e = refl
+    by (some c) e = let a : Selected m s (c .number) (c .rule) = chosen-selected m s c e in absurd (n (c .number) (c .rule) (a .numbered) (a .matching))
+
+module _ (m : Model) (d : Decoded m) (s : State) where
+  abbrev fresh-step : Step
+  fresh-step = stepOf m s (freshTable (m .rules) s)
+
+  -- ---- a made step is a transition, and a transition is made
+
+  made-by : Outcome m d s → (e : Event) (s′ : State) (mark : ℕ) → fresh-step ≡ Made e s′ mark → Transition m s e s′ × (s′ .clock ≤ largest)
+  made-by (goes f t mk tr q) e s′ mark h =
+      let i : InTime f e t s′ mk mark = unless-made f e t s′ mk mark (sym q ∙ h) in
+      (subst (λ (x : State). Transition m s e x) (i .state-is) (subst (λ (x : Event). Transition m s x t) (i .event-is) tr), i .in-time)
+  made-by (stays n z q) e s′ mark h = no-made 9 e s′ mark (sym q ∙ h)
+
+  pub made-transition : (e : Event) (s′ : State) (mark : ℕ) → fresh-step ≡ Made e s′ mark → Transition m s e s′ × (s′ .clock ≤ largest)
+  made-transition e s′ mark h = made-by (outcome m d s) e s′ mark h
+
+  step-by : Outcome m d s → (e : Event) (s′ : State) → Transition m s e s′ → (mark : ℕ) × (fresh-step ≡ unlessPast e s′ mark)
+  step-by (goes f t mk tr q) e s′ h =
+      let o : (f ≡ e) × (t ≡ s′) = transition-once m d s tr h in
+      (mk, q ∙ ap (λ (x : Event). unlessPast x t mk) (o .0) ∙ ap (λ (x : State). unlessPast e x mk) (o .1))
+  step-by (stays n z q) e s′ h = absurd (stays-final m d s n z e s′ h)
+
+  pub transition-step : (e : Event) (s′ : State) → Transition m s e s′ → (mark : ℕ) × (fresh-step ≡ unlessPast e s′ mark)
+  transition-step e s′ h = step-by (outcome m d s) e s′ h
+
+  pub transition-made : (e : Event) (s′ : State) → Transition m s e s′ → s′ .clock ≤ largest → (mark : ℕ) × (fresh-step ≡ Made e s′ mark)
+  transition-made e s′ t c = let k = transition-step e s′ t in (k .0, k .1 ∙ unless-on e s′ (k .0) c)
+
+  -- ---- why no step is made
+
+  pub halt-final : fresh-step ≡ Stopped 9 → Final m s
+  halt-final h e s′ t = let k = transition-step e s′ t in omega (arith, unless-stopped e s′ (k .0) 9 (sym (k .1) ∙ h) .0)
+
+  final-by : Outcome m d s → Final m s → fresh-step ≡ Stopped 9
+  final-by (goes f t mk tr q) h = absurd (h f t tr)
+  final-by (stays n z q) h = q
+
+  pub final-halt : Final m s → fresh-step ≡ Stopped 9
+  final-halt h = final-by (outcome m d s) h
+
+  quiet-by : Outcome m d s → Final m s → NoneSelected m s × ((b : ℕ) → b < length (s .buffers) → bufferOf s b .delay ≡ 0)
+  quiet-by (goes f t mk tr q) h = absurd (h f t tr)
+  quiet-by (stays n z q) h = (n, z)
+
+  pub final-quiet : Final m s → NoneSelected m s × ((b : ℕ) → b < length (s .buffers) → bufferOf s b .delay ≡ 0)
+  final-quiet h = quiet-by (outcome m d s) h
+
+  full-by : Outcome m d s → fresh-step ≡ Stopped 8 → Passes m s
+  full-by (goes f t mk tr q) h = record { event = f; state = t; transition = tr; past = unless-stopped f t mk 8 (sym q ∙ h) .1 }
+  full-by (stays n z q) h = absurd (omega (arith, same-number 9 8 (sym q ∙ h)))
+
+  pub full-passes : fresh-step ≡ Stopped 8 → Passes m s
+  full-passes h = full-by (outcome m d s) h
+
+  pub passes-full : Passes m s → fresh-step ≡ Stopped 8
+  passes-full p = let k = transition-step (p .event) (p .state) (p .transition) in k .1 ∙ unless-full (p .event) (p .state) (k .0) (p .past)
+
+  stopped-by : Outcome m d s → (n : ℕ) → fresh-step ≡ Stopped n → (n ≡ 8) ⊎ (n ≡ 9)
+  stopped-by (goes f t mk tr q) n h = inl (unless-stopped f t mk n (sym q ∙ h) .0)
+  stopped-by (stays k z q) n h = inr (same-number n 9 (sym h ∙ q))
+
+  pub stopped-eight-nine : (n : ℕ) → fresh-step ≡ Stopped n → (n ≡ 8) ⊎ (n ≡ 9)
+  stopped-eight-nine n h = stopped-by (outcome m d s) n h
+
+  pub not-seven : fresh-step ≡ Stopped 7 → ⊥
+  not-seven h = ⊎-elim (λ (e : 7 ≡ 8). omega arith) (λ (e : 7 ≡ 9). omega arith) (stopped-eight-nine 7 h)
+
+-- ---- a run
+
+record Goes (m : Model) (s : State) (asked before : ℕ) (a : Ran) : Type 0 where
+  steps : ℕ
+  made-is : a .made ≡ before + steps
+  path : Transitions m steps s (a .state)
+  ended : Ended m asked steps (a .state) (a .number)
+
+one-more : (m : Model) (s s′ : State) (e : Event) (n before : ℕ) (a : Ran) → Transition m s e s′ → s′ .clock ≤ largest → Goes m s′ n (before + 1) a → Goes m s (suc n) before a
+one-more m s s′ e n before a t c g =
+    record { steps = suc (g .steps); made-is = g .made-is ∙ omega arith; path = one-step t c (g .path); ended = longer (g .ended) }
+  where
+    longer : {k number : ℕ} {x : State} → Ended m n k x number → Ended m (suc n) (suc k) x number
+    longer (done q) = done (ap suc q)
+    longer (full l p) = full (omega arith) p
+    longer (over l p) = over (omega arith) p
+
+stopped-run : (m : Model) (n : ℕ) (s : State) (made number : ℕ) → stepOf m s (freshTable (m .rules) s) ≡ Stopped number → Ended m (suc n) 0 s number
+    → Goes m s (suc n) made (runFrom m (suc n) s (freshTable (m .rules) s) made)
+unfolding runFrom
+stopped-run m n s made number q h = rw q (record { steps = 0; made-is = sym (add-zero made); path = no-step; ended = h })
+
+made-run : (m : Model) (n : ℕ) (s : State) (made : ℕ) (e : Event) (s′ : State) (mark : ℕ) → stepOf m s (freshTable (m .rules) s) ≡ Made e s′ mark
+    → runFrom m (suc n) s (freshTable (m .rules) s) made ≡ runFrom m n s′ (freshTable (m .rules) s′) (made + 1)
+unfolding runFrom
+made-run m n s made e s′ mark q =
+    rw q (ap (λ (t : List ℕ). runFrom m n s′ t (made + 1)) (step-fresh m s (freshTable (m .rules) s) refl e s′ mark q))
+
+run-goes : (m : Model) (d : Decoded m) (n : ℕ) (s : State) (made : ℕ) → Goes m s n made (runFrom m n s (freshTable (m .rules) s) made)
+unfolding runFrom
+run-goes m d zero s made = record { steps = 0; made-is = sym (add-zero made); path = no-step; ended = done refl }
+run-goes m d (suc n) s made = by (λ s′. run-goes m d n s′ (made + 1)) (outcome m d s)
+  where
+    by : ((s′ : State) → Goes m s′ n (made + 1) (runFrom m n s′ (freshTable (m .rules) s′) (made + 1))) → Outcome m d s → Goes m s (suc n) made (runFrom m (suc n) s (freshTable (m .rules) s) made)
+    by ih (goes e s′ mark t q) =
+        by-lt largest (s′ .clock)
+        (λ h. stopped-run m n s made 8 (q ∙ unless-full e s′ mark h) (full (omega arith) (record { event = e; state = s′; transition = t; past = h })))
+        (λ h.
+        let made-is : stepOf m s (freshTable (m .rules) s) ≡ Made e s′ mark = q ∙ unless-on e s′ mark h in
+        subst (λ (a : Ran). Goes m s (suc n) made a) (sym (made-run m n s made e s′ mark made-is)) (one-more m s s′ e n made (runFrom m n s′ (freshTable (m .rules) s′) (made + 1)) t h (ih s′)))
+    by ih (stays k z q) = stopped-run m n s made 9 q (over (omega arith) (stays-final m d s k z))
+
+-- ---- the call
+
+fresh-length : (rules : List Rule) (s : State) → length (freshTable rules s) ≡ 9 * length rules
+unfolding freshTable
+fresh-length [] s = refl
+fresh-length (r ∷ rs) s = length-append (entryOf r s) (freshTable rs s) ∙ omega (arith, entry-length r s, fresh-length rs s)
+
+ran-goes : (m : Model) (s : State) (steps : ℕ) (a : Ran) → Goes m s steps 0 a → RanOn m s steps a
+ran-goes m s steps a g =
+    let e : g .steps ≡ a .made = sym (g .made-is ∙ zero-add (g .steps)) in
+    record {
+      path = subst (λ (k : ℕ). Transitions m k s (a .state)) e (g .path);
+      ended = subst (λ (k : ℕ). Ended m steps k (a .state) (a .number)) e (g .ended);
+    }
+
+fresh-ran : (image : List ℕ) (m : Model) (at : ℕ) → decode image ≡ Got m at → (s : State) (steps : ℕ) → wellFormed m s ≡ true
+    → runOf image s (freshTable (m .rules) s) steps ≡ runFrom m steps s (freshTable (m .rules) s) 0
+unfolding runOf accepted
+fresh-ran image m at d s steps w = rw (d, eq-eqb (length (freshTable (m .rules) s)) (9 * length (m .rules)) (fresh-length (m .rules) s), w) refl
+
+pub chain-runs : (image : List ℕ) (m : Model) (at : ℕ) → decode image ≡ Got m at → {s : State} {table : List ℕ} → Reached image s table → (steps : ℕ) → RanOn m s steps (runOf image s table steps)
+chain-runs image m at d {s} {table} r steps =
+    let f : table ≡ freshTable (m .rules) s = chain-fresh image m at d r in
+    let e : runOf image s table steps ≡ runFrom m steps s (freshTable (m .rules) s) 0 = ap (λ (t : List ℕ). runOf image s t steps) f ∙ fresh-ran image m at d s steps (chain-well image m at d r) in
+    subst (λ (a : Ran). RanOn m s steps a) (sym e) (ran-goes m s steps (runFrom m steps s (freshTable (m .rules) s) 0) (run-goes m (decoded image m at d) steps s 0))
+
+pub chain-step : (image : List ℕ) (m : Model) (at : ℕ) → decode image ≡ Got m at → {s : State} {table : List ℕ} → Reached image s table
+    → (e : Event) (s′ : State) (mark : ℕ) → stepOf m s table ≡ Made e s′ mark → Transition m s e s′
+chain-step image m at d {s} {table} r e s′ mark h =
+    made-transition m (decoded image m at d) s e s′ mark (ap (stepOf m s) (sym (chain-fresh image m at d r)) ∙ h) .0

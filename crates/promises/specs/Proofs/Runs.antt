@@ -1,0 +1,35 @@
+-- The fresh table stays fresh: through a step, a refresh, and so any chain of calls.
+use mathlib.Core.Path.{_≡_, refl, ap, subst, _∙_}
+use mathlib.Core.Logic.{inl}
+use mathlib.Core.List.{List}
+use Prim.Native.Nat.{ℕ}
+use Rattle.meaning.specs.declared.State.{State}
+use Rattle.meaning.specs.Model.{Model}
+use Rattle.meaning.specs.Read.{Got}
+use Rattle.meaning.specs.Image.{decode}
+use Rattle.meaning.specs.Match.{freshTable}
+use Rattle.meaning.specs.Choice.{utilities}
+use Rattle.meaning.specs.Step.{Event, Step, Stopped, Made, stepOf}
+use Rattle.meaning.specs.Refresh.{refresh}
+use Rattle.promises.specs.Words.{Reached}
+use Rattle.promises.specs.Proofs.Marks.{Marks, StepMarks, step-marks, refresh-fresh}
+use Rattle.promises.specs.Proofs.Steps.{no-made}
+use Rattle.promises.specs.Proofs.Chains.{chain-keeps}
+
+made-marks : (s : State) (e : Event) (s′ : State) (mark : ℕ) (st : Step) → st ≡ Made e s′ mark → StepMarks s st → Marks s s′ mark
+made-marks s e s′ mark (Stopped n) q h = no-made n e s′ mark q
+made-marks s e s′ mark (Made f t k) q h =
+    let a : t ≡ s′ = cc in
+    let b : k ≡ mark = cc in
+    subst (λ (x : ℕ). Marks s s′ x) b (subst (λ (x : State). Marks s x k) a h)
+
+-- a made step's refresh of the fresh table is fresh
+pub step-fresh : (m : Model) (s : State) (table : List ℕ) → table ≡ freshTable (m .rules) s → (e : Event) (s′ : State) (mark : ℕ) → stepOf m s table ≡ Made e s′ mark
+    → refresh (m .rules) s′ mark table ≡ freshTable (m .rules) s′
+step-fresh m s table f e s′ mark q =
+    ap (refresh (m .rules) s′ mark) f ∙ refresh-fresh (m .rules) s s′ mark (made-marks s e s′ mark (stepOf m s table) q (step-marks m (m .facts) (utilities (m .rules)) s table))
+
+pub chain-fresh : (image : List ℕ) (m : Model) (at : ℕ) → decode image ≡ Got m at → {s : State} {table : List ℕ} → Reached image s table → table ≡ freshTable (m .rules) s
+chain-fresh image m at d r =
+    chain-keeps m (λ s table. table ≡ freshTable (m .rules) s) (step-fresh m) refl
+    (λ s mark table f. ap (refresh (m .rules) s mark) f ∙ refresh-fresh (m .rules) s s mark (λ b h. inl refl)) image at d r

@@ -1,0 +1,149 @@
+-- The published semantics as relations, close to its own text (D. Gall, T. Frühwirth, A Refined Operational Semantics for ACT-R), with the points
+-- that document 01 decides. Nothing here computes; that the steps of `meaning` are these transitions is said in Semantics.
+use mathlib.Core.Path.{_≡_}
+use mathlib.Core.Bool.{false}
+use mathlib.Core.List.{List, List·Memᴰ}
+use Prim.Native.Nat.{ℕ, suc, _+_, _-_, _≤_, _<_}
+use lib.ListN.{length, getD}
+use lib.Signed.{ltZ}
+use Rattle.meaning.specs.declared.Buffer.{Buffer}
+use Rattle.meaning.specs.declared.State.{State}
+use Rattle.meaning.specs.Model.{Model, Rule, Test, Action, Deed, Modify, Request, Clear, Named, Term, Symbol, Variable, Fact}
+use Rattle.meaning.specs.State.{nilAfter, bufferOf}
+use Rattle.meaning.specs.Step.{Event, Fired, Waited, largest}
+use Rattle.meaning.specs.Calls.{Ran}
+use Rattle.promises.specs.Words.{At}
+
+-- ---- matching (definition 11)
+
+-- what a term stands for, once the variables are bound
+abbrev pub standsFor : (ℕ → ℕ) → Term → ℕ
+standsFor v (Symbol x) = x
+standsFor v (Variable n) = v n
+
+-- a test holds under a binding: its buffer is visible, of its type, and each named slot has the value of its term
+pub record Holds (v : ℕ → ℕ) (s : State) (t : Test) : Type 0 where
+  pub visible : bufferOf s (t .buffer) .delay ≡ 0
+  pub typed : bufferOf s (t .buffer) .isa ≡ t .isa
+  pub valued : (n : Named) → List·Memᴰ n (t .named) → getD (bufferOf s (t .buffer) .slots) (n .slot) 0 ≡ standsFor v (n .term)
+
+-- a binding under which all tests of a rule hold
+abbrev pub Binds : Rule → State → (ℕ → ℕ) → Type 0
+Binds r s v = (t : Test) → List·Memᴰ t (r .tests) → Holds v s t
+
+-- r ⊑ σ: the rule matches if there is one
+pub record Matches (r : Rule) (s : State) : Type 0 where
+  pub binding : ℕ → ℕ
+  pub binds : Binds r s binding
+
+-- ---- selection (S_ref of section 5.1, with conflict resolution as document 01 decides it)
+
+-- rule r, number k, matches; no matching rule has a higher utility, and none of the same utility has a lower number
+pub record Selected (m : Model) (s : State) (k : ℕ) (r : Rule) : Type 0 where
+  pub numbered : At r k (m .rules)
+  pub matching : Matches r s
+  pub none-higher : (j : ℕ) (q : Rule) → At q j (m .rules) → Matches q s → ltZ (r .utility) (q .utility) ≡ false
+  pub first-of-equals : (j : ℕ) (q : Rule) → At q j (m .rules) → Matches q s → q .utility ≡ r .utility → k ≤ j
+
+-- S_ref is empty
+abbrev pub NoneSelected : Model → State → Type 0
+NoneSelected m s = (k : ℕ) (r : Rule) → At r k (m .rules) → Matches r s → ⊥
+
+-- (A state of the machine has eight buffers of eight slots. Where a state is just lists of any length, as here, what is said of a buffer or a slot
+-- is said of one that is there: that is what `< length` stands for below.)
+
+-- ---- effects of actions (definition 7, I_ref of section 5.1): what an action makes of its buffer, `old` before and `new` after
+
+-- modification: the type stays, delay 0, val(s) is v where the action names s, and old(s) otherwise
+pub record Modified (v : ℕ → ℕ) (ns : List Named) (old new : Buffer) : Type 0 where
+  pub same-type : new .isa ≡ old .isa
+  pub at-once : new .delay ≡ 0
+  pub as-many : length (new .slots) ≡ length (old .slots)
+  pub named : (n : Named) → List·Memᴰ n ns → n .slot < length (old .slots) → getD (new .slots) (n .slot) 0 ≡ standsFor v (n .term)
+  pub unnamed : (i : ℕ) → ((n : Named) → List·Memᴰ n ns → n .slot ≡ i → ⊥) → getD (new .slots) i 0 ≡ getD (old .slots) i 0
+
+-- the binding that an entry holds: after its first word, the values of variables 0 to 7
+abbrev pub valuesIn : List ℕ → ℕ → ℕ
+valuesIn entry v = getD entry (v + 1) 0
+
+-- request_b: a fact of the type asked for, whose named slots have the values asked for
+pub record Fits (v : ℕ → ℕ) (isa : ℕ) (ns : List Named) (f : Fact) : Type 0 where
+  pub typed : f .chunk .isa ≡ isa
+  pub valued : (n : Named) → List·Memᴰ n ns → getD (f .chunk .slots) (n .slot) 0 ≡ standsFor v (n .term)
+
+-- sel_req_b: the fitting fact of highest activation, the lowest number among equals
+pub record Retrieved (facts : List Fact) (v : ℕ → ℕ) (isa : ℕ) (ns : List Named) (k : ℕ) (f : Fact) : Type 0 where
+  pub numbered : At f k facts
+  pub fitting : Fits v isa ns f
+  pub none-higher : (j : ℕ) (g : Fact) → At g j facts → Fits v isa ns g → g .activation ≤ f .activation
+  pub first-of-equals : (j : ℕ) (g : Fact) → At g j facts → Fits v isa ns g → g .activation ≡ f .activation → k ≤ j
+
+pub data Effect (m : Model) (v : ℕ → ℕ) (old : Buffer) : Deed → Buffer → Type 0 where
+  modify : {ns : List Named} {new : Buffer} → Modified v ns old new → Effect m v old (Modify ns) new
+  -- the fact comes after its latency
+  request : {isa : ℕ} {ns : List Named} {k : ℕ} {f : Fact} → Retrieved (m .facts) v isa ns k f
+      → Effect m v old (Request isa ns) (record { isa = f .chunk .isa; slots = f .chunk .slots; delay = f .latency })
+  -- nil comes after the failure latency, if no fact fits
+  fail : {isa : ℕ} {ns : List Named} → ((k : ℕ) (f : Fact) → At f k (m .facts) → Fits v isa ns f → ⊥) → Effect m v old (Request isa ns) (nilAfter (m .failure))
+  clear : Effect m v old Clear (nilAfter 0)
+
+-- ---- transitions (definition 10, with the parameters of section 5.1)
+
+-- (c, d ⊖ δ): the chunk stays, the delay is lowered, not below 0 (`-` on ℕ is ⊖)
+pub record Aged (ms : ℕ) (old new : Buffer) : Type 0 where
+  pub same-type : new .isa ≡ old .isa
+  pub same-slots : new .slots ≡ old .slots
+  pub sooner : new .delay ≡ old .delay - ms
+
+-- Apply: each action has its effect, every other buffer ages by δ = 50 ms, and so does the clock
+pub record Applied (m : Model) (r : Rule) (v : ℕ → ℕ) (s s′ : State) : Type 0 where
+  pub as-many : length (s′ .buffers) ≡ length (s .buffers)
+  pub acted : (a : Action) → List·Memᴰ a (r .actions) → a .buffer < length (s .buffers) → Effect m v (bufferOf s (a .buffer)) (a .deed) (bufferOf s′ (a .buffer))
+  pub others : (b : ℕ) → b < length (s .buffers) → ((a : Action) → List·Memᴰ a (r .actions) → a .buffer ≡ b → ⊥) → Aged 50 (bufferOf s b) (bufferOf s′ b)
+  pub time : s′ .clock ≡ s .clock + 50
+
+-- d* = min { d | d > 0, γ(b) = (c, d) }
+pub record LeastDelay (s : State) (ms : ℕ) : Type 0 where
+  pub above : 0 < ms
+  pub buffer : ℕ
+  pub there : buffer < length (s .buffers)
+  pub is : bufferOf s buffer .delay ≡ ms
+  pub least : (b : ℕ) → b < length (s .buffers) → 0 < bufferOf s b .delay → ms ≤ bufferOf s b .delay
+
+-- No Rule: every buffer ages by d*, and so does the clock
+pub record Passed (ms : ℕ) (s s′ : State) : Type 0 where
+  pub as-many : length (s′ .buffers) ≡ length (s .buffers)
+  pub aged : (b : ℕ) → b < length (s .buffers) → Aged ms (bufferOf s b) (bufferOf s′ b)
+  pub time : s′ .clock ≡ s .clock + ms
+
+-- σ ↦ σ′, with what happened
+pub data Transition (m : Model) (s : State) : Event → State → Type 0 where
+  apply : {k : ℕ} {r : Rule} {s′ : State} (v : ℕ → ℕ) → Selected m s k r → Binds r s v → Applied m r v s s′ → Transition m s (Fired k) s′
+  no-rule : {ms : ℕ} {s′ : State} → NoneSelected m s → LeastDelay s ms → Passed ms s s′ → Transition m s (Waited ms) s′
+
+-- a final state: no transition is possible
+abbrev pub Final : Model → State → Type 0
+Final m s = (e : Event) (s′ : State) → Transition m s e s′ → ⊥
+
+-- so many transitions, one after the other, none past the last clock
+pub data Transitions (m : Model) : ℕ → State → State → Type 0 where
+  no-step : {s : State} → Transitions m 0 s s
+  one-step : {e : Event} {n : ℕ} {s s′ s″ : State} → Transition m s e s′ → s′ .clock ≤ largest → Transitions m n s′ s″ → Transitions m (suc n) s s″
+
+-- a transition is possible, and would pass the last clock
+pub record Passes (m : Model) (s : State) : Type 0 where
+  pub event : Event
+  pub state : State
+  pub transition : Transition m s event state
+  pub past : largest < state .clock
+
+-- why a run of so many steps asked, which made so many, ended with its number
+pub data Ended (m : Model) (asked made : ℕ) (s : State) : ℕ → Type 0 where
+  done : made ≡ asked → Ended m asked made s 0
+  full : made < asked → Passes m s → Ended m asked made s 8
+  over : made < asked → Final m s → Ended m asked made s 9
+
+-- what is promised of a run: its steps are transitions from the state handed in to the state given back, and its number says why there are no more
+pub record RanOn (m : Model) (s : State) (asked : ℕ) (a : Ran) : Type 0 where
+  pub path : Transitions m (a .made) s (a .state)
+  pub ended : Ended m asked (a .made) (a .state) (a .number)

@@ -1,0 +1,101 @@
+-- Demand 2: with the fresh table, which is the only one that a chain of calls ever holds (Keeping), the steps are the transitions of the published semantics.
+use mathlib.Core.Path.{_≡_}
+use mathlib.Core.Logic.{_↔_}
+use mathlib.Core.Bool.{true}
+use mathlib.Core.List.{List}
+use mathlib.Core.Option.{none, some}
+use Prim.Native.Nat.{ℕ, _≤_, _<_}
+use lib.ListN.{length}
+use Rattle.meaning.specs.declared.State.{State}
+use Rattle.meaning.specs.Numbers.{not-fresh, clock-full, halted}
+use Rattle.meaning.specs.Model.{Model, Rule, Named, Fact}
+use Rattle.meaning.specs.State.{bufferOf}
+use Rattle.meaning.specs.Read.{Got}
+use Rattle.meaning.specs.Image.{decode}
+use Rattle.meaning.specs.Match.{matches, freshTable}
+use Rattle.meaning.specs.Choice.{Candidate, choose, utilities}
+use Rattle.meaning.specs.Retrieval.{retrieve}
+use Rattle.meaning.specs.Step.{Event, Stopped, Made, largest, stepOf}
+use Rattle.meaning.specs.Calls.{runOf}
+use Rattle.promises.specs.Words.{At, Reached}
+use Rattle.promises.specs.Published.{Matches, Selected, NoneSelected, valuesIn, Fits, Retrieved, Transition, Final, Passes, RanOn}
+use Rattle.promises.specs.Proofs.Decoded.{decoded}
+use Rattle.promises.specs.Proofs.Matching as matching
+use Rattle.promises.specs.Proofs.Selection as selection
+use Rattle.promises.specs.Proofs.Retrieving as retrieving
+use Rattle.promises.specs.Proofs.Transitions as transitions
+use Rattle.promises.specs.Proofs.Outcomes as outcomes
+
+-- ---- the match
+
+-- A rule matches exactly if the variables can be bound so that all its tests hold.
+pub matches-exactly : (r : Rule) (s : State) → (matches r s ≡ true) ↔ Matches r s
+matches-exactly r s = (matching.matches-bind r s, matching.is-match r s)
+
+-- ---- the choice
+
+-- The rule that is chosen matches, none that matches has a higher utility, and none of the same utility a lower number.
+pub chosen-selected : (m : Model) (s : State) (c : Candidate) → choose (m .rules) (utilities (m .rules)) (freshTable (m .rules) s) ≡ some c → Selected m s (c .number) (c .rule)
+chosen-selected m s c e = selection.chosen-selected m s c e
+
+-- Nothing is chosen exactly if no rule matches.
+pub none-selected : (m : Model) (s : State) → (choose (m .rules) (utilities (m .rules)) (freshTable (m .rules) s) ≡ none) ↔ NoneSelected m s
+none-selected m s = (selection.chosen-none m s, outcomes.none-chosen m s)
+
+-- There is no second rule that could be selected.
+pub selected-once : (m : Model) (s : State) (j k : ℕ) (q r : Rule) → Selected m s j q → Selected m s k r → (j ≡ k) × (q ≡ r)
+selected-once m s j k q r a b = selection.selected-once m s j k q r a b
+
+-- ---- the retrieval
+
+-- A request finds the fitting fact of highest activation, the lowest number among equals.
+pub request-finds : (memory : List Fact) (isa : ℕ) (ns : List Named) (entry : List ℕ) (f : Fact) → retrieve memory isa ns entry ≡ some f
+    → (k : ℕ) × Retrieved memory (valuesIn entry) isa ns k f
+request-finds memory isa ns entry f e = retrieving.found-here memory isa ns entry f e
+
+-- It finds nothing, and so brings nil, exactly if no fact fits.
+pub request-nil : (memory : List Fact) (isa : ℕ) (ns : List Named) (entry : List ℕ)
+    → (retrieve memory isa ns entry ≡ none) ↔ ((k : ℕ) (f : Fact) → At f k memory → Fits (valuesIn entry) isa ns f → ⊥)
+request-nil memory isa ns entry = (retrieving.nothing-here memory isa ns entry, retrieving.here-nothing memory isa ns entry)
+
+-- ---- the step, over an accepted image
+
+module _ (image : List ℕ) (m : Model) (at : ℕ) (accepted : decode image ≡ Got m at) (s : State) where
+  -- A made step is a transition, within the clock.
+  pub step-transition : (e : Event) (s′ : State) (mark : ℕ) → stepOf m s (freshTable (m .rules) s) ≡ Made e s′ mark → Transition m s e s′ × (s′ .clock ≤ largest)
+  step-transition e s′ mark h = outcomes.made-transition m (decoded image m at accepted) s e s′ mark h
+
+  -- Every transition within the clock is the step that is made.
+  pub transition-step : (e : Event) (s′ : State) → Transition m s e s′ → s′ .clock ≤ largest → (mark : ℕ) × (stepOf m s (freshTable (m .rules) s) ≡ Made e s′ mark)
+  transition-step e s′ t c = outcomes.transition-made m (decoded image m at accepted) s e s′ t c
+
+  -- There is at most one transition.
+  pub transition-once : (e f : Event) (s₁ s₂ : State) → Transition m s e s₁ → Transition m s f s₂ → (e ≡ f) × (s₁ ≡ s₂)
+  transition-once e f s₁ s₂ a b = transitions.transition-once m (decoded image m at accepted) s a b
+
+  -- The step halts exactly in a final state, where no transition is possible,
+  pub halts-finally : (stepOf m s (freshTable (m .rules) s) ≡ Stopped halted) ↔ Final m s
+  halts-finally = (outcomes.halt-final m (decoded image m at accepted) s, outcomes.final-halt m (decoded image m at accepted) s)
+
+  -- that is, where no rule matches and nothing is pending.
+  pub final-quiet : Final m s ↔ (NoneSelected m s × ((b : ℕ) → b < length (s .buffers) → bufferOf s b .delay ≡ 0))
+  final-quiet = (outcomes.final-quiet m (decoded image m at accepted) s, λ h. transitions.stays-final m (decoded image m at accepted) s (h .0) (h .1))
+
+  -- Number 8 comes exactly where the clock would pass.
+  pub full-exactly : (stepOf m s (freshTable (m .rules) s) ≡ Stopped clock-full) ↔ Passes m s
+  full-exactly = (outcomes.full-passes m (decoded image m at accepted) s, outcomes.passes-full m (decoded image m at accepted) s)
+
+  -- Number 7 never comes.
+  pub never-stale : stepOf m s (freshTable (m .rules) s) ≡ Stopped not-fresh → ⊥
+  never-stale h = outcomes.not-seven m (decoded image m at accepted) s h
+
+  -- ---- the chain of calls
+
+  -- With the table that a caller holds after any calls, a made step is a transition.
+  pub reached-step : (table : List ℕ) → Reached image s table → (e : Event) (s′ : State) (mark : ℕ) → stepOf m s table ≡ Made e s′ mark → Transition m s e s′
+  reached-step table r e s′ mark h = outcomes.chain-step image m at accepted r e s′ mark h
+
+  -- From all that was opened, run and refreshed before: a run's steps are transitions from the state handed in to the state given back, as many as it says;
+  -- it answers 0 if they are as many as were asked, 8 if the next would pass the last clock, 9 if the state is final, and no other number.
+  pub reached-run : (table : List ℕ) → Reached image s table → (asked : ℕ) → RanOn m s asked (runOf image s table asked)
+  reached-run table r asked = outcomes.chain-runs image m at accepted r asked

@@ -1,0 +1,48 @@
+-- The words in which the promises about tables are stated.
+use mathlib.Core.Path.{_≡_}
+use mathlib.Core.Bool.{true, false}
+use mathlib.Core.List.{List, _∷_, List·Memᴰ}
+use Prim.Native.Nat.{ℕ, zero, suc, _*_}
+use lib.ListN.{length, take, drop}
+use Rattle.meaning.specs.declared.State.{State}
+use Rattle.meaning.specs.Base.{keep}
+use Rattle.meaning.specs.Model.{Model, Rule, Test}
+use Rattle.meaning.specs.State.{bufferOf}
+use Rattle.meaning.specs.Match.{shows, matches, entryOf}
+use Rattle.meaning.specs.Refresh.{testsMarked}
+use Rattle.meaning.specs.Calls.{openOf, runOf, refreshOf}
+
+-- x is number k of a list, counted from 0
+pub data At {A : Type 0} (x : A) : ℕ → List A → Type 0 where
+  first : {xs : List A} → At x zero (x ∷ xs)
+  next : {k : ℕ} {y : A} {xs : List A} → At x k xs → At x (suc k) (y ∷ xs)
+
+-- the nine words of rule k in a table
+abbrev pub entryAt : ℕ → List ℕ → List ℕ
+entryAt k table = take 9 (drop (9 * k) table)
+
+-- what a refresh promises: `table` was handed in, `new` came out, and so did the number `count`
+pub record RefreshedTo (rules : List Rule) (s : State) (mark : ℕ) (table new : List ℕ) (count : ℕ) : Type 0 where
+  -- a rule that tests a marked buffer has the fresh entry
+  pub fresh : (k : ℕ) (r : Rule) → At r k rules → testsMarked mark r ≡ true → entryAt k new ≡ entryOf r s
+  -- every other rule has the entry that it had, word for word
+  pub unaltered : (k : ℕ) (r : Rule) → At r k rules → testsMarked mark r ≡ false → entryAt k new ≡ entryAt k table
+  -- the table is as long as it was
+  pub as-long : length new ≡ length table
+  -- the number says how many rules test a marked buffer
+  pub counted : count ≡ length (keep (testsMarked mark) rules)
+
+-- the states and tables that a caller of one image can hold: those of an accepted opening, and then those that any call gives back
+-- when it is handed the state and table left before it, whatever its number says (a refused call too)
+pub data Reached (image : List ℕ) : State → List ℕ → Type 0 where
+  opened : (table : List ℕ) → openOf image table .number ≡ 0 → Reached image (openOf image table .state) (openOf image table .table)
+  ran : {s : State} {table : List ℕ} → Reached image s table → (steps : ℕ)
+      → Reached image (runOf image s table steps .state) (runOf image s table steps .table)
+  refreshed : {s : State} {table : List ℕ} → Reached image s table → (mark : ℕ) → Reached image s (refreshOf image s mark table .table)
+
+-- rule number k matches the state as it is: each of its tests finds a visible chunk of its type in its buffer
+pub record Matching (m : Model) (s : State) (k : ℕ) : Type 0 where
+  pub rule : Rule
+  pub numbered : At rule k (m .rules)
+  pub matching : matches rule s ≡ true
+  pub tests-hold : (t : Test) → List·Memᴰ t (rule .tests) → shows t (bufferOf s (t .buffer)) ≡ true

@@ -1,0 +1,2 @@
+-- Laws of a refresh.
+pub mod RefreshLaws

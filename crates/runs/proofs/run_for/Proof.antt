@@ -1,0 +1,63 @@
+-- `runs::run_for` meets its contract: the state is judged, and then the model runs in words.
+use borrow.Author.Tests.{not-true, not-false}
+use Rattle.runs.proofs.RunLaws.{run-ill, run-went}
+use borrow.Author.Needs.{needs}
+use Rattle.runs.proofs.run_for.Statement.{statement}
+use Rattle.runs.proofs.run_for.Tie as tie
+
+slice-aggregate-lay-state : tie.Need-slice-aggregate-lay-state
+slice-aggregate-lay-state c = search needs
+
+lay-state-requires : tie.Need-lay-state-requires
+lay-state-requires c κs = search needs
+
+slice-aggregate-well-formed : tie.Need-slice-aggregate-well-formed
+slice-aggregate-well-formed c = search needs
+
+well-formed-requires : tie.Need-well-formed-requires
+well-formed-requires c κs = search needs
+
+no-run-requires : tie.Need-no-run-requires
+no-run-requires c κs = search needs
+
+returns : tie.Need-returns
+returns c = let a = c .before .before .before .before .before .before .before .before .before .before .before .before .before .args in λ mo st. run-ill (a .state) (a .table .now) (a .steps) mo (a .types .now) (a .buffers) (c .before .before .before .before .before .lay-state .last .1 .0) (c .before .before .well-formed .result) (c .before .before .well-formed .ensures) (c .before .before .before .before .before .lay-state .ensures) (st .its-buffers) (st .its-types) (not-true _ (c .before .if1 .taken)) (c .no-run .result) (c .no-run .ensures) (a .events .now)
+
+slice-aggregate-advance : tie.Need-slice-aggregate-advance
+slice-aggregate-advance c = search needs
+
+advance-requires : tie.Need-advance-requires
+advance-requires c κs = search needs
+
+slice-aggregate-read-state : tie.Need-slice-aggregate-read-state
+slice-aggregate-read-state c = search needs
+
+read-state-requires : tie.Need-read-state-requires
+read-state-requires c κs = search needs
+
+same-length : tie.Need-same-length
+same-length c = search needs
+
+same-length-2 : tie.Need-same-length-2
+same-length-2 c = search needs
+
+returns-2 : tie.Need-returns-2
+returns-2 c = let a = c .before .before .before .before .before .before .before .before .before .before .before .before .before .before .before .before .before .before .before .before .before .before .before .args in λ mo st. run-went (a .state) (a .table .now) (a .steps) mo (a .types .now) (a .buffers) (c .before .before .before .before .before .before .before .before .before .before .before .before .before .before .before .lay-state .last .1 .0) (c .before .before .before .before .before .before .before .before .before .before .before .before .well-formed .result) (c .before .before .before .before .before .before .before .before .before .before .before .before .well-formed .ensures) (c .before .before .before .before .before .before .before .before .before .before .before .before .before .before .before .lay-state .ensures) (st .its-buffers) (st .its-types) (not-false _ (c .before .before .before .before .before .before .before .before .before .before .before .if1 .left)) (c .before .before .before .before .before .before .before .advance .result) (c .read-state .result) (c .before .before .before .before .before .before .before .advance .last .0) _ (a .events .now) _ (c .read-state .ensures) (c .before .before .before .before .before .before .before .advance .ensures mo (st .its-rules) (st .its-facts) (st .its-failure))
+
+pub run-for-spec : {M : Type 1} → statement M
+run-for-spec =
+    tie.close
+    (tie.spec
+    slice-aggregate-lay-state
+    lay-state-requires
+    slice-aggregate-well-formed
+    well-formed-requires
+    no-run-requires
+    returns
+    slice-aggregate-advance
+    advance-requires
+    slice-aggregate-read-state
+    read-state-requires
+    same-length
+    same-length-2
+    returns-2)

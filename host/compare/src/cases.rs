@@ -1,0 +1,105 @@
+//! The cases of `vectors/base.txt`: a call and its answer on two lines.
+
+use jirvuntsag_reference::{Buffer, State};
+
+use crate::Engine;
+
+const PATH: &str = concat!(env!("CARGO_MANIFEST_DIR"), "/../../vectors/base.txt");
+
+/// A call and the answer that it must have, as they are written.
+pub struct Case {
+    /// The call's line.
+    pub call: String,
+    /// The answer's line.
+    pub answer: String,
+}
+
+/// All cases.
+pub fn cases() -> Vec<Case> {
+    let text = std::fs::read_to_string(PATH).expect("vectors/base.txt");
+    let lines: Vec<&str> = text.lines().collect();
+    assert_eq!(lines.len() % 2, 0, "a call without an answer");
+    lines.chunks_exact(2).map(|pair| Case { call: pair[0].into(), answer: pair[1].into() }).collect()
+}
+
+impl Case {
+    /// The image of an opening that is accepted, and the words of the table handed in.
+    pub fn accepted_opening(&self) -> Option<(Vec<u8>, usize)> {
+        let parts: Vec<&str> = self.call.split(' ').collect();
+        match parts[..] {
+            ["open", image, table] if self.answer.starts_with("0 ") => Some((bytes(image), words(table).len())),
+            _ => None,
+        }
+    }
+
+    /// What an engine answers, written as the answer is.
+    pub fn answered_by(&self, engine: &Engine) -> String {
+        let parts: Vec<&str> = self.call.split(' ').collect();
+        match parts[..] {
+            ["open", image, table] => {
+                let mut table = words(table);
+                let (number, state) = (engine.open)(&bytes(image), &mut table);
+                format!("{number} {} {}", show_state(&state), show_words(&table))
+            }
+            ["run", image, from, table, steps] => {
+                let mut table = words(table);
+                let steps = steps.parse().expect("steps");
+                let (number, after, made) = (engine.run)(&bytes(image), state(from), &mut table, steps);
+                format!("{number} {} {} {made}", show_state(&after), show_words(&table))
+            }
+            ["refresh", image, from, mark, table] => {
+                let mut table = words(table);
+                let mark = mark.parse().expect("mark");
+                let (number, count) = (engine.refresh)(&bytes(image), &state(from), mark, &mut table);
+                format!("{number} {count} {}", show_words(&table))
+            }
+            ["print", image] => (engine.print)(&bytes(image)).bytes().map(|byte| format!("{byte:02x}")).collect(),
+            _ => panic!("unknown call {}", self.call),
+        }
+    }
+}
+
+/// Bytes from lower-case hex, `-` for none.
+fn bytes(hex: &str) -> Vec<u8> {
+    if hex == "-" {
+        return Vec::new();
+    }
+    assert!(hex.len().is_multiple_of(2), "odd hex {hex}");
+    (0..hex.len()).step_by(2).map(|i| u8::from_str_radix(&hex[i..i + 2], 16).expect("hex")).collect()
+}
+
+/// Words joined by commas, `-` for none.
+fn words(text: &str) -> Vec<u16> {
+    if text == "-" {
+        return Vec::new();
+    }
+    text.split(',').map(|word| word.parse().expect("word")).collect()
+}
+
+/// `CLOCK/B0/../B7`.
+fn state(text: &str) -> State {
+    let (clock, buffers) = text.split_once('/').expect("clock");
+    let buffers: Vec<Buffer> = buffers.split('/').map(|text| buffer(&words(text))).collect();
+    State { clock: clock.parse().expect("clock"), buffers: buffers.try_into().expect("eight buffers") }
+}
+
+/// Type, eight slots, delay.
+fn buffer(words: &[u16]) -> Buffer {
+    assert_eq!(words.len(), 10);
+    Buffer { isa: words[0], slots: words[1..9].try_into().expect("eight slots"), delay: words[9] }
+}
+
+fn show_words(words: &[u16]) -> String {
+    if words.is_empty() {
+        return "-".into();
+    }
+    words.iter().map(u16::to_string).collect::<Vec<_>>().join(",")
+}
+
+fn show_state(state: &State) -> String {
+    let buffers = state.buffers.iter().map(|buffer| {
+        let words = [&[buffer.isa], &buffer.slots[..], &[buffer.delay]].concat();
+        format!("/{}", show_words(&words))
+    });
+    format!("{}{}", state.clock, buffers.collect::<String>())
+}

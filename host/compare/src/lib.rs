@@ -1,0 +1,50 @@
+//! Two engines in one shape, so that both can be handed the same and held to the same.
+
+mod cases;
+mod printing;
+
+pub use cases::{cases, Case};
+
+use jirvuntsag_proved as proved;
+use jirvuntsag_reference as reference;
+use jirvuntsag_reference::{Event, State};
+
+/// The calls of an engine.
+pub struct Engine {
+    /// What a failing test calls it.
+    pub name: &'static str,
+    /// Words of an image's table.
+    pub table_len: fn(&[u8]) -> usize,
+    /// Number and opening state; the table is written.
+    pub open: fn(&[u8], &mut [u16]) -> (u8, State),
+    /// Number, state and steps made; the table is written.
+    pub run: fn(&[u8], State, &mut [u16], u16) -> (u8, State, u16),
+    /// Number, state and each step; the table is written.
+    pub trace: fn(&[u8], State, &mut [u16], u16) -> (u8, State, Vec<Event>),
+    /// Number and count of refreshed rules; the table is written.
+    pub refresh: fn(&[u8], &State, u16, &mut [u16]) -> (u8, u16),
+    /// The lines of the printing program.
+    pub print: fn(&[u8]) -> String,
+}
+
+/// The reference engine.
+pub const REFERENCE: Engine = Engine {
+    name: "reference",
+    table_len: reference::table_len,
+    open: reference::open,
+    run: reference::run,
+    trace: reference::trace,
+    refresh: reference::refresh,
+    print: reference::print,
+};
+
+/// The proved library.
+pub const PROVED: Engine = Engine {
+    name: "proved",
+    table_len: proved::table_len,
+    open: proved::open,
+    run: proved::run,
+    trace: proved::trace,
+    refresh: proved::refresh,
+    print: printing::print_proved,
+};

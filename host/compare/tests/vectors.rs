@@ -1,0 +1,38 @@
+//! Every case of the vectors, on both engines.
+
+use jirvuntsag_compare::{cases, Engine, PROVED, REFERENCE};
+
+/// Holds an engine to every case, and tells all that differ.
+fn hold(engine: &Engine) {
+    let cases = cases();
+    assert_eq!(cases.len(), 456);
+    let mut wrong = String::new();
+    for case in &cases {
+        let given = case.answered_by(engine);
+        if given != case.answer {
+            wrong += &format!("{}\nwanted {}\ngiven  {given}\n", case.call, case.answer);
+        }
+    }
+    assert!(wrong.is_empty(), "{} differs\n{wrong}", engine.name);
+}
+
+#[test]
+fn the_reference_answers_every_case() {
+    hold(&REFERENCE);
+}
+
+#[test]
+fn the_proved_library_answers_every_case() {
+    hold(&PROVED);
+}
+
+#[test]
+fn an_accepted_table_has_the_length_that_is_told() {
+    let openings: Vec<_> = cases().iter().filter_map(|case| case.accepted_opening()).collect();
+    assert!(!openings.is_empty());
+    for (image, words) in &openings {
+        for engine in [&REFERENCE, &PROVED] {
+            assert_eq!((engine.table_len)(image), *words, "{}", engine.name);
+        }
+    }
+}

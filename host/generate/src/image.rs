@@ -1,0 +1,59 @@
+//! Damaged images.
+
+use jirvuntsag_packing::Packed;
+
+use crate::rng::Rng;
+
+/// What was done to an image.
+#[derive(Clone, Copy, PartialEq, Eq, Debug)]
+pub enum Damage {
+    /// Cut at a byte.
+    Cut(usize),
+    /// One bit flipped.
+    Flip(usize),
+    /// Bytes appended.
+    Append(usize),
+    /// A field set to another value.
+    Field(usize, u16),
+    /// Grown to more than 65,536 bytes.
+    Oversize,
+}
+
+/// A damaged copy of an image and what was done.
+pub fn damage(rng: &mut Rng, packed: &Packed) -> (Damage, Vec<u8>) {
+    let mut image = packed.bytes.clone();
+    let damage = match rng.below(20) {
+        0..=4 => Damage::Cut(rng.below(image.len())),
+        5..=10 => Damage::Flip(rng.below(8 * image.len())),
+        11..=12 => Damage::Append(rng.pick(&[1, 1, 1, 2, 9])),
+        13 if rng.chance(30) => Damage::Oversize,
+        _ => field_damage(rng, packed),
+    };
+    match damage {
+        Damage::Cut(length) => image.truncate(length),
+        Damage::Flip(bit) => image[bit / 8] ^= 0x80 >> (bit % 8),
+        Damage::Append(count) => image.resize(image.len() + count, rng.pick(&[0, 0, 1, 255])),
+        Damage::Field(field, value) => packed.fields[field].set(&mut image, value),
+        Damage::Oversize => image.resize(65_537, 0),
+    }
+    (damage, image)
+}
+
+/// A field and a value for it: any, one more or one less, or all ones.
+fn field_damage(rng: &mut Rng, packed: &Packed) -> Damage {
+    // Small fields are counts, types, buffers, kinds and masks, which have rules; slots have none.
+    let mut number = rng.below(packed.fields.len());
+    if packed.fields[number].width == 12 || packed.fields[number].width == 16 {
+        number = rng.below(packed.fields.len());
+    }
+    let field = &packed.fields[number];
+    let all = ((1_u32 << field.width) - 1) as u16;
+    let old = field.get(&packed.bytes);
+    let value = match rng.below(5) {
+        0 => old.wrapping_add(1) & all,
+        1 => old.wrapping_sub(1) & all,
+        2 => all,
+        _ => rng.word() as u16 & all,
+    };
+    Damage::Field(number, value)
+}

@@ -1,0 +1,22 @@
+//! A deterministic generator for differential tests of document 01.
+//!
+//! The same seed always gives the same models, states, tables, marks and images;
+//! there is no other source of randomness.
+
+mod case;
+mod image;
+mod model;
+mod rng;
+mod seeds;
+mod shape;
+mod state;
+mod table;
+
+pub use case::{case, Case};
+pub use image::{damage, Damage};
+pub use model::{model, model_of};
+pub use rng::Rng;
+pub use seeds::{each_seed, SEED_VARIABLE};
+pub use shape::Shape;
+pub use state::{broken_state, clock, mark, state, steps, BrokenBy};
+pub use table::{guessed_table, table, TableKind};

@@ -1,0 +1,66 @@
+//! The functions of `include/jirvuntsag.h`, each behind a safe one: a slice is handed over as its address and its length.
+#![allow(unsafe_code)]
+
+use crate::words::STATE;
+
+extern "C" {
+    fn jirvuntsag_table_len(image: *const u8, image_len: usize) -> u32;
+    fn jirvuntsag_open(
+        image: *const u8,
+        image_len: usize,
+        table: *mut u16,
+        table_len: usize,
+        state: *mut [u32; STATE],
+    ) -> u32;
+    fn jirvuntsag_run(
+        image: *const u8,
+        image_len: usize,
+        state: *mut [u32; STATE],
+        table: *mut u16,
+        table_len: usize,
+        steps: u16,
+    ) -> u32;
+    fn jirvuntsag_trace(
+        image: *const u8,
+        image_len: usize,
+        state: *mut [u32; STATE],
+        table: *mut u16,
+        table_len: usize,
+        steps: u16,
+        events: *mut u32,
+        events_len: usize,
+    ) -> u32;
+    fn jirvuntsag_refresh(
+        image: *const u8,
+        image_len: usize,
+        state: *const [u32; STATE],
+        mark: u16,
+        table: *mut u16,
+        table_len: usize,
+    ) -> u32;
+}
+
+// Safety, of each call below: addresses and lengths are those of Rust's own slices, borrowed for the call, and what is
+// written is borrowed alone. The library asks for nothing else: it takes all contents.
+
+pub fn table_len(image: &[u8]) -> u32 {
+    unsafe { jirvuntsag_table_len(image.as_ptr(), image.len()) }
+}
+
+pub fn open(image: &[u8], table: &mut [u16], state: &mut [u32; STATE]) -> u32 {
+    unsafe { jirvuntsag_open(image.as_ptr(), image.len(), table.as_mut_ptr(), table.len(), state) }
+}
+
+pub fn run(image: &[u8], state: &mut [u32; STATE], table: &mut [u16], steps: u16) -> u32 {
+    unsafe { jirvuntsag_run(image.as_ptr(), image.len(), state, table.as_mut_ptr(), table.len(), steps) }
+}
+
+pub fn trace(image: &[u8], state: &mut [u32; STATE], table: &mut [u16], steps: u16, events: &mut [u32]) -> u32 {
+    let (image, image_len) = (image.as_ptr(), image.len());
+    let (table, table_len) = (table.as_mut_ptr(), table.len());
+    unsafe { jirvuntsag_trace(image, image_len, state, table, table_len, steps, events.as_mut_ptr(), events.len()) }
+}
+
+pub fn refresh(image: &[u8], state: &[u32; STATE], mark: u16, table: &mut [u16]) -> u32 {
+    unsafe { jirvuntsag_refresh(image.as_ptr(), image.len(), state, mark, table.as_mut_ptr(), table.len()) }
+}

@@ -1,0 +1,35 @@
+//! An independent engine for document 01.
+//!
+//! An image is decoded once into ordinary structs ([`Model`]); a run keeps the
+//! matches from step to step and matches again only the rules that test a marked
+//! buffer. Every call is total: any bytes, state, table, mark and step count.
+
+mod bits;
+mod board;
+mod calls;
+mod decode;
+mod matching;
+mod memory;
+mod model;
+mod plan;
+mod print;
+mod set;
+mod state;
+mod step;
+
+pub use bits::Refusal;
+pub use calls::{open, refresh, run, table_len, trace, Event, Kind};
+pub use model::{Action, Chunk, Deed, Fact, Model, Pattern, Rule, Term, Test};
+pub use print::{print, PRINTED_STEPS};
+pub use state::{Buffer, State};
+
+/// Most buffers of an image, and the buffers of every state.
+pub const BUFFERS: usize = 8;
+/// Most slots of a type, and the slot values of every buffer.
+pub const SLOTS: usize = 8;
+/// Words of one table entry: the match word and eight variables.
+pub const WORDS: usize = 9;
+/// Largest image in bytes.
+pub const IMAGE_LIMIT: usize = 65_536;
+/// Milliseconds of one firing.
+pub const FIRING: u16 = 50;

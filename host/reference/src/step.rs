@@ -1,0 +1,160 @@
+//! One step: fire, wait or stop.
+
+use crate::board::{place, Board};
+use crate::matching::{Known, NO_MATCH};
+use crate::model::{Action, Deed, Model};
+use crate::set::Set;
+use crate::state::{Buffer, State};
+use crate::{FIRING, WORDS};
+
+/// What a step did, or the number with which it was not made.
+#[derive(Clone, Copy, PartialEq, Eq, Debug)]
+pub(crate) enum Step {
+    Fire(u16),
+    Wait(u16),
+    Stop(u8),
+}
+
+/// A run under way: the state, the table and what is known of it.
+pub(crate) struct Runner<'a> {
+    model: &'a Model,
+    board: Board,
+    entries: &'a mut [[u16; WORDS]],
+    known: Known,
+}
+
+impl<'a> Runner<'a> {
+    /// Takes up a state and a table of the right length.
+    pub fn new(model: &'a Model, state: &State, table: &'a mut [u16]) -> Self {
+        let (entries, _) = table.as_chunks_mut::<WORDS>();
+        let known = Known::of(&model.plan, entries);
+        Runner { model, board: Board::new(&model.plan, state), entries, known }
+    }
+
+    /// The state after the steps made.
+    pub fn state(&self) -> State {
+        self.board.state()
+    }
+
+    /// The clock after the steps made.
+    pub fn clock(&self) -> u32 {
+        self.board.clock
+    }
+
+    /// Makes one step and refreshes the table with its mark.
+    #[inline]
+    pub fn step(&mut self) -> Step {
+        let (step, mark) = match self.known.matching.first() {
+            Some(rank) => self.fire(rank),
+            None => wait(self.model, &mut self.board),
+        };
+        if mark != 0 {
+            self.model.plan.refresh(&self.board, mark, self.entries, &mut self.known);
+        }
+        step
+    }
+
+    /// Fires the rule at this rank if its entry is the fresh one and the clock has room.
+    #[inline]
+    fn fire(&mut self, rank: usize) -> (Step, u8) {
+        let plan = &self.model.plan;
+        let number = plan.rules[rank].number;
+        let entry = &self.entries[usize::from(number)];
+        // An entry written by this run stays fresh: whatever changes its buffers marks them.
+        if !self.known.fresh.contains(rank) {
+            if plan.fresh_entry(rank, &self.board) != *entry {
+                return (Step::Stop(7), 0);
+            }
+            self.known.fresh.insert(rank);
+        }
+        fire(self.model, number, entry, &mut self.board)
+    }
+}
+
+/// Fires a rule whose entry is fresh; gives the mark.
+#[inline]
+fn fire(model: &Model, number: u16, entry: &[u16; WORDS], board: &mut Board) -> (Step, u8) {
+    let Some(clock) = board.clock.checked_add(u32::from(FIRING)) else {
+        return (Step::Stop(8), 0);
+    };
+    board.clock = clock;
+    // An action leaves a delay of its own, so all delays may lose their 50 first.
+    let mut mark = board.pass(FIRING);
+    let head = &model.parts.rules[usize::from(number)];
+    // The entry holds the values from before the step, and an action reads no buffer but its own.
+    for action in model.parts.actions(head) {
+        act(model, action, entry, board);
+        mark |= 1 << action.buffer;
+    }
+    show(model, board, mark);
+    (Step::Fire(number), mark)
+}
+
+/// One action on its buffer.
+#[inline]
+fn act(model: &Model, action: &Action, entry: &[u16; WORDS], board: &mut Board) {
+    match action.deed {
+        // A modified buffer was tested, so it is visible: its delay is 0 and stays 0.
+        Deed::Modify => {
+            for (slot, term) in action.pattern.packed() {
+                board.set(place(action.buffer, slot), term.value(entry));
+            }
+        }
+        Deed::Request(isa) => board.put(action.buffer, model.memory.answer(isa, &action.pattern, entry)),
+        Deed::Clear => board.put(action.buffer, Buffer::default()),
+    }
+}
+
+/// Waits for the smallest delay above 0; gives the mark.
+#[inline]
+fn wait(model: &Model, board: &mut Board) -> (Step, u8) {
+    let Some(least) = board.least_delay() else {
+        return (Step::Stop(9), 0);
+    };
+    let Some(clock) = board.clock.checked_add(u32::from(least)) else {
+        return (Step::Stop(8), 0);
+    };
+    board.clock = clock;
+    let mark = board.pass(least);
+    show(model, board, mark);
+    (Step::Wait(least), mark)
+}
+
+/// Notes what the marked buffers show now.
+#[inline]
+fn show(model: &Model, board: &mut Board, mark: u8) {
+    let mut left = mark;
+    while left != 0 {
+        board.show(&model.plan, left.trailing_zeros() as usize);
+        left &= left - 1;
+    }
+}
+
+impl Model {
+    /// A run that keeps no table: every rule is matched afresh at each step. For measurements.
+    pub fn run_fresh(&self, state: State, steps: u16) -> (u8, State, u16) {
+        if !self.is_well_formed(&state) {
+            return (6, state, 0);
+        }
+        let mut board = Board::new(&self.plan, &state);
+        for made in 0..steps {
+            let mut matching = Set::default();
+            for word in 0..self.plan.words {
+                *matching.word_mut(word) = self.plan.matches(word, self.plan.all(word), &board, |_| ());
+            }
+            let (step, _) = match matching.first() {
+                Some(rank) => {
+                    let rule = &self.plan.rules[rank];
+                    let mut entry = NO_MATCH;
+                    rule.write_entry(&board, &mut entry);
+                    fire(self, rule.number, &entry, &mut board)
+                }
+                None => wait(self, &mut board),
+            };
+            if let Step::Stop(number) = step {
+                return (number, board.state(), made);
+            }
+        }
+        (0, board.state(), steps)
+    }
+}

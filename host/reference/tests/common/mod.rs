@@ -1,0 +1,96 @@
+//! What several test files share.
+#![allow(dead_code)] // Not every file uses all of it.
+
+use jirvuntsag_packing as packing;
+use jirvuntsag_packing::ModelSpec;
+use jirvuntsag_reference::{Chunk, Deed, Model, Pattern, Rule, State, Term};
+
+/// Image P1: one buffer and nothing else.
+pub const P1: [u8; 8] = [1, 0x10, 0, 0, 0, 0, 0, 0];
+
+/// The number of a decoding, 0 if accepted.
+pub fn number(image: &[u8]) -> u8 {
+    Model::decode(image).map_or_else(|refusal| refusal.number, |_| 0)
+}
+
+/// A decoded model as a specification.
+pub fn spec_of(model: &Model) -> ModelSpec {
+    let chunk = |chunk: &Chunk| {
+        let count = model.slot_count(u16::from(chunk.isa));
+        packing::ChunkSpec::new(chunk.isa, &chunk.slots[..count])
+    };
+    ModelSpec {
+        failure: model.failure_latency(),
+        types: (1..=model.types()).map(|isa| model.slot_count(isa as u16) as u8).collect(),
+        opening: model.opening().iter().map(chunk).collect(),
+        facts: model
+            .facts()
+            .iter()
+            .map(|fact| packing::FactSpec {
+                chunk: chunk(&fact.chunk),
+                activation: fact.activation,
+                latency: fact.latency,
+            })
+            .collect(),
+        rules: model.rules().map(rule_spec).collect(),
+    }
+}
+
+/// A decoded rule as a specification.
+fn rule_spec(rule: Rule) -> packing::RuleSpec {
+    let test = |test: &jirvuntsag_reference::Test| packing::TestSpec {
+        buffer: test.buffer,
+        isa: test.isa,
+        pattern: pattern_spec(&test.pattern),
+    };
+    let action = |action: &jirvuntsag_reference::Action| packing::ActionSpec {
+        buffer: action.buffer,
+        deed: match action.deed {
+            Deed::Modify => packing::Deed::Modify(pattern_spec(&action.pattern)),
+            Deed::Request(isa) => packing::Deed::Request(isa, pattern_spec(&action.pattern)),
+            Deed::Clear => packing::Deed::Clear,
+        },
+    };
+    packing::RuleSpec {
+        utility: rule.utility as u16,
+        variables: rule.variables,
+        tests: rule.tests.iter().map(test).collect(),
+        actions: rule.actions.iter().map(action).collect(),
+    }
+}
+
+/// A decoded pattern as a specification.
+fn pattern_spec(pattern: &Pattern) -> packing::PatternSpec {
+    let term = |(_, term)| match term {
+        Term::Symbol(symbol) => packing::Term::Symbol(symbol),
+        Term::Variable(number) => packing::Term::Variable(u16::from(number)),
+    };
+    packing::PatternSpec { mask: pattern.mask(), terms: pattern.named().map(term).collect() }
+}
+
+/// The entry of a rule by the letter of document 01's definition of a match.
+pub fn entry_by_definition(spec: &ModelSpec, rule: usize, state: &State) -> [u16; 9] {
+    let mut values: [Option<u16>; 8] = [None; 8];
+    for test in &spec.rules[rule].tests {
+        let buffer = &state.buffers[usize::from(test.buffer)];
+        if buffer.delay != 0 || buffer.isa != u16::from(test.isa) {
+            return [0; 9];
+        }
+        for (slot, term) in test.pattern.named() {
+            let found = buffer.slots[slot];
+            let wanted = match term {
+                packing::Term::Symbol(symbol) => symbol,
+                packing::Term::Variable(number) => *values[usize::from(number)].get_or_insert(found),
+            };
+            if found != wanted {
+                return [0; 9];
+            }
+        }
+    }
+    let mut entry = [0; 9];
+    entry[0] = 1;
+    for (word, value) in entry[1..].iter_mut().zip(values) {
+        *word = value.unwrap_or(0);
+    }
+    entry
+}

@@ -1,0 +1,57 @@
+/* Jirvuntsag: runs ACT-R models from a packed image.
+ *
+ * No call allocates, keeps anything between calls, or fails: whatever it is handed, it does its work or answers a number.
+ * Every pointer must point to as much as its length says, and what a call writes must not overlap what else it is handed.
+ *
+ * Numbers: 0 all that was asked is done; 1 image over 65,536 bytes; 2 a field is not wholly there; 3 a field breaks its rule;
+ * 4 a pad bit is 1, or a byte follows; 5 the table's length is not 9 x rules; 6 the state is not well formed;
+ * 7 the chosen entry is not the fresh one; 8 the clock would pass 4,294,967,295; 9 halted before the steps asked were made;
+ * 10 the mark is 2 to the power of the buffer count, or more.
+ *
+ * A state is 81 words: the clock in ms, then for each of the eight buffers its type, eight slot values and its delay in ms.
+ * A type, slot or delay over 65,535 makes the state not well formed (6).
+ * A table is nine 16-bit words for each rule: 1 and the values of variables 0 to 7 if the rule matches, nine zeros if not.
+ */
+#ifndef JIRVUNTSAG_H
+#define JIRVUNTSAG_H
+
+#include <stddef.h>
+#include <stdint.h>
+
+#ifdef __cplusplus
+extern "C" {
+#endif
+
+#define JIRVUNTSAG_STATE_WORDS 81
+
+/* The number (0 to 10) in an answer, and the steps made or the rules counted. */
+#define JIRVUNTSAG_NUMBER(answer) ((answer) & 0xffffu)
+#define JIRVUNTSAG_COUNT(answer) ((answer) >> 16)
+
+/* The words that the table of this image needs: 9 for each rule. 0 for an image that is refused (and for one without rules). */
+uint32_t jirvuntsag_table_len(const uint8_t *image, size_t image_len);
+
+/* Opens an image. Answers a number: 0 to 5; the count is 0.
+ * Leaves: at 0 the opening state and the fresh table; otherwise a state of zeros, and the table as it was. */
+uint32_t jirvuntsag_open(const uint8_t *image, size_t image_len, uint16_t *table, size_t table_len, uint32_t state[81]);
+
+/* Runs at most `steps` steps. Answers a number (0 to 9) and, times 65,536, the steps made.
+ * Leaves: the state and the table after the steps made; at 1 to 6 both as they were, and no step is made. */
+uint32_t jirvuntsag_run(const uint8_t *image, size_t image_len, uint32_t state[81], uint16_t *table, size_t table_len, uint16_t steps);
+
+/* Runs as jirvuntsag_run does, with the same answer, and notes step k (from 0) in events[3 k .. 3 k + 2], if these are there:
+ * the clock after the step; 0 and the rule that fired, or 1 and the ms waited.
+ * Leaves: as jirvuntsag_run; the words of events past those of the steps made as they were. */
+uint32_t jirvuntsag_trace(const uint8_t *image, size_t image_len, uint32_t state[81], uint16_t *table, size_t table_len, uint16_t steps,
+                          uint32_t *events, size_t events_len);
+
+/* Makes the entries of the rules that test a marked buffer afresh; buffer b has weight 2 to the power b in `mark`.
+ * Answers a number (0 to 6, or 10) and, times 65,536, how many rules test a marked buffer (0 if the number is not 0).
+ * Leaves: at 0 these rules' entries fresh and the others as they were; otherwise the table as it was. The state is only read. */
+uint32_t jirvuntsag_refresh(const uint8_t *image, size_t image_len, const uint32_t state[81], uint16_t mark, uint16_t *table, size_t table_len);
+
+#ifdef __cplusplus
+}
+#endif
+
+#endif
