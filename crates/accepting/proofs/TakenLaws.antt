@@ -1,9 +1,11 @@
 -- What is taken, by how the image was laid out and how long the table is; and what that says of a call.
 use Prim.Native.Nat.{ℕ, _*_}
 use mathlib.Core.Path.{_≡_, refl, sym, _∙_}
+use mathlib.Core.Bool.{Bool, true, false}
 use mathlib.Core.List.{List}
 use native.Mathlib.Omega.{arith}
-use borrow.Author.Tests.{eq-eqb, ne-eqb}
+use borrow.Author.Tests.{eq-eqb, ne-eqb, eqb-true, eqb-false}
+use lib.Dec.{eqb}
 use lib.ListN.{length}
 use Rattle.meaning.specs.Model.{Model}
 use Rattle.meaning.specs.Read.{Read, Refused, Got}
@@ -56,8 +58,9 @@ module _ (begun : ImageRead) (image facts heads words : List ℕ) (w : Walk) (me
         right-length = never n;
       }
 
-  pub taken-other : (q : ℕ) → w ≡ Next q → (lent ≡ 9 * begun .rules → ⊥) → TakenMet (taken.Refused 5) begun image lent facts heads words
-  taken-other q e z =
+  pub taken-other : (q : ℕ) → w ≡ Next q → (right : Bool) → right ≡ eqb lent (9 * begun .rules) → right ≡ false → TakenMet (taken.Refused 5) begun image lent facts heads words
+  taken-other q e right judged g =
+      let z : lent ≡ 9 * begun .rules → ⊥ = eqb-false lent (9 * begun .rules) (sym judged ∙ g) in
       record {
         is-taken = λ table l. accepted-other image table m q (sym (answer-next w m q e) ∙ met .reads) (λ g. z (omega (arith, rules-many)));
         laid = never 5;
@@ -65,8 +68,9 @@ module _ (begun : ImageRead) (image facts heads words : List ℕ) (w : Walk) (me
         right-length = never 5;
       }
 
-  pub taken-right : (q : ℕ) → w ≡ Next q → lent ≡ 9 * begun .rules → TakenMet taken.Accepted begun image lent facts heads words
-  taken-right q e g =
+  pub taken-right : (q : ℕ) → w ≡ Next q → (right : Bool) → right ≡ eqb lent (9 * begun .rules) → right ≡ true → TakenMet taken.Accepted begun image lent facts heads words
+  taken-right q e right judged h =
+      let g : lent ≡ 9 * begun .rules = eqb-true lent (9 * begun .rules) (sym judged ∙ h) in
       record {
         is-taken = λ table l. accepted-right image table m q (sym (answer-next w m q e) ∙ met .reads) (omega (arith, rules-many));
         laid = λ x. met .laid q e;

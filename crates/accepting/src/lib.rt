@@ -1,5 +1,7 @@
 // What every call looks at first, numbers 1 to 5: the image, and then the table's length.
+ghost use mathlib.Core.Path.{_≡_};
 ghost use Prim.Native.Nat.{_*_, _≤_};
+ghost use lib.Dec.{eqb};
 ghost use Rattle.image.specs.Whole.{Begun};
 ghost use Rattle.accepting.specs.Acceptance.{Room, TakenMet};
 use image::ImageRead;
@@ -9,6 +11,13 @@ use layout::Walk;
 pub enum Taken {
     Accepted,
     Refused(u8),
+}
+
+// Whether a table of so many words has the right length for so many rules: nine words for each.
+pub fn right_length(lent: usize, rules: u16) -> bool
+    ensures { λ r. ⌜ r ≡ eqb lent (9 * rules) ⌝ }
+{
+    lent == 9 * (rules as usize)
 }
 
 // Lays the image out in words, and then looks at the table's length.
@@ -27,7 +36,7 @@ pub fn accept(
     if let Walk::Bad(number, _) = walk {
         return Taken::Refused(number);
     }
-    if lent != 9 * (begun.rules as usize) {
+    if !right_length(lent, begun.rules) {
         return Taken::Refused(5);
     }
     Taken::Accepted

@@ -4,7 +4,8 @@ use mathlib.Core.Path.{_≡_, refl, sym, ap, ap₂, _∙_}
 use mathlib.Core.Bool.{Bool, true, false}
 use mathlib.Core.List.{List}
 use native.Mathlib.Omega.{arith}
-use borrow.Author.Tests.{le-leb, lt-leb}
+use borrow.Author.Tests.{le-leb, lt-leb, ltb-true, ltb-false}
+use lib.Dec.{ltb}
 use lib.Pow.{pow-mono}
 use lib.ListN.{length}
 use Rattle.meaning.specs.declared.State.{State}
@@ -30,6 +31,10 @@ refreshed number count table = record { number = number; count = count; table = 
 
 abbrev none : ℕ → RefreshDone
 none number = record { number = number; count = 0 }
+
+-- 1 shifted by at most 8 is a power of two, within 32 bits
+pub shifted : (buffers : ℕ) → buffers ≤ 8 → 1 * 2 ^ buffers % 4294967296 ≡ 2 ^ buffers
+shifted buffers few = omega (arith, pow-mono {i = buffers} {j = 8} few)
 
 -- ---- by what was accepted
 
@@ -58,20 +63,17 @@ module _ (s : State) (mark : ℕ) (table : List ℕ) (m : Model) (types : List �
   pub refresh-ill : well ≡ false → (r : RefreshDone) → r ≡ none 6 → refreshedIn r table ≡ refreshedBy s mark table (Got m 0)
   refresh-ill g r e = rw (e, formed false g)
 
-  module _ (few : buffers ≤ 8) (ok : well ≡ true) where
-    power : 1 * 2 ^ buffers % 4294967296 ≡ 2 ^ buffers
-    power = omega (arith, pow-mono {i = buffers} {j = 8} few)
-
-    pub refresh-mark : 1 * 2 ^ buffers % 4294967296 ≤ mark → (r : RefreshDone) → r ≡ none 10 → refreshedIn r table ≡ refreshedBy s mark table (Got m 0)
-    refresh-mark h r e =
-        let l : 2 ^ m .buffers ≤ mark = rw eb (omega (arith, power)) in
+  module _ (ok : well ≡ true) (allowed : Bool) (allows : allowed ≡ ltb mark (2 ^ buffers)) where
+    pub refresh-mark : allowed ≡ false → (r : RefreshDone) → r ≡ none 10 → refreshedIn r table ≡ refreshedBy s mark table (Got m 0)
+    refresh-mark g r e =
+        let l : 2 ^ m .buffers ≤ mark = rw eb (ltb-false mark (2 ^ buffers) (sym allows ∙ g)) in
         rw (e, formed true ok, le-leb (2 ^ m .buffers) mark l)
 
-    pub refresh-done : mark < 1 * 2 ^ buffers % 4294967296 → (rules : List Rule) → m .rules ≡ rules → (count : ℕ) (table′ : List ℕ)
+    pub refresh-done : allowed ≡ true → (rules : List Rule) → m .rules ≡ rules → (count : ℕ) (table′ : List ℕ)
         → ((clock : ℕ) → table′ ≡ refresh rules (stateIn w clock) mark table) → count ≡ refreshCount rules mark
         → refreshed 0 count table′ ≡ refreshedBy s mark table (Got m 0)
-    refresh-done h rules er count table′ made counted =
-        let l : mark < 2 ^ m .buffers = rw eb (omega (arith, power)) in
+    refresh-done g rules er count table′ made counted =
+        let l : mark < 2 ^ m .buffers = rw eb (ltb-true mark (2 ^ buffers) (sym allows ∙ g)) in
         let at : table′ ≡ refresh (m .rules) s mark table = rw er (made (s .clock) ∙ ap (λ (x : State). refresh rules x mark table) (state-is w s stands)) in
         let many : count ≡ refreshCount (m .rules) mark = rw er counted in
         rw (formed true ok, lt-leb (2 ^ m .buffers) mark l) (ap₂ (refreshed 0) many at)

@@ -1,6 +1,7 @@
 // Refreshing a table: refused by number, or the entries of the rules that test a marked buffer made afresh.
 ghost use mathlib.Core.Path.{_≡_};
-ghost use Prim.Native.Nat.{_*_, _≤_};
+ghost use Prim.Native.Nat.{_*_, _^_, _≤_};
+ghost use lib.Dec.{ltb};
 ghost use lib.ListN.{length};
 ghost use Rattle.meaning.specs.Model.{Model};
 ghost use Rattle.meaning.specs.Read.{Got};
@@ -29,6 +30,14 @@ fn no_refresh(number: u8) -> RefreshDone
     }
 }
 
+// Whether a mark is allowed for so many buffers: it is below 2 to the power of their count.
+pub fn mark_allowed(mark: u16, buffers: u16) -> bool
+    requires { ⌜ buffers ≤ 8 ⌝ }
+    ensures { λ r. ⌜ r ≡ ltb mark (2 ^ buffers) ⌝ }
+{
+    (mark as u32) < 1u32 << buffers
+}
+
 // What is left to refuse once the image and the table's length are accepted, and the refresh.
 fn refresh_for(
     table: &mut [u16],
@@ -48,7 +57,7 @@ fn refresh_for(
     if !states::well_formed(&now, types, buffers as usize) {
         return no_refresh(6);
     }
-    if 1u32 << buffers <= mark as u32 {
+    if !mark_allowed(mark, buffers) {
         return no_refresh(10);
     }
     let count = tables::refresh(table, heads, words, n, &now, mark);

@@ -1,5 +1,6 @@
 -- `accepting::accept` meets its contract: the image first, then the table's length.
 use Rattle.accepting.proofs.TakenLaws.{taken-bad, taken-other, taken-right}
+use borrow.Author.Tests.{not-true, not-false}
 use borrow.Author.Needs.{needs}
 use Rattle.accepting.proofs.accept.Statement.{statement}
 use Rattle.accepting.proofs.accept.Tie as tie
@@ -25,11 +26,8 @@ returns c = let a = c .before .before .before .before .before .before .before .b
 enum-told : tie.Need-enum-told
 enum-told c = search needs
 
-cast-if1 : tie.Need-cast-if1
-cast-if1 c = search needs
-
-mul-if1 : tie.Need-mul-if1
-mul-if1 c = search needs
+right-length-requires : tie.Need-right-length-requires
+right-length-requires c κs = search needs
 
 same-length-4 : tie.Need-same-length-4
 same-length-4 c = search needs
@@ -41,7 +39,7 @@ same-length-6 : tie.Need-same-length-6
 same-length-6 c = search needs
 
 returns-2 : tie.Need-returns-2
-returns-2 c = let a = c .before .before .before .before .before .before .before .before .before .before .before .before .before .before .before .before .before .before .args in taken-other (a .begun) (a .image .now) (c .before .before .before .before .before .before .before .before .before .before .lay-out .last .1 .1 .0) (c .before .before .before .before .before .before .before .before .before .before .lay-out .last .1 .1 .1 .0) (c .before .before .before .before .before .before .before .before .before .before .lay-out .last .1 .1 .1 .1 .0) (c .before .before .before .before .before .before .before .before .before .before .lay-out .result) (c .before .before .before .before .before .before .before .before .before .before .lay-out .ensures) (a .lent) _ (c .before .before .enum-told .given .1) (c .if1 .taken)
+returns-2 c = let a = c .before .before .before .before .before .before .before .before .before .before .before .before .before .before .before .before .before .before .args in taken-other (a .begun) (a .image .now) (c .before .before .before .before .before .before .before .before .before .before .lay-out .last .1 .1 .0) (c .before .before .before .before .before .before .before .before .before .before .lay-out .last .1 .1 .1 .0) (c .before .before .before .before .before .before .before .before .before .before .lay-out .last .1 .1 .1 .1 .0) (c .before .before .before .before .before .before .before .before .before .before .lay-out .result) (c .before .before .before .before .before .before .before .before .before .before .lay-out .ensures) (a .lent) _ (c .before .before .enum-told .given .1) (c .before .right-length .result) (c .before .right-length .ensures) (not-true _ (c .if1 .taken))
 
 same-length-7 : tie.Need-same-length-7
 same-length-7 c = search needs
@@ -53,7 +51,7 @@ same-length-9 : tie.Need-same-length-9
 same-length-9 c = search needs
 
 returns-3 : tie.Need-returns-3
-returns-3 c = let a = c .before .before .before .before .before .before .before .before .before .before .before .before .before .before .before .before .before .before .args in taken-right (a .begun) (a .image .now) (c .before .before .before .before .before .before .before .before .before .before .lay-out .last .1 .1 .0) (c .before .before .before .before .before .before .before .before .before .before .lay-out .last .1 .1 .1 .0) (c .before .before .before .before .before .before .before .before .before .before .lay-out .last .1 .1 .1 .1 .0) (c .before .before .before .before .before .before .before .before .before .before .lay-out .result) (c .before .before .before .before .before .before .before .before .before .before .lay-out .ensures) (a .lent) _ (c .before .before .enum-told .given .1) (c .if1 .left)
+returns-3 c = let a = c .before .before .before .before .before .before .before .before .before .before .before .before .before .before .before .before .before .before .args in taken-right (a .begun) (a .image .now) (c .before .before .before .before .before .before .before .before .before .before .lay-out .last .1 .1 .0) (c .before .before .before .before .before .before .before .before .before .before .lay-out .last .1 .1 .1 .0) (c .before .before .before .before .before .before .before .before .before .before .lay-out .last .1 .1 .1 .1 .0) (c .before .before .before .before .before .before .before .before .before .before .lay-out .result) (c .before .before .before .before .before .before .before .before .before .before .lay-out .ensures) (a .lent) _ (c .before .before .enum-told .given .1) (c .before .right-length .result) (c .before .right-length .ensures) (not-false _ (c .if1 .left))
 
 pub accept-spec : {M : Type 1} → statement M
 accept-spec =
@@ -66,8 +64,7 @@ accept-spec =
     same-length-3
     returns
     enum-told
-    cast-if1
-    mul-if1
+    right-length-requires
     same-length-4
     same-length-5
     same-length-6
