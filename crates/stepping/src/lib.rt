@@ -49,10 +49,12 @@ fn fire_step(
     let a = 9 * k;
     let e = a + 9;
     let tests = heads[4 * k] as usize;
-    if !is_fresh(&table[a..e], words, 176 * k, tests, state) {
+    let stale = !is_fresh(&table[a..e], words, 176 * k, tests, state);
+    let full = 4294967245 < clock;
+    if stale {
         return StepDone::Stopped(7);
     }
-    if 4294967245 < clock {
+    if full {
         return StepDone::Stopped(8);
     }
     let o = 176 * k + 88;

@@ -2,7 +2,7 @@
 use Prim.Native.Nat.{_*_, _+_}
 use mathlib.Core.Path.{refl}
 use native.Mathlib.Omega.{arith}
-use borrow.Author.Tests.{not-true, not-false}
+use borrow.Author.Tests.{not-true, not-false, ltb-true, ltb-false}
 use lib.ListN.{length-take, length-drop}
 use Rattle.layout.specs.Rows.{ruleIn}
 use Rattle.stepping.proofs.StepLaws.{part-is, not-fresh, full, fired}
@@ -63,7 +63,7 @@ same-length-2 c = search needs
 returns-2 : tie.Need-returns-2
 returns-2 c =
     let a = c .before .before .before .before .before .before .before .before .before .before .before .args in
-    full (a .failure) _ _ (a .state .now) (a .clock) (part-is (a .k) (a .table .now)) (c .before .before .is-fresh .ensures (ruleIn (a .heads .now) (a .words .now) (a .k)) (a .clock) refl) (not-false _ (c .before .if1 .left)) (omega arith)
+    full (a .failure) _ _ (a .state .now) (a .clock) (part-is (a .k) (a .table .now)) (c .before .before .is-fresh .ensures (ruleIn (a .heads .now) (a .words .now) (a .k)) (a .clock) refl) (not-false _ (c .before .if1 .left)) (omega (arith, ltb-true 4294967245 (a .clock) (c .if2 .taken)))
 
 mul-o : tie.Need-mul-o
 mul-o c = search needs
@@ -104,8 +104,8 @@ fire-requires c κs =
     let p = c .before .before .before .before .before .before .before .before .before .before .before .before .before .before .pre in
     (p .3, omega (arith, p .0 .actions-few (a .k) (p .1), p .0 .words-room), p .0 .actions-few (a .k) (p .1), simp (length-take, length-drop) (omega arith), p .4, p .5)
 
-cast-t20 : tie.Need-cast-t20
-cast-t20 c = omega (arith, c .before .before .before .before .before .before .before .before .before .before .before .before .before .before .before .before .before .pre .0 .at-most, c .before .before .before .before .before .before .before .before .before .before .before .before .before .before .before .before .before .pre .1)
+cast-t22 : tie.Need-cast-t22
+cast-t22 c = omega (arith, c .before .before .before .before .before .before .before .before .before .before .before .before .before .before .before .before .before .pre .0 .at-most, c .before .before .before .before .before .before .before .before .before .before .before .before .before .before .before .before .before .pre .1)
 
 same-length-3 : tie.Need-same-length-3
 same-length-3 c = search needs
@@ -113,7 +113,7 @@ same-length-3 c = search needs
 returns-3 : tie.Need-returns-3
 returns-3 c =
     let a = c .before .before .before .before .before .before .before .before .before .before .before .before .before .before .before .before .before .args in
-    fired (a .failure) _ _ (a .state .now) (a .clock) (part-is (a .k) (a .table .now)) (c .before .before .before .before .before .before .before .before .is-fresh .ensures (ruleIn (a .heads .now) (a .words .now) (a .k)) (a .clock) refl) (not-false _ (c .before .before .before .before .before .before .before .if1 .left)) (omega arith) _ _ (c .before .before .fire .ensures .0 (a .clock) (ruleIn (a .heads .now) (a .words .now) (a .k)) refl) (c .before .before .fire .ensures .1 (a .clock) (a .clock + 50))
+    fired (a .failure) _ _ (a .state .now) (a .clock) (part-is (a .k) (a .table .now)) (c .before .before .before .before .before .before .before .before .is-fresh .ensures (ruleIn (a .heads .now) (a .words .now) (a .k)) (a .clock) refl) (not-false _ (c .before .before .before .before .before .before .before .if1 .left)) (omega (arith, ltb-false 4294967245 (a .clock) (c .before .before .before .before .before .before .if2 .left))) _ _ (c .before .before .fire .ensures .0 (a .clock) (ruleIn (a .heads .now) (a .words .now) (a .k)) refl) (c .before .before .fire .ensures .1 (a .clock) (a .clock + 50))
 
 pub fire-step-spec : {M : Type 1} → statement M
 fire-step-spec =
@@ -147,6 +147,6 @@ fire-step-spec =
     part-fire-start
     part-fire-end
     fire-requires
-    cast-t20
+    cast-t22
     same-length-3
     returns-3)
