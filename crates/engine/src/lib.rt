@@ -17,7 +17,7 @@ pub fn table_length(image: &[u8]) -> u16
     ensures { λ r. ⌜ r ≡ tableLength (now (image .entry)) ⌝ }
 {
     let begun = image::begin(image);
-    let walk = image::check(image);
+    let walk = image::check(image, begun);
     match walk {
         Walk::Next(_) => 9 * begun.rules,
         Walk::Bad(_, _) => 0,

@@ -193,11 +193,11 @@ fn check_large(image: &[u8], begun: ImageRead) -> Walk
     lay_out(image, begun, &mut facts, &mut heads, &mut words)
 }
 
-// Whether an image is accepted, of any length and content: where its last field ends, or the number and place of its refusal.
-pub fn check(image: &[u8]) -> Walk
+// Whether an image that was begun is accepted, of any length and content: where its last field ends, or the number and place of its refusal.
+pub fn check(image: &[u8], begun: ImageRead) -> Walk
+    requires { ⌜ Begun begun (now image) ⌝ }
     ensures { λ r. ⌜ answer r tt ≡ verdict (decode (now (image .entry))) ⌝ }
 {
-    let begun = begin(image);
     if is_small(begun) {
         check_small(image, begun)
     } else {

@@ -31,7 +31,7 @@ fn no_refresh(number: u8) -> RefreshDone
 }
 
 // Whether a mark is allowed for so many buffers: it is below 2 to the power of their count.
-pub fn mark_allowed(mark: u16, buffers: u16) -> bool
+fn mark_allowed(mark: u16, buffers: u16) -> bool
     requires { ⌜ buffers ≤ 8 ⌝ }
     ensures { λ r. ⌜ r ≡ ltb mark (2 ^ buffers) ⌝ }
 {

@@ -8,17 +8,14 @@ use borrow.Author.Needs.{needs}
 use Rattle.image.proofs.check.Statement.{statement}
 use Rattle.image.proofs.check.Tie as tie
 
-begin-requires : tie.Need-begin-requires
-begin-requires c κs = search needs
-
 is-small-requires : tie.Need-is-small-requires
 is-small-requires c κs = search needs
 
 check-small-requires : tie.Need-check-small-requires
 check-small-requires c κs =
-    let r = c .before .before .begin .result in
+    let r = c .before .before .before .args .begun in
     let small : (leb (r .facts) 64 && leb (r .rules) 16) ≡ true = sym (c .before .is-small .ensures) ∙ c .if1 .taken in
-    (c .before .before .begin .ensures, leb-true (r .facts) 64 (and-left (leb (r .facts) 64) (leb (r .rules) 16) small), leb-true (r .rules) 16 (and-right (leb (r .facts) 64) (leb (r .rules) 16) small))
+    (c .before .before .before .pre, leb-true (r .facts) 64 (and-left (leb (r .facts) 64) (leb (r .rules) 16) small), leb-true (r .rules) 16 (and-right (leb (r .facts) 64) (leb (r .rules) 16) small))
 
 check-large-requires : tie.Need-check-large-requires
 check-large-requires c κs = search needs
@@ -33,7 +30,6 @@ pub check-spec : {M : Type 1} → statement M
 check-spec =
     tie.close
     (tie.spec
-    begin-requires
     is-small-requires
     check-small-requires
     check-large-requires

@@ -1,0 +1,2 @@
+-- What the calls' contracts settle.
+pub mod Once
