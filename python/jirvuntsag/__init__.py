@@ -1,0 +1,35 @@
+"""Runs ACT-R models from packed images, on the proved library.
+
+>>> import jirvuntsag as jv
+>>> model = jv.Model.load("models/counting.image", names="python/tests/data/counting.names.json")
+>>> run = model.open()
+>>> print(run.step())
+50 fire start
+>>> print(run.buffers["retrieval"])
+follows first=1 second=2 in 100 ms
+>>> run.matching()
+[]
+>>> branch = run.copy()
+>>> for event in run.steps():
+...     print(event)
+150 wait 100
+200 fire go-on
+300 wait 100
+350 fire go-on
+400 fire stop
+550 wait 150
+>>> branch.put("retrieval", "follows", {"first": 1, "second": 3})
+>>> branch.matching()
+[Match(rule=1, name='go-on', utility=0, values={'at': 1, 'next': 3})]
+
+What is refused is raised as `Refused`, with its number and what that means; what Python can tell by itself as ValueError or
+TypeError. Nothing is altered by a call that raises, but for the steps that a run has made before it is refused.
+"""
+from .calls import NoLibrary
+from .model import Model
+from .names import BadNames, Names
+from .refusals import MEANINGS, Refused
+from .run import Ended, Event, Match, Run
+from .states import Buffer
+
+__all__ = ["BadNames", "Buffer", "Ended", "Event", "MEANINGS", "Match", "Model", "Names", "NoLibrary", "Refused", "Run"]

@@ -1,0 +1,199 @@
+"""The five calls of the library, on words.
+
+What is handed in is checked and copied, and what is given back is new: no call alters its arguments, and the library never
+sees memory that Python could change or free meanwhile. An image is bytes, a state 81 words of 32 bits, a table nine words of
+16 bits for each rule. See include/jirvuntsag.h for what the words are.
+
+>>> import pathlib
+>>> image = pathlib.Path("models/counting.image").read_bytes()
+>>> opened = open_image(image, [0] * table_length(image))
+>>> opened.number, list(opened.table[:3])
+(0, [1, 1, 0])
+>>> run_steps(image, opened.state, opened.table, 100)[:2]
+(9, 7)
+"""
+import ctypes
+import functools
+import operator
+import os
+import pathlib
+from array import array
+from typing import NamedTuple
+
+STATE_WORDS = 81
+EVENT_WORDS = 3
+MOST_STEPS = 0xFFFF
+
+VARIABLE = "JIRVUNTSAG_LIBRARY"
+
+_C_WORD = {"H": ctypes.c_uint16, "I": ctypes.c_uint32}
+_IMAGE = [ctypes.c_char_p, ctypes.c_size_t]
+_STATE = [ctypes.POINTER(ctypes.c_uint32)]
+_TABLE = [ctypes.POINTER(ctypes.c_uint16), ctypes.c_size_t]
+_EVENTS = [ctypes.POINTER(ctypes.c_uint32), ctypes.c_size_t]
+
+# the arguments of each function of include/jirvuntsag.h; all of them answer 32 bits
+_ARGUMENTS = {
+    "jirvuntsag_table_len": _IMAGE,
+    "jirvuntsag_open": _IMAGE + _TABLE + _STATE,
+    "jirvuntsag_run": _IMAGE + _STATE + _TABLE + [ctypes.c_uint16],
+    "jirvuntsag_trace": _IMAGE + _STATE + _TABLE + [ctypes.c_uint16] + _EVENTS,
+    "jirvuntsag_refresh": _IMAGE + _STATE + [ctypes.c_uint16] + _TABLE,
+}
+
+
+class NoLibrary(OSError):
+    """The shared library is not there, or is another one."""
+
+
+class Opened(NamedTuple):
+    """What `open_image` gives back."""
+
+    number: int
+    state: array
+    table: array
+
+
+class Ran(NamedTuple):
+    """What `run_steps` gives back."""
+
+    number: int
+    made: int
+    state: array
+    table: array
+
+
+class Traced(NamedTuple):
+    """What `trace_steps` gives back; `events` has three words for each step made."""
+
+    number: int
+    made: int
+    state: array
+    table: array
+    events: array
+
+
+class Refreshed(NamedTuple):
+    """What `refresh_table` gives back; `count` is how many rules test a marked buffer."""
+
+    number: int
+    count: int
+    table: array
+
+
+def library_path():
+    """Where the library is looked for: what JIRVUNTSAG_LIBRARY names, else target/lib of the clone that this file is in."""
+    named = os.environ.get(VARIABLE)
+    return pathlib.Path(named) if named else pathlib.Path(__file__).resolve().parents[2] / "target" / "lib" / "libjirvuntsag.so"
+
+
+@functools.lru_cache(maxsize=1)
+def _library():
+    """The library, loaded once and with its functions declared."""
+    path = library_path()
+    if not path.is_file():
+        raise NoLibrary(f"no shared library at {path}: make it with `make lib`, or name it in {VARIABLE}")
+    try:
+        library = ctypes.CDLL(str(path.resolve()))
+        for name, arguments in _ARGUMENTS.items():
+            function = getattr(library, name)
+            function.argtypes, function.restype = arguments, ctypes.c_uint32
+    except (OSError, AttributeError) as error:
+        raise NoLibrary(f"{path} is not the library of this module ({error}): make it with `make lib`") from error
+    return library
+
+
+def _image_of(image):
+    if not isinstance(image, (bytes, bytearray, memoryview)):
+        raise TypeError(f"an image must be bytes, not {type(image).__name__}")
+    return bytes(image)
+
+
+def _copy_of(code, words, what):
+    """The words in a new array. They may be any sequence of numbers that are in range."""
+    if isinstance(words, (str, bytes, bytearray, memoryview)) or not hasattr(words, "__len__"):
+        raise TypeError(f"a {what} must be a sequence of whole numbers, not {type(words).__name__}")
+    try:
+        return array(code, words)
+    except TypeError as error:
+        raise TypeError(f"each word of a {what} must be a whole number: {error}") from error
+    except OverflowError as error:
+        largest = 256 ** array(code).itemsize - 1
+        raise ValueError(f"each word of a {what} must be from 0 to {largest:,}") from error
+
+
+def _state_of(state):
+    words = _copy_of("I", state, "state")
+    if len(words) != STATE_WORDS:
+        raise ValueError(f"a state has {STATE_WORDS} words, not {len(words)}")
+    return words
+
+
+def small_number(number, what):
+    """The number, if it is a whole one of 16 bits."""
+    try:
+        number = operator.index(number)
+    except TypeError as error:
+        raise TypeError(f"{what} must be a whole number, not {type(number).__name__}") from error
+    if not 0 <= number <= 0xFFFF:
+        raise ValueError(f"{what} must be from 0 to 65,535, not {number}")
+    return number
+
+
+def _lent(words):
+    """The words of an array of ours, for the library to write to."""
+    return (_C_WORD[words.typecode] * len(words)).from_buffer(words)
+
+
+def _number_and_count(answer):
+    return answer & 0xFFFF, answer >> 16
+
+
+def table_length(image):
+    """The words that the table of an image needs: nine for each rule, 0 if it is refused.
+
+    >>> table_length(b"")
+    0
+    """
+    image = _image_of(image)
+    return _library().jirvuntsag_table_len(image, len(image))
+
+
+def open_image(image, table):
+    """Opens an image: the number; the opening state and the fresh table if it is 0.
+
+    >>> open_image(b"", []).number
+    2
+    """
+    image, table = _image_of(image), _copy_of("H", table, "table")
+    state = array("I", bytes(4 * STATE_WORDS))
+    number, _ = _number_and_count(_library().jirvuntsag_open(image, len(image), _lent(table), len(table), _lent(state)))
+    return Opened(number, state, table)
+
+
+def run_steps(image, state, table, steps):
+    """Runs at most `steps` steps: the number, the steps made, and state and table after them."""
+    image, state, table = _image_of(image), _state_of(state), _copy_of("H", table, "table")
+    steps = small_number(steps, "the steps asked")
+    answer = _library().jirvuntsag_run(image, len(image), _lent(state), _lent(table), len(table), steps)
+    return Ran(*_number_and_count(answer), state, table)
+
+
+def trace_steps(image, state, table, steps):
+    """Runs as `run_steps` does, and gives the events too: for each step made the clock after it; 0 and the rule, or 1 and the ms."""
+    image, state, table = _image_of(image), _state_of(state), _copy_of("H", table, "table")
+    steps = small_number(steps, "the steps asked")
+    events = array("I", bytes(4 * EVENT_WORDS * steps))
+    answer = _library().jirvuntsag_trace(
+        image, len(image), _lent(state), _lent(table), len(table), steps, _lent(events), len(events)
+    )
+    number, made = _number_and_count(answer)
+    return Traced(number, made, state, table, events[: EVENT_WORDS * made])
+
+
+def refresh_table(image, state, mark, table):
+    """Makes the entries of the rules that test a marked buffer afresh: the number, how many they are, and the table."""
+    image, state, table = _image_of(image), _state_of(state), _copy_of("H", table, "table")
+    mark = small_number(mark, "a mark")
+    answer = _library().jirvuntsag_refresh(image, len(image), _lent(state), mark, _lent(table), len(table))
+    return Refreshed(*_number_and_count(answer), table)

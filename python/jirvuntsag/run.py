@@ -1,0 +1,273 @@
+"""A run of a model: a state with its table, which moves on by steps."""
+import operator
+from array import array
+from collections.abc import Mapping
+from typing import Dict, List, NamedTuple, Optional
+
+from . import calls
+from .refusals import HALTED, MEANINGS, Refused
+from .states import Buffer, Name, buffer_from, buffer_words, clock_of, place, state_from, state_words
+
+FIRING = 50
+ENTRY_WORDS = 9
+
+
+class Event(NamedTuple):
+    """A step: the clock after it, `fire` or `wait`, the rule that fired (None for a wait), how many ms it took, the rule's name."""
+
+    clock: int
+    kind: str
+    rule: Optional[int]
+    ms: int
+    name: Optional[Name]
+
+    def __str__(self):
+        return f"{self.clock} {self.kind} {self.ms if self.rule is None else self.name}"
+
+
+class Ended(NamedTuple):
+    """How a run ended: 0, all steps asked were made, or 9, halted before that; the steps made; their events."""
+
+    number: int
+    made: int
+    events: List[Event]
+
+    @property
+    def halted(self):
+        """No rule matched and nothing was pending."""
+        return self.number == HALTED
+
+    @property
+    def meaning(self):
+        """What the number says, in words."""
+        return MEANINGS[self.number]
+
+    def __str__(self):
+        return f"end {self.number} {self.made}"
+
+
+class Match(NamedTuple):
+    """A rule that matches: its number, its name, its utility in thousandths, the values of its variables."""
+
+    rule: int
+    name: Name
+    utility: int
+    values: Dict[Name, Name]
+
+
+class Buffers(Mapping):
+    """The buffers of a state, by name or number.
+
+    >>> from jirvuntsag import Model
+    >>> buffers = Model.load("models/counting.image").open().buffers
+    >>> buffers[0].visible, 2 in buffers
+    (True, False)
+    """
+
+    def __init__(self, words, vocabulary):
+        self._words, self._vocabulary = words, vocabulary
+
+    def __getitem__(self, key):
+        try:
+            number = self._vocabulary.buffers.number(key)
+        except (ValueError, TypeError) as error:
+            raise KeyError(str(error)) from None
+        return buffer_from(self._words, number, self._vocabulary)
+
+    def __iter__(self):
+        return iter(self._vocabulary.buffers)
+
+    def __len__(self):
+        return len(self._vocabulary.buffers)
+
+    def __repr__(self):
+        return "{" + ", ".join(f"{name}: {buffer}" for name, buffer in self.items()) + "}"
+
+
+class Run:
+    """A run, made by `Model.open` or `Model.at`. Its table is always the fresh one, so that number 7 never comes.
+
+    A model that halts is no error: `step` gives None, `steps` ends, `run` says 9. A clock that would pass its largest is
+    one: `Refused`, by 8, after the steps that could be made.
+
+    >>> from jirvuntsag import Model
+    >>> run = Model.load("models/counting.image").open()
+    >>> run.step()
+    Event(clock=50, kind='fire', rule=0, ms=50, name=0)
+    >>> branch = run.copy()
+    >>> print(run.run())
+    end 9 6
+    >>> run.clock, branch.clock
+    (550, 50)
+    """
+
+    def __init__(self, model, state, table):
+        # these arrays are replaced and never written to, so that copies may share them
+        self._model = model
+        self._state = array("I", state)
+        self._table = array("H", table)
+
+    @property
+    def model(self):
+        """The model."""
+        return self._model
+
+    @property
+    def clock(self):
+        """The clock in ms."""
+        return self._state[0]
+
+    @clock.setter
+    def clock(self, clock):
+        self._move_to([clock_of(clock), *self._state[1:]])
+
+    @property
+    def buffers(self):
+        """The buffers as they are now, by name or number."""
+        return Buffers(self._state, self._model.vocabulary)
+
+    @property
+    def words(self):
+        """The state as 81 words: the clock, then type, eight slots and delay of each of eight buffers."""
+        return tuple(self._state)
+
+    @property
+    def state(self):
+        """The state as plain data. What it is set to becomes the state, and the table is made to fit it.
+
+        >>> from jirvuntsag import Model
+        >>> run = Model.load("models/counting.image").open()
+        >>> kept = run.state
+        >>> kept
+        {'clock': 0, 'buffers': {0: {'type': 2, 'slots': {0: 1, 1: 3}, 'delay': 0}, 1: {'type': 0, 'slots': {}, 'delay': 0}}}
+        >>> first = run.run()
+        >>> run.state = kept
+        >>> run.run() == first
+        True
+        """
+        return state_from(self._state, self._model.vocabulary)
+
+    @state.setter
+    def state(self, state):
+        self._move_to(state_words(state, self._model.vocabulary))
+
+    @property
+    def table(self):
+        """The table: for each rule 1 and the values of its variables 0 to 7, or nine zeros if it does not match."""
+        starts = range(0, len(self._table), ENTRY_WORDS)
+        return [tuple(self._table[start : start + ENTRY_WORDS]) for start in starts]
+
+    def put(self, buffer, type, slots=None, delay=0):
+        """Puts a chunk into a buffer from outside. Slots that are not named hold nil.
+
+        >>> from jirvuntsag import Model
+        >>> run = Model.load("models/counting.image").open()
+        >>> run.put(0, 2, {0: 2, 1: 3})
+        >>> print(run.buffers[0])
+        2 0=2 1=3
+        """
+        number = self._model.vocabulary.buffers.number(buffer)
+        chunk = Buffer(type, {} if slots is None else slots, delay)
+        words = array("I", self._state)
+        words[place(number)] = buffer_words(chunk, self._model.vocabulary)
+        self._move_to(words)
+
+    def clear(self, buffer):
+        """Empties a buffer from outside: it holds nil, and that is visible."""
+        self.put(buffer, 0)
+
+    def matching(self):
+        """The rules that match now, by rising number: the conflict set.
+
+        Of these the one of highest utility fires next, the first among equals.
+
+        >>> from jirvuntsag import Model
+        >>> Model.load("models/counting.image").open().matching()
+        [Match(rule=0, name=0, utility=0, values={0: 1})]
+        """
+        entries = enumerate(self.table)
+        return [self._match(rule, entry[1:]) for rule, entry in entries if entry[0] == 1]
+
+    def step(self):
+        """Makes one step: its event, or None if the model has halted."""
+        events = self.run(1).events
+        return events[0] if events else None
+
+    def steps(self, most=None):
+        """Makes steps one by one and gives the event of each, at most so many; ends where the model halts.
+
+        >>> from jirvuntsag import Model
+        >>> run = Model.load("models/counting.image").open()
+        >>> [str(event) for event in run.steps(2)]
+        ['50 fire 0', '150 wait 100']
+        """
+        left = None if most is None else _count(most)
+        while left is None or left > 0:
+            event = self.step()
+            if event is None:
+                return
+            yield event
+            left = None if left is None else left - 1
+
+    def run(self, steps=calls.MOST_STEPS):
+        """Makes at most so many steps, 65,535 at once at the most: how it ended."""
+        traced = calls.trace_steps(self._model.image, self._state, self._table, steps)
+        self._state, self._table = traced.state, traced.table
+        starts = range(0, len(traced.events), calls.EVENT_WORDS)
+        events = [self._event(*traced.events[start : start + calls.EVENT_WORDS]) for start in starts]
+        if traced.number not in (0, HALTED):
+            raise Refused(traced.number, traced.made, events)
+        return Ended(traced.number, traced.made, events)
+
+    def until(self, clock):
+        """Makes steps while the clock is below `clock`: how it ended, 0 if the clock has got there.
+
+        >>> from jirvuntsag import Model
+        >>> run = Model.load("models/counting.image").open()
+        >>> print(run.until(300), run.clock)
+        end 0 4 300
+        """
+        clock = clock_of(clock)
+        events = []
+        while self.clock < clock:
+            event = self.step()
+            if event is None:
+                return Ended(HALTED, len(events), events)
+            events.append(event)
+        return Ended(0, len(events), events)
+
+    def copy(self):
+        """Another run from here, which goes its own way."""
+        return Run(self._model, self._state, self._table)
+
+    def _move_to(self, words):
+        """Takes another state, and refreshes the table with the buffers that differ."""
+        words = array("I", words)
+        differing = (b for b in range(self._model.shape.buffers) if words[place(b)] != self._state[place(b)])
+        refreshed = calls.refresh_table(self._model.image, words, sum(2**b for b in differing), self._table)
+        if refreshed.number:
+            raise Refused(refreshed.number)
+        self._state, self._table = words, refreshed.table
+
+    def _match(self, rule, values):
+        vocabulary = self._model.vocabulary
+        named = {variable: vocabulary.symbols.name(value) for variable, value in zip(vocabulary.variables[rule], values)}
+        return Match(rule, vocabulary.rules.name(rule), self._model.shape.rules[rule].utility, named)
+
+    def _event(self, clock, kind, number):
+        if kind == 0:
+            return Event(clock, "fire", number, FIRING, self._model.vocabulary.rules.name(number))
+        return Event(clock, "wait", None, number, None)
+
+    def __repr__(self):
+        return f"<Run at {self.clock} ms: {self.buffers!r}>"
+
+
+def _count(number):
+    try:
+        number = operator.index(number)
+    except TypeError:
+        raise TypeError(f"the steps asked must be a whole number, not {type(number).__name__}") from None
+    if number < 0:
+        raise ValueError(f"the steps asked must be 0 or more, not {number}")
+    return number

@@ -1,0 +1,99 @@
+"""States as plain data, from and to their 81 words.
+
+A state is `{"clock": 0, "buffers": {"goal": {"type": "count-from", "slots": {"start": 2}, "delay": 0}, ..}}`, which JSON can keep.
+"""
+from array import array
+from typing import Dict, NamedTuple, Union
+
+from .calls import STATE_WORDS, small_number
+
+BUFFER_WORDS = 10
+MOST_SLOTS = 8
+LARGEST_CLOCK = 0xFFFF_FFFF
+
+Name = Union[str, int]
+
+
+class Buffer(NamedTuple):
+    """What a buffer holds: a type, a value for each slot of that type, and a delay in ms.
+
+    >>> print(Buffer("count-from", {"start": 2, "end": 4}))
+    count-from start=2 end=4
+    >>> print(Buffer("chunk", {}, 200))
+    chunk in 200 ms
+    """
+
+    type: Name
+    slots: Dict[Name, Name]
+    delay: int = 0
+
+    @property
+    def visible(self):
+        """Rules can see it: its delay is 0. Otherwise it is pending."""
+        return self.delay == 0
+
+    def __str__(self):
+        slots = "".join(f" {slot}={value}" for slot, value in self.slots.items())
+        return f"{self.type}{slots}" + (f" in {self.delay} ms" if self.delay else "")
+
+
+def place(number):
+    """Where the words of a buffer stand among those of a state."""
+    return slice(1 + BUFFER_WORDS * number, 1 + BUFFER_WORDS * (number + 1))
+
+
+def buffer_from(words, number, vocabulary):
+    """Buffer `number` of a well-formed state."""
+    isa, *slots, delay = words[place(number)]
+    named = {slot: vocabulary.symbols.name(value) for slot, value in zip(vocabulary.slots[isa], slots)}
+    return Buffer(vocabulary.types.name(isa), named, delay)
+
+
+def buffer_words(buffer, vocabulary):
+    """The ten words of a buffer. A slot that is not named holds nil."""
+    isa = vocabulary.types.number(buffer.type)
+    values = [0] * MOST_SLOTS
+    if not isinstance(buffer.slots, dict):
+        raise TypeError(f"slots are given as a dict, not as {type(buffer.slots).__name__}")
+    for slot, value in buffer.slots.items():
+        values[vocabulary.slots[isa].number(slot)] = vocabulary.symbols.number(value)
+    return array("I", [isa, *values, small_number(buffer.delay, "a delay")])
+
+
+def state_from(words, vocabulary):
+    """A well-formed state as plain data."""
+    buffers = {name: buffer_from(words, number, vocabulary)._asdict() for number, name in enumerate(vocabulary.buffers)}
+    return {"clock": words[0], "buffers": buffers}
+
+
+def state_words(state, vocabulary):
+    """The 81 words of a state. A buffer that is not named holds nil."""
+    _check_members(state, "a state", {"clock", "buffers"}, {"clock", "buffers"})
+    words = array("I", bytes(4 * STATE_WORDS))
+    words[0] = clock_of(state["clock"])
+    if not isinstance(state["buffers"], dict):
+        raise TypeError(f"the buffers of a state are given as a dict, not as {type(state['buffers']).__name__}")
+    for name, members in state["buffers"].items():
+        _check_members(members, f"buffer {name!r}", {"type"}, {"type", "slots", "delay"})
+        buffer = Buffer(members["type"], members.get("slots", {}), members.get("delay", 0))
+        words[place(vocabulary.buffers.number(name))] = buffer_words(buffer, vocabulary)
+    return words
+
+
+def clock_of(clock):
+    """The clock, if it is a whole number of 32 bits."""
+    if isinstance(clock, bool) or not isinstance(clock, int):
+        raise TypeError(f"a clock must be a whole number of ms, not {type(clock).__name__}")
+    if not 0 <= clock <= LARGEST_CLOCK:
+        raise ValueError(f"a clock must be from 0 to {LARGEST_CLOCK:,} ms, not {clock}")
+    return clock
+
+
+def _check_members(members, what, needed, known):
+    if not isinstance(members, dict):
+        raise TypeError(f"{what} is given as a dict, not as {type(members).__name__}")
+    for name in sorted(needed - set(members)):
+        raise ValueError(f"{what} lacks '{name}'")
+    for name in members:
+        if name not in known:
+            raise ValueError(f"{what} has no '{name}'; it has {', '.join(sorted(known))}")

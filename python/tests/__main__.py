@@ -1,0 +1,22 @@
+"""Runs all tests, doctests among them. The last line is 'N passed, M failed'; the exit status is 0 only if M is 0 and N is not."""
+import os
+import sys
+import unittest
+
+from . import ROOT
+
+
+def main():
+    """Runs what is found, and counts: a test that was skipped, or that could not be loaded, has failed."""
+    os.chdir(ROOT)  # the examples in docstrings name files from there
+    suite = unittest.defaultTestLoader.discover(str(ROOT / "python" / "tests"), top_level_dir=str(ROOT / "python"))
+    result = unittest.TextTestRunner(verbosity=2, stream=sys.stdout).run(suite)
+    marked = result.failures + result.errors + result.skipped
+    failed = {getattr(test, "test_case", test).id() for test, _ in marked}
+    failed |= {test.id() for test in result.unexpectedSuccesses}
+    passed = max(result.testsRun - len(failed), 0)
+    print(f"{passed} passed, {len(failed)} failed")
+    return 0 if passed and not failed else 1
+
+
+sys.exit(main())

@@ -1,0 +1,17 @@
+"""The examples in docstrings and in python/README.md."""
+import doctest
+import importlib
+import pkgutil
+
+import jirvuntsag
+
+from . import ROOT
+
+
+def load_tests(_loader, tests, _pattern):
+    """A test for each docstring with an example, and one for the page."""
+    modules = [importlib.import_module(f"jirvuntsag.{module.name}") for module in pkgutil.iter_modules(jirvuntsag.__path__) if module.name != "__main__"]
+    for module in [jirvuntsag, *modules]:
+        tests.addTests(doctest.DocTestSuite(module))
+    tests.addTests(doctest.DocFileSuite(str(ROOT / "python" / "README.md"), module_relative=False))
+    return tests

@@ -1,0 +1,118 @@
+"""Runs, branches, states and matches of the counting model."""
+import copy
+import json
+import unittest
+
+from jirvuntsag import Buffer, Model, Refused
+
+from . import COUNTING, COUNTING_NAMES
+
+LINES = ["50 fire start", "150 wait 100", "200 fire go-on", "300 wait 100", "350 fire go-on", "400 fire stop", "550 wait 150"]
+
+
+class Runs(unittest.TestCase):
+    """The counting model, by its names."""
+
+    def setUp(self):
+        self.model = Model.load(COUNTING, COUNTING_NAMES)
+        self.run_ = self.model.open()
+
+    def fresh_table(self):
+        """The table of a run that is opened in the same state."""
+        return self.model.at(self.run_.state).table
+
+    def test_a_run_has_the_readmes_lines(self):
+        ended = self.run_.run()
+        self.assertEqual([*map(str, ended.events)], LINES)
+        self.assertEqual((str(ended), ended.halted, self.run_.clock), ("end 9 7", True, 550))
+
+    def test_steps_are_the_run(self):
+        self.assertEqual([*map(str, self.run_.steps())], LINES)
+        self.assertIsNone(self.run_.step())
+
+    def test_a_limit_of_steps_is_kept(self):
+        self.assertEqual(len([*self.run_.steps(3)]), 3)
+        self.assertEqual([*self.run_.steps(0)], [])
+        ended = self.run_.run(2)
+        self.assertEqual((ended.number, ended.made, ended.halted), (0, 2, False))
+        self.assertEqual(self.run_.run(0), (0, 0, []))
+
+    def test_until_stops_at_the_clock(self):
+        self.assertEqual(self.run_.until(200).made, 3)
+        self.assertEqual(self.run_.until(200).made, 0)
+        self.assertEqual(str(self.run_.until(10_000)), "end 9 4")
+
+    def test_buffers_have_names_and_numbers(self):
+        self.run_.step()
+        self.assertEqual(self.run_.buffers["retrieval"], Buffer("follows", {"first": 1, "second": 2}, 100))
+        self.assertEqual(self.run_.buffers[1], self.run_.buffers["retrieval"])
+        self.assertFalse(self.run_.buffers["retrieval"].visible)
+        self.assertEqual([*self.run_.buffers], ["goal", "retrieval"])
+        self.assertEqual(self.run_.buffers.get("imaginal"), None)
+
+    def test_a_copy_goes_its_own_way(self):
+        self.run_.step()
+        for branch in self.run_.copy(), copy.copy(self.run_), copy.deepcopy(self.run_):
+            branch.put("goal", "count", {"current": 2, "target": 3})
+            self.assertEqual([*map(str, branch.steps())], LINES[1:2])
+        self.assertEqual([*map(str, self.run_.steps())], LINES[1:])
+
+    def test_what_is_put_is_matched(self):
+        self.run_.put("goal", "count", {"current": 3, "target": 3})
+        self.assertEqual([match.name for match in self.run_.matching()], ["start", "stop"])
+        self.assertEqual(self.run_.matching()[1], (2, "stop", 1000, {"at": 3}))
+        self.assertEqual(self.run_.table, self.fresh_table())
+        self.assertEqual(str(self.run_.step()), "50 fire stop")
+
+    def test_what_is_cleared_is_not(self):
+        self.run_.clear("goal")
+        self.assertEqual((self.run_.matching(), self.run_.step()), ([], None))
+        self.assertEqual(self.run_.table, self.fresh_table())
+
+    def test_what_is_put_pending_is_seen_when_it_arrives(self):
+        self.run_.put("goal", "count", {"current": 3, "target": 3}, delay=70)
+        self.assertEqual(self.run_.matching(), [])
+        self.assertEqual([str(event) for event in self.run_.steps(2)], ["70 wait 70", "120 fire stop"])
+
+    def test_a_state_goes_through_json(self):
+        self.run_.run(3)
+        kept = json.loads(json.dumps(self.run_.state))
+        again = self.model.open()
+        again.state = kept
+        self.assertEqual((again.words, again.table), (self.run_.words, self.run_.table))
+        self.assertEqual(again.run(), self.run_.run())
+
+    def test_a_state_without_names_goes_through_json(self):
+        model = Model.load(COUNTING)
+        run = model.open()
+        run.run(3)
+        self.assertEqual(model.at(json.loads(json.dumps(run.state))).words, run.words)
+
+    def test_words_open_where_they_were_taken(self):
+        self.run_.run(4)
+        again = self.model.at(self.run_.words)
+        self.assertEqual((again.words, again.table), (self.run_.words, self.run_.table))
+
+    def test_the_table_stays_fresh(self):
+        while self.run_.step():
+            self.assertEqual(self.run_.table, self.fresh_table())
+
+    def test_the_clock_can_be_set_up_to_its_largest(self):
+        self.run_.clock = 4_294_967_245
+        self.assertEqual(self.run_.run(1).events[0].clock, 4_294_967_295)
+
+    def test_a_clock_that_would_pass_is_refused_after_the_steps_made(self):
+        self.run_.clock = 4_294_967_200
+        with self.assertRaises(Refused) as caught:
+            self.run_.run()
+        self.assertEqual((caught.exception.number, caught.exception.made), (8, 1))
+        self.assertEqual([*map(str, caught.exception.events)], ["4294967250 fire start"])
+        self.assertEqual(self.run_.clock, 4_294_967_250)
+        self.assertIn("clock would pass", str(caught.exception))
+
+    def test_what_a_model_has(self):
+        self.assertEqual(self.model.buffers, ["goal", "retrieval"])
+        self.assertEqual(self.model.rules, ["start", "go-on", "stop"])
+        self.assertEqual(self.model.types, {"chunk": [], "follows": ["first", "second"], "count": ["current", "target"]})
+        self.assertEqual(Model.load(COUNTING).types, {0: [], 1: [0, 1], 2: [0, 1]})
+        self.assertEqual([rule.variables for rule in self.model.shape.rules], [1, 2, 1])
