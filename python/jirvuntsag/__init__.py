@@ -28,8 +28,22 @@ TypeError. Nothing is altered by a call that raises, but for the steps that a ru
 from .calls import NoLibrary
 from .model import Model
 from .names import BadNames, Names
+from .picture import timeline
 from .refusals import MEANINGS, Refused
 from .run import Ended, Event, Match, Run
 from .states import Buffer
 
-__all__ = ["BadNames", "Buffer", "Ended", "Event", "MEANINGS", "Match", "Model", "Names", "NoLibrary", "Refused", "Run"]
+__all__ = [
+    "BadNames",
+    "Buffer",
+    "Ended",
+    "Event",
+    "MEANINGS",
+    "Match",
+    "Model",
+    "Names",
+    "NoLibrary",
+    "Refused",
+    "Run",
+    "timeline",
+]

@@ -180,7 +180,7 @@ def run_steps(image, state, table, steps):
 
 
 def trace_steps(image, state, table, steps):
-    """Runs as `run_steps` does, and gives the events too: for each step made the clock after it; 0 and the rule, or 1 and the ms."""
+    """Runs as `run_steps` does, and gives events too: of each step the clock after it; 0 and the rule, or 1 and the ms."""
     image, state, table = _image_of(image), _state_of(state), _copy_of("H", table, "table")
     steps = small_number(steps, "the steps asked")
     events = array("I", bytes(4 * EVENT_WORDS * steps))

@@ -99,7 +99,8 @@ def _owners(values, where, parts):
     if not isinstance(values, list):
         raise BadNames(f"{where}: a list is expected")
     names = _texts([_member(value, "name") for value in values], where)
-    return tuple(Owner(name, _texts(_member(value, parts), f"{where}, {parts} of '{name}'")) for name, value in zip(names, values))
+    lists = [_member(value, parts) for value in values]
+    return tuple(Owner(name, _texts(texts, f"{where}, {parts} of '{name}'")) for name, texts in zip(names, lists))
 
 
 def _symbols(values):

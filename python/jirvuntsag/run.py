@@ -13,7 +13,7 @@ ENTRY_WORDS = 9
 
 
 class Event(NamedTuple):
-    """A step: the clock after it, `fire` or `wait`, the rule that fired (None for a wait), how many ms it took, the rule's name."""
+    """A step: the clock after it, `fire` or `wait`, the rule that fired (None for a wait), the ms it took, the rule's name."""
 
     clock: int
     kind: str

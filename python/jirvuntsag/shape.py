@@ -1,4 +1,4 @@
-"""The counts of an accepted image that words alone do not tell: its buffers, the slots of its types, the variables of its rules."""
+"""What states and tables do not tell of an accepted image: its buffers, the slots of each type, the variables of each rule."""
 from typing import NamedTuple, Tuple
 
 

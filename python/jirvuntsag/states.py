@@ -1,6 +1,7 @@
 """States as plain data, from and to their 81 words.
 
-A state is `{"clock": 0, "buffers": {"goal": {"type": "count-from", "slots": {"start": 2}, "delay": 0}, ..}}`, which JSON can keep.
+As plain data, which JSON can keep, a state is
+    {"clock": 0, "buffers": {"goal": {"type": "count-from", "slots": {"start": 2}, "delay": 0}, ..}}
 """
 from array import array
 from typing import Dict, NamedTuple, Union

@@ -1,4 +1,4 @@
-"""Runs all tests, doctests among them. The last line is 'N passed, M failed'; the exit status is 0 only if M is 0 and N is not."""
+"""Runs all tests, doctests too. The last line is 'N passed, M failed'; the exit status is 0 only if M is 0 and N is not."""
 import os
 import sys
 import unittest

@@ -7,7 +7,8 @@ from jirvuntsag import Model, Refused, calls
 from . import COUNTING, COUNTING_NAMES
 
 STATE = [0] * calls.STATE_WORDS
-THINGS = [None, 1.5, "", "goal", b"", b"goal", -1, 2, 2**16, 2**40, [], [1], {}, {1: 1}, object(), True, (), range(81), float("nan")]
+NUMBERS = [1.5, -1, 2, 2**16, 2**40, True, float("nan")]
+THINGS = [*NUMBERS, None, "", "goal", b"", b"goal", [], [1], {}, {1: 1}, object(), (), range(81)]
 
 
 class BadImages(unittest.TestCase):
@@ -41,13 +42,16 @@ class BadWords(unittest.TestCase):
         self.image = COUNTING.read_bytes()
 
     def test_tables(self):
-        for table, error in ([70_000], ValueError), ([-1], ValueError), ([1.5], TypeError), ("12", TypeError), (5, TypeError), (b"ab", TypeError):
+        cases = [([70_000], ValueError), ([-1], ValueError), ([1.5], TypeError)]
+        cases += [("12", TypeError), (5, TypeError), (b"ab", TypeError)]
+        for table, error in cases:
             with self.subTest(table=table), self.assertRaisesRegex(error, "table"):
                 calls.open_image(self.image, table)
         self.assertEqual(calls.open_image(self.image, [0] * 26).number, 5)
 
     def test_states(self):
-        for state, error in (STATE[1:], ValueError), ([2**32] + STATE[1:], ValueError), (None, TypeError), (["a"] * 81, TypeError):
+        cases = [(STATE[1:], ValueError), ([2**32] + STATE[1:], ValueError), (None, TypeError), (["a"] * 81, TypeError)]
+        for state, error in cases:
             with self.subTest(state=state), self.assertRaisesRegex(error, "state"):
                 calls.run_steps(self.image, state, [0] * 27, 1)
         self.assertEqual(calls.run_steps(self.image, [0, 99] + STATE[2:], [0] * 27, 1).number, 6)

@@ -8,7 +8,13 @@ import unittest
 
 from . import COUNTING, ROOT
 
-PROGRAM = "import jirvuntsag, sys\ntry:\n    jirvuntsag.Model.load(sys.argv[1])\nexcept jirvuntsag.NoLibrary as error:\n    print(error)\n"
+PROGRAM = """\
+import jirvuntsag, sys
+try:
+    jirvuntsag.Model.load(sys.argv[1])
+except jirvuntsag.NoLibrary as error:
+    print(error)
+"""
 
 
 class Library(unittest.TestCase):
