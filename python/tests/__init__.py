@@ -5,3 +5,5 @@ ROOT = pathlib.Path(__file__).resolve().parents[2]
 DATA = ROOT / "python" / "tests" / "data"
 COUNTING = ROOT / "models" / "counting.image"
 COUNTING_NAMES = DATA / "counting.names.json"
+COUNT_FROM = DATA / "count-from.image"
+COUNT_FROM_NAMES = DATA / "count-from.names.json"

@@ -5,9 +5,29 @@ import unittest
 
 from jirvuntsag import Buffer, Model, Refused
 
-from . import COUNTING, COUNTING_NAMES
+from . import COUNT_FROM, COUNT_FROM_NAMES, COUNTING, COUNTING_NAMES
 
 LINES = ["50 fire start", "150 wait 100", "200 fire go-on", "300 wait 100", "350 fire go-on", "400 fire stop", "550 wait 150"]
+
+# the times that D. Gall's thesis of 2013 prints in section 5.1, where 2.1999 s stands for 2.2 s
+PUBLISHED = [
+    "50 fire start",
+    "1050 wait 1000",
+    "1100 fire increment",
+    "2100 wait 1000",
+    "2150 fire increment",
+    "2200 fire stop",
+    "3150 wait 950",
+]
+
+
+class Published(unittest.TestCase):
+    """A model of a paper."""
+
+    def test_counting_from_2_to_4_has_the_printed_times(self):
+        run = Model.load(COUNT_FROM, COUNT_FROM_NAMES).open()
+        self.assertEqual([*map(str, run.steps())], PUBLISHED)
+        self.assertEqual([str(buffer) for buffer in run.buffers.values()], ["chunk", "count-order first=4 second=5"])
 
 
 class Runs(unittest.TestCase):

@@ -13,10 +13,9 @@ from jirvuntsag.__main__ import main
 from jirvuntsag.recording import record
 from jirvuntsag.svg import CHARACTER, columns
 
-from . import COUNTING, COUNTING_NAMES, DATA, ROOT
+from . import COUNT_FROM, COUNT_FROM_NAMES, COUNTING, COUNTING_NAMES, ROOT
 
 PICTURES = ROOT / "docs" / "pictures"
-COUNT_FROM, COUNT_FROM_NAMES = DATA / "count-from.image", DATA / "count-from.names.json"
 # one buffer, one type with one slot, one rule that always matches: it runs for ever
 FOREVER = bytes.fromhex("01104020000000820020000220010004000080")
 
