@@ -8,7 +8,7 @@ from .svg import CHARACTER, LINE, columns, element, packed, round_step, shortene
 MARGIN = 16
 BOX = 24  # the height of a step
 PAD = 8  # between a text and the border of its bar, both sides together
-LEAST_TICK = 90  # pixels from one tick of the axis to the next
+LEAST_TICK = 90  # pixels from one tick of the axis to the next, at least
 NARROW = 4  # a bar of this width or less has no border
 LABEL_ROWS = 4
 MOST_LINES = 6
@@ -211,9 +211,14 @@ def _nil(bar, height):
 
 
 def ticks(scale):
-    """The clocks at which the axis has a tick: round ones, LEAST_TICK pixels apart or more."""
-    step = round_step(LEAST_TICK / scale.per_ms)
+    """The clocks at which the axis has a tick: round ones, so far apart that their numbers have room."""
+    step = round_step(max(LEAST_TICK, 2 * _half(f"{scale.end:,}") + 30) / scale.per_ms)
     return range(-(-scale.start // step) * step, scale.end + 1, step)
+
+
+def _half(said):
+    """Half the width of a number at the axis."""
+    return 3.5 * len(said)
 
 
 def axis(scale):
@@ -225,8 +230,10 @@ def axis(scale):
     parts.append(text(f"clock in {'s' if in_seconds else 'ms'}", MARGIN, 18, class_="axis"))
     for clock in marks:
         said = f"{clock / 1000:,.{places}f}" if in_seconds else f"{clock:,}"
+        # the outermost numbers stay clear of the axis' name and of the picture's edge
+        x = min(max(scale.x(clock), scale.left - 20 + _half(said)), scale.right + MARGIN - 2 - _half(said))
         parts.append(element("path", d=f"M{scale.x(clock):.2f} 0v5", class_="rule"))
-        parts.append(text(said, scale.x(clock), 18, text_anchor="middle", class_="axis"))
+        parts.append(text(said, x, 18, text_anchor="middle", class_="axis"))
     return Lane(34, parts)
 
 

@@ -1,4 +1,5 @@
 """A run of a model: a state with its table, which moves on by steps."""
+import itertools
 import operator
 from array import array
 from collections.abc import Mapping
@@ -194,20 +195,16 @@ class Run:
         return events[0] if events else None
 
     def steps(self, most=None):
-        """Makes steps one by one and gives the event of each, at most so many; ends where the model halts.
+        """Makes steps, one whenever an event is asked for, at most so many; ends where the model halts.
 
         >>> from jirvuntsag import Model
         >>> run = Model.load("models/counting.image").open()
         >>> [str(event) for event in run.steps(2)]
         ['50 fire 0', '150 wait 100']
         """
-        left = None if most is None else _count(most)
-        while left is None or left > 0:
-            event = self.step()
-            if event is None:
-                return
-            yield event
-            left = None if left is None else left - 1
+        numbers = itertools.count() if most is None else range(_count(most))
+        events = (self.step() for _ in numbers)
+        return itertools.takewhile(lambda event: event is not None, events)
 
     def run(self, steps=calls.MOST_STEPS):
         """Makes at most so many steps, 65,535 at once at the most: how it ended."""

@@ -15,8 +15,9 @@ def main():
     failed = {getattr(test, "test_case", test).id() for test, _ in marked}
     failed |= {test.id() for test in result.unexpectedSuccesses}
     passed = max(result.testsRun - len(failed), 0)
-    print(f"{passed} passed, {len(failed)} failed")
-    return 0 if passed and not failed else 1
+    bad = len(failed) if passed else max(len(failed), 1)
+    print(f"{passed} passed, {bad} failed")
+    return 1 if bad else 0
 
 
 sys.exit(main())

@@ -133,7 +133,7 @@ class BadStates(unittest.TestCase):
             with self.subTest(steps=steps), self.assertRaises(error):
                 self.run_.run(steps)
             with self.subTest(steps=steps), self.assertRaises(error):
-                next(self.run_.steps(steps))
+                self.run_.steps(steps)
 
 
 class AnyThing(unittest.TestCase):
