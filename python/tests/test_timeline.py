@@ -14,10 +14,11 @@ from jirvuntsag.recording import record
 from jirvuntsag.svg import CHARACTER, columns
 
 from . import COUNT_FROM, COUNT_FROM_NAMES, COUNTING, COUNTING_NAMES, ROOT
+from .packing import Rule, pack
 
 PICTURES = ROOT / "docs" / "pictures"
-# one buffer, one type with one slot, one rule that always matches: it runs for ever
-FOREVER = bytes.fromhex("01104020000000820020000220010004000080")
+# a rule that always matches: it runs for ever
+FOREVER = pack([1], [(1, 1)], rules=[Rule([(0, 1, {})], [(0, "modify", {0: 2})])])
 
 
 def groups(svg, kind):
