@@ -9,6 +9,8 @@
 follows first=1 second=2 in 100 ms
 >>> run.matching()
 []
+>>> print(run.why_not("go-on"))
+retrieval is pending for another 100 ms
 >>> branch = run.copy()
 >>> for event in run.steps():
 ...     print(event)
@@ -26,6 +28,7 @@ What is refused is raised as `Refused`, with its number and what that means; wha
 TypeError. Nothing is altered by a call that raises, but for the steps that a run has made before it is refused.
 """
 from .calls import NoLibrary
+from .misses import Miss
 from .model import Model
 from .names import BadNames, Names
 from .picture import timeline
@@ -40,6 +43,7 @@ __all__ = [
     "Event",
     "MEANINGS",
     "Match",
+    "Miss",
     "Model",
     "Names",
     "NoLibrary",

@@ -6,6 +6,7 @@ from collections.abc import Mapping
 from typing import Dict, List, NamedTuple, Optional
 
 from . import calls
+from .misses import first_miss
 from .refusals import HALTED, MEANINGS, Refused
 from .states import Buffer, Name, buffer_from, buffer_words, clock_of, place, state_from, state_words
 
@@ -188,6 +189,21 @@ class Run:
         """
         entries = enumerate(self.table)
         return [self._match(rule, entry[1:]) for rule, entry in entries if entry[0] == 1]
+
+    def why_not(self, rule):
+        """The first test of a rule that does not hold now; None if the rule matches.
+
+        >>> from jirvuntsag import Model
+        >>> run = Model.load("models/counting.image").open()
+        >>> print(run.why_not(2))
+        slot 1 of buffer 0 is 3, not 1
+        >>> print(run.why_not(0))
+        None
+        """
+        number = self._model.vocabulary.rules.number(rule)
+        if self.table[number][0] == 1:
+            return None
+        return first_miss(self._model.shape.rules[number].tests, self._state, self._model.vocabulary)
 
     def step(self):
         """Makes one step: its event, or None if the model has halted."""

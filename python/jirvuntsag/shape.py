@@ -1,12 +1,21 @@
-"""What states and tables do not tell of an accepted image: its buffers, the slots of each type, the variables of each rule."""
+"""What states and tables do not tell of an accepted image: its buffers, the slots of each type, the tests of each rule."""
 from typing import NamedTuple, Tuple
 
 
+class Test(NamedTuple):
+    """A test: its buffer, its type, and for each named slot a term, below 4,096 a symbol and from there on a variable."""
+
+    buffer: int
+    type: int
+    terms: Tuple[Tuple[int, int], ...]
+
+
 class RuleShape(NamedTuple):
-    """A rule's utility, in thousandths, and how many variables it has."""
+    """A rule's utility, in thousandths, how many variables it has, and its tests."""
 
     utility: int
     variables: int
+    tests: Tuple[Test, ...]
 
 
 class Shape(NamedTuple):
@@ -33,21 +42,20 @@ class _Fields:
         self.at += width
         return three >> (24 - bit - width) & (1 << width) - 1
 
-    def skip_terms(self):
-        """A mask, and a term of 13 bits for each one in it."""
-        self.skip(13 * bin(self.take(8)).count("1"))
+    def terms(self):
+        """A mask, and for each slot that it names a term of 13 bits."""
+        mask = self.take(8)
+        return tuple((slot, self.take(13)) for slot in range(8) if mask >> 7 - slot & 1)
 
 
 def _rule(fields):
     utility = fields.take(16)
-    tests, actions, variables = fields.take(4), fields.take(4), fields.take(4)
-    for _ in range(tests):
-        fields.skip(3 + 6)
-        fields.skip_terms()
+    count, actions, variables = fields.take(4), fields.take(4), fields.take(4)
+    tests = tuple(Test(fields.take(3), fields.take(6), fields.terms()) for _ in range(count))
     for _ in range(actions):
         fields.skip(3)
         _skip_deed(fields, fields.take(2))
-    return RuleShape(utility - 65_536 if utility > 32_767 else utility, variables)
+    return RuleShape(utility - 65_536 if utility > 32_767 else utility, variables, tests)
 
 
 def _skip_deed(fields, kind):
@@ -55,7 +63,7 @@ def _skip_deed(fields, kind):
     if kind == 1:
         fields.skip(6)
     if kind < 2:
-        fields.skip_terms()
+        fields.terms()
 
 
 def shape_of(image):

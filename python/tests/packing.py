@@ -1,13 +1,13 @@
 """Packs small models for tests, field by field and without any check.
 
 A model is given by the slot counts of its types, its opening chunks, its facts and its rules. A chunk is its type with its
-values; a fact is a chunk, an activation and a latency. In tests and actions slots have terms: a number is a symbol, `v0` a variable.
+values; a fact is a chunk, an activation and a latency. In tests and actions slots have terms: 7 is a symbol, "v0" a variable.
 """
 from typing import NamedTuple
 
 
 class Rule(NamedTuple):
-    """Tests `(buffer, type, slots)`; actions `(buffer, "modify", slots)`, `(buffer, "request", type, slots)`, `(buffer, "clear")`."""
+    """Tests are (buffer, type, slots); actions (buffer, "modify", slots), (buffer, "request", type, slots), (buffer, "clear")."""
 
     tests: list
     actions: list

@@ -9,6 +9,12 @@ from . import ROOT
 CASES = 456
 
 
+def cases():
+    """All cases: the line of the call, and that of its answer."""
+    lines = (ROOT / "vectors" / "base.txt").read_text(encoding="ascii").splitlines()
+    return list(zip(lines[::2], lines[1::2]))
+
+
 def read_bytes(text):
     """Bytes from lower-case hex, `-` for none."""
     return b"" if text == "-" else bytes.fromhex(text)
@@ -72,21 +78,16 @@ ANSWERS = {"open": answer_open, "run": answer_run, "refresh": answer_refresh, "p
 class Vectors(unittest.TestCase):
     """The cases, and that none is passed over."""
 
-    @classmethod
-    def setUpClass(cls):
-        lines = (ROOT / "vectors" / "base.txt").read_text(encoding="ascii").splitlines()
-        cls.cases = list(zip(lines[::2], lines[1::2]))
-
     def hold(self, kind):
         """Every case of a kind of call has its answer."""
-        for call, answer in self.cases:
+        for call, answer in cases():
             name, *arguments = call.split(" ")
             if name == kind:
                 with self.subTest(call=call):
                     self.assertEqual(ANSWERS[kind](*arguments), answer)
 
     def test_the_cases_are_all_there(self):
-        kinds = collections.Counter(call.split(" ")[0] for call, _ in self.cases)
+        kinds = collections.Counter(call.split(" ")[0] for call, _ in cases())
         self.assertEqual(set(kinds), set(ANSWERS))
         self.assertEqual(sum(kinds.values()), CASES)
 
