@@ -28,12 +28,13 @@ What is refused is raised as `Refused`, with its number and what that means; wha
 TypeError. Nothing is altered by a call that raises, but for the steps that a run has made before it is refused.
 """
 from .calls import NoLibrary
-from .misses import Miss
+from .drawing.timeline import timeline
+from .events import Ended, Event
+from .matches import Match, Miss
 from .model import Model
 from .names import BadNames, Names
-from .picture import timeline
 from .refusals import MEANINGS, Refused
-from .run import Ended, Event, Match, Run
+from .run import Run
 from .states import Buffer
 
 __all__ = [

@@ -7,9 +7,9 @@ import sys
 import tempfile
 
 from .calls import MOST_STEPS
+from .drawing.timeline import NARROWEST, WIDEST, timeline
 from .model import Model
 from .refusals import Refused
-from .picture import NARROWEST, WIDEST, timeline
 
 TIMELINE = """\
 Runs a model from its opening and writes a timeline as SVG: the steps, and what each buffer holds, against the clock.

@@ -2,8 +2,9 @@
 import itertools
 from typing import Dict, List, NamedTuple, Optional
 
+from .events import Event
 from .refusals import HALTED, Refused
-from .run import Event, Run
+from .run import Run
 from .states import Buffer, Name
 
 

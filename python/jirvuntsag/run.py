@@ -2,88 +2,14 @@
 import itertools
 import operator
 from array import array
-from collections.abc import Mapping
-from typing import Dict, List, NamedTuple, Optional
 
 from . import calls
-from .misses import first_miss
-from .refusals import HALTED, MEANINGS, Refused
-from .states import Buffer, Name, buffer_from, buffer_words, clock_of, place, state_from, state_words
+from .events import Ended, event_from
+from .matches import Match, first_miss
+from .refusals import HALTED, Refused
+from .states import Buffer, Buffers, buffer_words, clock_of, place, state_from, state_words
 
-FIRING = 50
 ENTRY_WORDS = 9
-
-
-class Event(NamedTuple):
-    """A step: the clock after it, `fire` or `wait`, the rule that fired (None for a wait), the ms it took, the rule's name."""
-
-    clock: int
-    kind: str
-    rule: Optional[int]
-    ms: int
-    name: Optional[Name]
-
-    def __str__(self):
-        return f"{self.clock} {self.kind} {self.ms if self.rule is None else self.name}"
-
-
-class Ended(NamedTuple):
-    """How a run ended: 0, all steps asked were made, or 9, halted before that; the steps made; their events."""
-
-    number: int
-    made: int
-    events: List[Event]
-
-    @property
-    def halted(self):
-        """No rule matched and nothing was pending."""
-        return self.number == HALTED
-
-    @property
-    def meaning(self):
-        """What the number says, in words."""
-        return MEANINGS[self.number]
-
-    def __str__(self):
-        return f"end {self.number} {self.made}"
-
-
-class Match(NamedTuple):
-    """A rule that matches: its number, its name, its utility in thousandths, the values of its variables."""
-
-    rule: int
-    name: Name
-    utility: int
-    values: Dict[Name, Name]
-
-
-class Buffers(Mapping):
-    """The buffers of a state, by name or number.
-
-    >>> from jirvuntsag import Model
-    >>> buffers = Model.load("models/counting.image").open().buffers
-    >>> buffers[0].visible, 2 in buffers
-    (True, False)
-    """
-
-    def __init__(self, words, vocabulary):
-        self._words, self._vocabulary = words, vocabulary
-
-    def __getitem__(self, key):
-        try:
-            number = self._vocabulary.buffers.number(key)
-        except (ValueError, TypeError) as error:
-            raise KeyError(str(error)) from None
-        return buffer_from(self._words, number, self._vocabulary)
-
-    def __iter__(self):
-        return iter(self._vocabulary.buffers)
-
-    def __len__(self):
-        return len(self._vocabulary.buffers)
-
-    def __repr__(self):
-        return "{" + ", ".join(f"{name}: {buffer}" for name, buffer in self.items()) + "}"
 
 
 class Run:
@@ -227,7 +153,8 @@ class Run:
         traced = calls.trace_steps(self._model.image, self._state, self._table, steps)
         self._state, self._table = traced.state, traced.table
         starts = range(0, len(traced.events), calls.EVENT_WORDS)
-        events = [self._event(*traced.events[start : start + calls.EVENT_WORDS]) for start in starts]
+        rules = self._model.vocabulary.rules
+        events = [event_from(traced.events[start : start + calls.EVENT_WORDS], rules) for start in starts]
         if traced.number not in (0, HALTED):
             raise Refused(traced.number, traced.made, events)
         return Ended(traced.number, traced.made, events)
@@ -266,11 +193,6 @@ class Run:
         vocabulary = self._model.vocabulary
         named = {variable: vocabulary.symbols.name(value) for variable, value in zip(vocabulary.variables[rule], values)}
         return Match(rule, vocabulary.rules.name(rule), self._model.shape.rules[rule].utility, named)
-
-    def _event(self, clock, kind, number):
-        if kind == 0:
-            return Event(clock, "fire", number, FIRING, self._model.vocabulary.rules.name(number))
-        return Event(clock, "wait", None, number, None)
 
     def __repr__(self):
         return f"<Run at {self.clock} ms: {self.buffers!r}>"

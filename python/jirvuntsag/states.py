@@ -4,6 +4,7 @@ As plain data, which JSON can keep, a state is
     {"clock": 0, "buffers": {"goal": {"type": "count-from", "slots": {"start": 2}, "delay": 0}, ..}}
 """
 from array import array
+from collections.abc import Mapping
 from typing import Dict, NamedTuple, Union
 
 from .calls import STATE_WORDS, small_number
@@ -48,6 +49,35 @@ def buffer_from(words, number, vocabulary):
     isa, *slots, delay = words[place(number)]
     named = {slot: vocabulary.symbols.name(value) for slot, value in zip(vocabulary.slots[isa], slots)}
     return Buffer(vocabulary.types.name(isa), named, delay)
+
+
+class Buffers(Mapping):
+    """The buffers of a state, by name or number.
+
+    >>> from jirvuntsag import Model
+    >>> buffers = Model.load("models/counting.image").open().buffers
+    >>> buffers[0].visible, 2 in buffers
+    (True, False)
+    """
+
+    def __init__(self, words, vocabulary):
+        self._words, self._vocabulary = words, vocabulary
+
+    def __getitem__(self, key):
+        try:
+            number = self._vocabulary.buffers.number(key)
+        except (ValueError, TypeError) as error:
+            raise KeyError(str(error)) from None
+        return buffer_from(self._words, number, self._vocabulary)
+
+    def __iter__(self):
+        return iter(self._vocabulary.buffers)
+
+    def __len__(self):
+        return len(self._vocabulary.buffers)
+
+    def __repr__(self):
+        return "{" + ", ".join(f"{name}: {buffer}" for name, buffer in self.items()) + "}"
 
 
 def buffer_words(buffer, vocabulary):

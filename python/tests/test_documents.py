@@ -10,8 +10,8 @@ from . import ROOT
 
 def load_tests(_loader, tests, _pattern):
     """A test for each docstring with an example, and one for the page."""
-    names = [module.name for module in pkgutil.iter_modules(jirvuntsag.__path__)]
-    for module in [jirvuntsag, *(importlib.import_module(f"jirvuntsag.{name}") for name in names)]:
+    names = [module.name for module in pkgutil.walk_packages(jirvuntsag.__path__, "jirvuntsag.")]
+    for module in [jirvuntsag, *map(importlib.import_module, names)]:
         tests.addTests(doctest.DocTestSuite(module))
     tests.addTests(doctest.DocFileSuite(str(ROOT / "python" / "README.md"), module_relative=False))
     return tests

@@ -11,7 +11,7 @@ import xml.dom.minidom
 from jirvuntsag import Model, Names, timeline
 from jirvuntsag.__main__ import main
 from jirvuntsag.recording import record
-from jirvuntsag.svg import CHARACTER, columns
+from jirvuntsag.drawing.svg import CHARACTER, columns
 
 from . import COUNT_FROM, COUNT_FROM_NAMES, COUNTING, COUNTING_NAMES, ROOT
 from .packing import Rule, pack
@@ -92,8 +92,8 @@ class Pictures(unittest.TestCase):
         self.assertIn("increment fires, from 1,050 to 1,100 ms", titles)
         self.assertIn("wait of 950 ms, from 2,200 to 3,150 ms", titles)
         self.assertIn("retrieval: count-order first=2 second=3, pending, from 50 to 1,050 ms", titles)
-        self.assertIn("retrieval: count-order first=4 second=5, from 3,150 on", titles)
-        self.assertIn("goal: nil, from 2,200 on", titles)
+        self.assertIn("retrieval: count-order first=4 second=5, from 3,150 ms on", titles)
+        self.assertIn("goal: nil, from 2,200 ms on", titles)
 
     def test_texts_have_room_in_their_bars(self):
         for names in None, COUNT_FROM_NAMES:

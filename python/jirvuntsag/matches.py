@@ -1,8 +1,17 @@
-"""Why a rule does not match: the first of its tests that does not hold. That it does not is the table's word."""
-from typing import NamedTuple, Optional
+"""Rules that match, with the values of their variables, and why a rule does not match: that it does not is the table's word."""
+from typing import Dict, NamedTuple, Optional
 
 from .names import MOST_SYMBOLS
 from .states import Name, place
+
+
+class Match(NamedTuple):
+    """A rule that matches: its number, its name, its utility in thousandths, the values of its variables."""
+
+    rule: int
+    name: Name
+    utility: int
+    values: Dict[Name, Name]
 
 
 class Miss(NamedTuple):

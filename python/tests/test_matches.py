@@ -2,7 +2,7 @@
 import unittest
 
 from jirvuntsag import Miss, Model, Refused
-from jirvuntsag.misses import first_miss
+from jirvuntsag.matches import first_miss
 
 from . import COUNTING, COUNTING_NAMES
 from .test_vectors import cases, read_bytes, read_state

@@ -4,9 +4,13 @@ Every box and bar says all that it stands for where a pointer rests on it; what 
 """
 from xml.sax.saxutils import escape
 
-from .lanes import MARGIN, axis, buffer_lane, legend, rule_lane, ticks
-from .recording import record
-from .refusals import HALTED, MEANINGS
+from ..recording import record
+from ..refusals import HALTED, MEANINGS
+from .axis import axis, ticks
+from .buffers import buffer_lane
+from .lanes import MARGIN
+from .legend import legend
+from .steps import step_lane
 from .svg import Scale, clean, columns, element, number_text, shortened, text
 
 PIXELS_PER_MS = 1.6  # a firing is then as wide as most rules' names
@@ -34,7 +38,7 @@ def timeline(run, steps=1000, title="A run", width=WIDEST):
     vocabulary = run.model.vocabulary
     names = [vocabulary.buffers.text(number) for number in range(len(vocabulary.buffers))]
     scale = _scale(recording, names, max(width, NARROWEST))
-    lanes = [rule_lane(recording, scale, vocabulary.rules)]
+    lanes = [step_lane(recording, scale, vocabulary.rules)]
     lanes += [buffer_lane(name, spans, scale, vocabulary) for name, spans in zip(names, recording.lanes.values())]
     below = [axis(scale), legend(recording, scale, vocabulary)]
     return _picture(recording, scale, title, lanes, below)
