@@ -30,10 +30,9 @@ class Run:
     """
 
     def __init__(self, model, state, table):
-        # these arrays are replaced and never written to, so that copies may share them
         self._model = model
-        self._state = array("I", state)
-        self._table = array("H", table)
+        # the two arrays are replaced, both at once, and never written to: they always fit, and copies may share them
+        self._kept = array("I", state), array("H", table)
 
     @property
     def model(self):
@@ -43,21 +42,21 @@ class Run:
     @property
     def clock(self):
         """The clock in ms."""
-        return self._state[0]
+        return self._kept[0][0]
 
     @clock.setter
     def clock(self, clock):
-        self._move_to([clock_of(clock), *self._state[1:]])
+        self._move_to([clock_of(clock), *self.words[1:]])
 
     @property
     def buffers(self):
         """The buffers as they are now, by name or number."""
-        return Buffers(self._state, self._model.vocabulary)
+        return Buffers(self._kept[0], self._model.vocabulary)
 
     @property
     def words(self):
         """The state as 81 words: the clock, then type, eight slots and delay of each of eight buffers."""
-        return tuple(self._state)
+        return tuple(self._kept[0])
 
     @property
     def state(self):
@@ -73,7 +72,7 @@ class Run:
         >>> run.run() == first
         True
         """
-        return state_from(self._state, self._model.vocabulary)
+        return state_from(self._kept[0], self._model.vocabulary)
 
     @state.setter
     def state(self, state):
@@ -82,8 +81,8 @@ class Run:
     @property
     def table(self):
         """The table: for each rule 1 and the values of its variables 0 to 7, or nine zeros if it does not match."""
-        starts = range(0, len(self._table), ENTRY_WORDS)
-        return [tuple(self._table[start : start + ENTRY_WORDS]) for start in starts]
+        table = self._kept[1]
+        return [tuple(table[start : start + ENTRY_WORDS]) for start in range(0, len(table), ENTRY_WORDS)]
 
     def put(self, buffer, type, slots=None, delay=0):
         """Puts a chunk into a buffer from outside. Slots that are not named hold nil.
@@ -96,7 +95,7 @@ class Run:
         """
         number = self._model.vocabulary.buffers.number(buffer)
         chunk = Buffer(type, {} if slots is None else slots, delay)
-        words = array("I", self._state)
+        words = array("I", self.words)
         words[place(number)] = buffer_words(chunk, self._model.vocabulary)
         self._move_to(words)
 
@@ -127,9 +126,10 @@ class Run:
         None
         """
         number = self._model.vocabulary.rules.number(rule)
-        if self.table[number][0] == 1:
+        state, table = self._kept
+        if table[ENTRY_WORDS * number] == 1:
             return None
-        return first_miss(self._model.shape.rules[number].tests, self._state, self._model.vocabulary)
+        return first_miss(self._model.shape.rules[number].tests, state, self._model.vocabulary)
 
     def step(self):
         """Makes one step: its event, or None if the model has halted."""
@@ -150,8 +150,8 @@ class Run:
 
     def run(self, steps=calls.MOST_STEPS):
         """Makes at most so many steps, 65,535 at once at the most: how it ended."""
-        traced = calls.trace_steps(self._model.image, self._state, self._table, steps)
-        self._state, self._table = traced.state, traced.table
+        traced = calls.trace_steps(self._model.image, *self._kept, steps)
+        self._kept = traced.state, traced.table
         starts = range(0, len(traced.events), calls.EVENT_WORDS)
         rules = self._model.vocabulary.rules
         events = [event_from(traced.events[start : start + calls.EVENT_WORDS], rules) for start in starts]
@@ -178,16 +178,17 @@ class Run:
 
     def copy(self):
         """Another run from here, which goes its own way."""
-        return Run(self._model, self._state, self._table)
+        return Run(self._model, *self._kept)
 
     def _move_to(self, words):
         """Takes another state, and refreshes the table with the buffers that differ."""
         words = array("I", words)
-        differing = (b for b in range(self._model.shape.buffers) if words[place(b)] != self._state[place(b)])
-        refreshed = calls.refresh_table(self._model.image, words, sum(2**b for b in differing), self._table)
+        state, table = self._kept
+        differing = (b for b in range(self._model.shape.buffers) if words[place(b)] != state[place(b)])
+        refreshed = calls.refresh_table(self._model.image, words, sum(2**b for b in differing), table)
         if refreshed.number:
             raise Refused(refreshed.number)
-        self._state, self._table = words, refreshed.table
+        self._kept = words, refreshed.table
 
     def _match(self, rule, values):
         vocabulary = self._model.vocabulary

@@ -1,4 +1,5 @@
 """Runs, branches, states and matches of the counting model."""
+import concurrent.futures
 import copy
 import json
 import unittest
@@ -116,6 +117,18 @@ class Runs(unittest.TestCase):
     def test_the_table_stays_fresh(self):
         while self.run_.step():
             self.assertEqual(self.run_.table, self.fresh_table())
+
+    def test_a_run_in_several_threads_keeps_a_table_that_fits(self):
+        chunks = [("count", {"current": value, "target": 3}) for value in (1, 2, 3)]
+
+        def work(number):
+            for at in range(300):
+                self.run_.put("goal", *chunks[(at + number) % 3])
+                self.run_.run(3)
+
+        with concurrent.futures.ThreadPoolExecutor(4) as threads:
+            self.assertEqual([*threads.map(work, range(4))], [None] * 4)
+        self.assertEqual(self.run_.table, self.fresh_table())
 
     def test_the_clock_can_be_set_up_to_its_largest(self):
         self.run_.clock = 4_294_967_245
