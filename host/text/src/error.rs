@@ -1,0 +1,39 @@
+//! What is wrong with a text, and where.
+
+use std::fmt;
+
+/// A text that is refused: the place and the cause.
+#[derive(Clone, PartialEq, Eq, Debug)]
+pub struct TextError {
+    /// Line, from 1 on; 0 if the fault lies in no single line.
+    pub line: usize,
+    /// Column in characters, from 1 on; 0 if the fault lies in no single word.
+    pub column: usize,
+    /// The cause, and what was expected.
+    pub message: String,
+}
+
+impl TextError {
+    /// A fault of the text as a whole.
+    pub fn whole(message: impl Into<String>) -> TextError {
+        TextError { line: 0, column: 0, message: message.into() }
+    }
+
+    /// The fault with the file that it lies in: `model.txt:12:30: ..`.
+    pub fn in_file(&self, file: &str) -> String {
+        format!("{file}:{self}")
+    }
+}
+
+impl fmt::Display for TextError {
+    fn fmt(&self, f: &mut fmt::Formatter) -> fmt::Result {
+        for number in [self.line, self.column] {
+            if number > 0 {
+                write!(f, "{number}:")?;
+            }
+        }
+        write!(f, " {}", self.message)
+    }
+}
+
+impl std::error::Error for TextError {}
