@@ -1,9 +1,16 @@
 //! Models as readable text: names for what an image numbers, the way from text to an image and back.
 
 mod error;
+mod fit;
+mod image;
 mod json;
+mod model;
 mod names;
+mod parse;
+mod write;
 
 pub use error::TextError;
+pub use image::{read_image, Refused};
 pub use json::{parse as parse_json, Json};
+pub use model::{Model, IMAGE_LIMIT};
 pub use names::{Names, RuleNames, TypeNames, CHUNK, NIL};

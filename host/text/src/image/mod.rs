@@ -1,0 +1,123 @@
+//! From an image to its model, or to the field that it is refused for, in words.
+
+mod fields;
+mod rules;
+
+use std::fmt;
+
+use jirvuntsag_packing::{ChunkSpec, FactSpec, ModelSpec};
+
+use crate::model::IMAGE_LIMIT;
+use fields::{counted, Fields};
+
+/// Why an image is refused.
+#[derive(Clone, PartialEq, Eq, Debug)]
+pub struct Refused {
+    /// 1, 2, 3 or 4.
+    pub number: u8,
+    /// For 2 and 3 the field's first bit (for a variable in no test, the bit after the tests).
+    pub at: Option<usize>,
+    /// The field and what is wrong with it.
+    pub cause: String,
+}
+
+impl Refused {
+    /// What the number says.
+    pub fn meaning(&self) -> &'static str {
+        match self.number {
+            1 => "the image is over 65,536 bytes",
+            2 => "a field is not wholly there",
+            3 => "a field breaks its rule",
+            _ => "a pad bit is 1, or a byte follows",
+        }
+    }
+}
+
+impl fmt::Display for Refused {
+    fn fmt(&self, f: &mut fmt::Formatter) -> fmt::Result {
+        write!(f, "refused: {} ({})", self.number, self.meaning())?;
+        if let Some(at) = self.at {
+            write!(f, " at bit {at}")?;
+        }
+        write!(f, ": {}", self.cause)
+    }
+}
+
+impl std::error::Error for Refused {}
+
+/// The model of an image.
+pub fn read_image(image: &[u8]) -> Result<ModelSpec, Refused> {
+    if image.len() > IMAGE_LIMIT {
+        return Err(Refused { number: 1, at: None, cause: format!("it has {} bytes", image.len()) });
+    }
+    let mut fields = Fields::new(image);
+    let mut spec = ModelSpec::default();
+    let counts = header(&mut fields, &mut spec)?;
+    for number in 1..=counts.types {
+        let what = || format!("slot count of type {number}");
+        spec.types.push(fields.at_most(4, 8, what)? as u8);
+    }
+    for buffer in 0..counts.buffers {
+        let opening = chunk(&mut fields, &spec, 0, &format!("the opening of buffer {buffer}"))?;
+        spec.opening.push(opening);
+    }
+    for number in 0..counts.facts {
+        let fact = fact(&mut fields, &spec, number)?;
+        spec.facts.push(fact);
+    }
+    for number in 0..counts.rules {
+        let rule = rules::rule(&mut fields, &spec, number)?;
+        spec.rules.push(rule);
+    }
+    fields.finish()?;
+    Ok(spec)
+}
+
+/// How many of each kind follow the header.
+struct Counts {
+    buffers: u16,
+    types: u16,
+    rules: u16,
+    facts: u16,
+}
+
+/// Version, counts and failure latency.
+fn header(fields: &mut Fields, spec: &mut ModelSpec) -> Result<Counts, Refused> {
+    fields.judged(8, || "version".into(), |version| (version != 1).then(|| "only version 1 is known".into()))?;
+    let wrong = |count| (!(1..=8).contains(&count)).then(|| "there are 1 to 8 buffers".into());
+    let buffers = fields.judged(4, || "number of buffers".into(), wrong)?;
+    let types = fields.take(6, || "number of types".into())?;
+    let rules = fields.at_most(9, 256, || "number of rules".into())?;
+    let facts = fields.at_most(10, 512, || "number of facts".into())?;
+    spec.failure = fields.take(16, || "failure latency".into())?;
+    Ok(Counts { buffers, types, rules, facts })
+}
+
+/// A type from `lowest` to T and the values of its slots.
+fn chunk(fields: &mut Fields, spec: &ModelSpec, lowest: u16, whose: &str) -> Result<ChunkSpec, Refused> {
+    let isa = type_of(fields, spec, lowest, whose)?;
+    let slots = (0..spec.slot_count(isa)).map(|slot| fields.take(12, || format!("slot {slot} of {whose}")));
+    Ok(ChunkSpec { isa, slots: slots.collect::<Result<_, _>>()? })
+}
+
+/// A type field, `lowest` to T.
+fn type_of(fields: &mut Fields, spec: &ModelSpec, lowest: u16, whose: &str) -> Result<u8, Refused> {
+    let highest = spec.types.len();
+    let wrong = |isa| {
+        if isa < lowest {
+            Some("a declared type is needed".into())
+        } else {
+            (usize::from(isa) > highest).then(|| format!("there {}", counted(highest, "type")))
+        }
+    };
+    Ok(fields.judged(6, || format!("type of {whose}"), wrong)? as u8)
+}
+
+/// One fact.
+fn fact(fields: &mut Fields, spec: &ModelSpec, number: u16) -> Result<FactSpec, Refused> {
+    let whose = format!("fact {number}");
+    let chunk = chunk(fields, spec, 1, &whose)?;
+    let activation = fields.take(16, || format!("activation of {whose}"))?;
+    let latency = fields.take(16, || format!("latency of {whose}"))?;
+    Ok(FactSpec { chunk, activation, latency })
+}

@@ -1,0 +1,155 @@
+//! Lines that declare: failure latency, symbols, types, buffers and facts.
+
+use jirvuntsag_packing::{ChunkSpec, FactSpec};
+
+use super::lookup::ISA;
+use super::symbols::HIGHEST;
+use super::words::{name_fault, whole_number, Line, Word};
+use super::Parser;
+use crate::error::TextError;
+use crate::names::TypeNames;
+
+/// Words that end the slots of a fact, so that no slot can be called so.
+const ACTIVATION: &str = "activation";
+const LATENCY: &str = "latency";
+
+impl<'t> Parser<'t> {
+    /// `failure latency MS`.
+    pub fn failure(&mut self, first: Word, mut line: Line<'t>) -> Result<(), TextError> {
+        if self.failure_said {
+            return Err(first.error("the failure latency is said twice"));
+        }
+        line.expect(LATENCY)?;
+        self.spec.failure = whole_number(line.take("a latency in ms")?, "a latency", u16::MAX)?;
+        self.failure_said = true;
+        line.end()
+    }
+
+    /// `symbol NAME = NUMBER`.
+    pub fn symbol(&mut self, mut line: Line<'t>) -> Result<(), TextError> {
+        let word = line.take("a symbol")?;
+        line.expect("=")?;
+        let wanted = line.take("a symbol's number")?;
+        let number = whole_number(wanted, "a symbol's number", HIGHEST)?;
+        self.symbols.declare(word, wanted, number)?;
+        line.end()
+    }
+
+    /// `type NAME SLOT ..`.
+    pub fn type_line(&mut self, mut line: Line<'t>) -> Result<(), TextError> {
+        let word = line.take("the type's name")?;
+        let before = self.names.types.iter().map(|one| &one.name);
+        if let Some(fault) = type_name_fault(word.text, before) {
+            return Err(word.error(fault));
+        }
+        let own = word.text.to_owned();
+        if self.spec.types.len() == 63 {
+            return Err(word.error("more than 63 types"));
+        }
+        let mut slots: Vec<String> = Vec::new();
+        while let Some(word) = line.next() {
+            if let Some(fault) = slot_name_fault(word.text, &slots) {
+                return Err(word.error(fault));
+            }
+            if slots.len() == 8 {
+                return Err(word.error(format!("more than 8 slots in type '{own}'")));
+            }
+            slots.push(word.text.into());
+        }
+        self.spec.types.push(slots.len() as u8);
+        self.names.types.push(TypeNames { name: own, slots });
+        Ok(())
+    }
+
+    /// `buffer NAME` or `buffer NAME TYPE SLOT VALUE ..`.
+    pub fn buffer(&mut self, mut line: Line<'t>) -> Result<(), TextError> {
+        let word = line.take("the buffer's name")?;
+        if let Some(fault) = buffer_name_fault(word.text, &self.names.buffers) {
+            return Err(word.error(fault));
+        }
+        if self.spec.opening.len() == 8 {
+            return Err(word.error("more than 8 buffers"));
+        }
+        let chunk = match line.peek() {
+            None => ChunkSpec::nil(),
+            Some(_) => {
+                let (_, isa) = self.take_type(&mut line)?;
+                self.chunk(isa, &mut line)?
+            }
+        };
+        line.end()?;
+        self.names.buffers.push(word.text.into());
+        self.spec.opening.push(chunk);
+        Ok(())
+    }
+
+    /// `fact TYPE SLOT VALUE .. activation NUMBER latency MS`.
+    pub fn fact(&mut self, first: Word, mut line: Line<'t>) -> Result<(), TextError> {
+        if self.spec.facts.len() == 512 {
+            return Err(first.error("more than 512 facts"));
+        }
+        let isa = self.take_declared_type(&mut line, "a fact")?;
+        let mut fact = FactSpec { chunk: self.chunk(isa, &mut line)?, ..FactSpec::default() };
+        if line.peek().is_some_and(|word| word.text == ACTIVATION) {
+            line.next();
+            fact.activation = whole_number(line.take("an activation")?, "an activation", u16::MAX)?;
+        }
+        if line.peek().is_some_and(|word| word.text == LATENCY) {
+            line.next();
+            fact.latency = whole_number(line.take("a latency in ms")?, "a latency", u16::MAX)?;
+        }
+        line.end()?;
+        self.spec.facts.push(fact);
+        Ok(())
+    }
+
+    /// Slots with their values, up to the line's end or a fact's closing words; a slot that is not named is nil.
+    fn chunk(&mut self, isa: u8, line: &mut Line<'t>) -> Result<ChunkSpec, TextError> {
+        let mut slots = vec![0; self.spec.slot_count(isa)];
+        let mut named = 0_u8;
+        while let Some(word) = line.peek().filter(|word| word.text != ACTIVATION && word.text != LATENCY) {
+            line.next();
+            let slot = self.slot_number(word, isa)?;
+            if named >> slot & 1 == 1 {
+                return Err(word.error(format!("slot '{}' is named twice", word.text)));
+            }
+            named |= 1 << slot;
+            let value = line.take(&format!("the value of slot '{}'", word.text))?;
+            slots[slot] = self.symbols.number(value)?;
+        }
+        Ok(ChunkSpec { isa, slots })
+    }
+}
+
+/// Why a type cannot be called so, after the types before it.
+pub fn type_name_fault<'n>(name: &str, mut before: impl Iterator<Item = &'n String>) -> Option<String> {
+    if name == ISA {
+        return Some(format!("'{name}' has a meaning of its own and cannot be a type"));
+    }
+    if before.any(|other| other == name) {
+        return Some(format!("type '{name}' is declared twice"));
+    }
+    name_fault(name)
+}
+
+/// Why a slot cannot be called so, after the slots of its type before it.
+pub fn slot_name_fault(name: &str, before: &[String]) -> Option<String> {
+    if [ISA, ACTIVATION, LATENCY, "-"].contains(&name) {
+        return Some(format!("'{name}' has a meaning of its own and cannot be a slot"));
+    }
+    if before.iter().any(|other| other == name) {
+        return Some(format!("slot '{name}' is named twice"));
+    }
+    name_fault(name)
+}
+
+/// Why a buffer cannot be called so, after the buffers before it.
+pub fn buffer_name_fault(name: &str, before: &[String]) -> Option<String> {
+    if name.contains('>') {
+        return Some("'>' cannot stand in the name of a buffer".into());
+    }
+    if before.iter().any(|other| other == name) {
+        return Some(format!("buffer '{name}' is declared twice"));
+    }
+    name_fault(name)
+}

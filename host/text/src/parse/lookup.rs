@@ -1,0 +1,66 @@
+//! From names to numbers, and what to say of a name that is not there.
+
+use super::words::{Line, Word};
+use super::Parser;
+use crate::error::TextError;
+use crate::names::TypeNames;
+
+/// The word that may stand before a type, as in ACT-R.
+pub const ISA: &str = "isa";
+
+impl<'t> Parser<'t> {
+    /// The number of a type; the word `isa` before it is passed over.
+    pub fn take_type(&self, line: &mut Line<'t>) -> Result<(Word<'t>, u8), TextError> {
+        if line.peek().is_some_and(|word| word.text == ISA) {
+            line.next();
+        }
+        let word = line.take("a type")?;
+        let position = self.names.types.iter().position(|one| one.name == word.text);
+        match position {
+            Some(number) => Ok((word, number as u8)),
+            None => Err(word.error(format!("type '{}' is not declared ({})", word.text, self.type_list()))),
+        }
+    }
+
+    /// A type other than `chunk`, for what only a declared type can have.
+    pub fn take_declared_type(&self, line: &mut Line<'t>, what: &str) -> Result<u8, TextError> {
+        match self.take_type(line)? {
+            (word, 0) => Err(word.error(format!("{what} has a declared type, not chunk"))),
+            (_, number) => Ok(number),
+        }
+    }
+
+    /// The number of a buffer, by the word that it stands in.
+    pub fn buffer_number(&self, word: Word, name: &str) -> Result<u8, TextError> {
+        let position = self.names.buffers.iter().position(|one| one == name);
+        match position {
+            Some(number) => Ok(number as u8),
+            None => Err(word.error(format!("buffer '{name}' is not declared ({})", listed(&self.names.buffers)))),
+        }
+    }
+
+    /// The number of a type's slot.
+    pub fn slot_number(&self, word: Word, isa: u8) -> Result<usize, TextError> {
+        let TypeNames { name, slots } = &self.names.types[usize::from(isa)];
+        if let Some(number) = slots.iter().position(|slot| slot == word.text) {
+            return Ok(number);
+        }
+        Err(word.error(match word.text {
+            "-" => "a slot cannot be negated in an image: give the rule for the other case a higher utility".into(),
+            text => format!("slot '{text}' is not a slot of type '{name}' ({})", listed(slots)),
+        }))
+    }
+
+    fn type_list(&self) -> String {
+        let names: Vec<String> = self.names.types.iter().map(|one| one.name.clone()).collect();
+        listed(&names)
+    }
+}
+
+/// Names with commas between them.
+fn listed(names: &[String]) -> String {
+    if names.is_empty() {
+        return "there is none".into();
+    }
+    names.join(", ")
+}

@@ -1,0 +1,66 @@
+//! Numbers for symbols: declared ones, and the lowest that is free for every other.
+
+use std::collections::{BTreeMap, HashMap};
+
+use super::words::{name, Word};
+use crate::error::TextError;
+use crate::names::NIL;
+
+/// Highest symbol.
+pub const HIGHEST: u16 = 4_095;
+
+/// The symbols so far.
+pub struct Symbols {
+    numbers: HashMap<String, u16>,
+    names: BTreeMap<u16, String>,
+    /// No number below this one is free.
+    lowest: u16,
+}
+
+impl Symbols {
+    /// `nil` alone.
+    pub fn new() -> Symbols {
+        let mut symbols = Symbols { numbers: HashMap::new(), names: BTreeMap::new(), lowest: 1 };
+        symbols.insert(NIL, 0);
+        symbols
+    }
+
+    /// The names by number.
+    pub fn into_names(self) -> BTreeMap<u16, String> {
+        self.names
+    }
+
+    /// The number of a symbol; a new symbol gets the lowest that is free.
+    pub fn number(&mut self, word: Word) -> Result<u16, TextError> {
+        let name = name(word)?;
+        if let Some(&number) = self.numbers.get(name) {
+            return Ok(number);
+        }
+        while self.names.contains_key(&self.lowest) {
+            self.lowest += 1;
+        }
+        if self.lowest > HIGHEST {
+            return Err(word.error(format!("more than {HIGHEST} symbols besides nil: '{name}' finds no number")));
+        }
+        self.insert(name, self.lowest);
+        Ok(self.lowest)
+    }
+
+    /// Gives a symbol a number of the text's choice.
+    pub fn declare(&mut self, word: Word, wanted: Word, number: u16) -> Result<(), TextError> {
+        let name = name(word)?;
+        if let Some(has) = self.numbers.get(name) {
+            return Err(word.error(format!("symbol '{name}' has the number {has} already")));
+        }
+        if let Some(other) = self.names.get(&number) {
+            return Err(wanted.error(format!("number {number} is that of the symbol '{other}' already")));
+        }
+        self.insert(name, number);
+        Ok(())
+    }
+
+    fn insert(&mut self, name: &str, number: u16) {
+        self.numbers.insert(name.into(), number);
+        self.names.insert(number, name.into());
+    }
+}

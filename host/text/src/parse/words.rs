@@ -1,0 +1,134 @@
+//! The words of a line, and what a word may be.
+
+use crate::error::TextError;
+
+/// A word and its place.
+#[derive(Clone, Copy, PartialEq, Eq, Debug)]
+pub struct Word<'t> {
+    pub text: &'t str,
+    pub line: usize,
+    pub column: usize,
+}
+
+impl Word<'_> {
+    /// A fault at this word.
+    pub fn error(&self, message: impl Into<String>) -> TextError {
+        TextError { line: self.line, column: self.column, message: message.into() }
+    }
+}
+
+/// A line without its comment; words are taken from left to right.
+pub struct Line<'t> {
+    words: std::vec::IntoIter<Word<'t>>,
+    number: usize,
+    /// The column after the last word.
+    end: usize,
+}
+
+impl<'t> Line<'t> {
+    /// The words of a line up to `#` or `;`.
+    pub fn new(number: usize, text: &'t str) -> Line<'t> {
+        let text = text.split(['#', ';']).next().unwrap_or("");
+        let mut words = Vec::new();
+        let (mut column, mut end) = (1, 1);
+        for piece in text.split_inclusive(char::is_whitespace) {
+            let word = piece.trim_end();
+            if !word.is_empty() {
+                words.push(Word { text: word, line: number, column });
+                end = column + word.chars().count();
+            }
+            column += piece.chars().count();
+        }
+        Line { words: words.into_iter(), number, end }
+    }
+
+    /// The next word, if there is one.
+    pub fn next(&mut self) -> Option<Word<'t>> {
+        self.words.next()
+    }
+
+    /// The next word, which stays.
+    pub fn peek(&self) -> Option<Word<'t>> {
+        self.words.as_slice().first().copied()
+    }
+
+    /// The next word, or a fault that says what it should have been.
+    pub fn take(&mut self, wanted: &str) -> Result<Word<'t>, TextError> {
+        self.next().ok_or_else(|| self.error_at_end(format!("the line ends where {wanted} is expected")))
+    }
+
+    /// This very word.
+    pub fn expect(&mut self, wanted: &str) -> Result<(), TextError> {
+        let word = self.take(&format!("'{wanted}'"))?;
+        if word.text == wanted {
+            return Ok(());
+        }
+        Err(word.error(format!("expected '{wanted}', found '{}'", word.text)))
+    }
+
+    /// No more words.
+    pub fn end(&mut self) -> Result<(), TextError> {
+        match self.next() {
+            None => Ok(()),
+            Some(word) => Err(word.error(format!("expected the end of the line, found '{}'", word.text))),
+        }
+    }
+
+    /// A fault after the last word.
+    pub fn error_at_end(&self, message: impl Into<String>) -> TextError {
+        TextError { line: self.number, column: self.end, message: message.into() }
+    }
+}
+
+/// Why a word cannot be a name, if it cannot.
+pub fn name_fault(name: &str) -> Option<String> {
+    if name.starts_with('?') {
+        return Some(format!("'{name}' is a variable, which stands only in rules"));
+    }
+    if name.starts_with('=') {
+        return Some(format!("'{name}' is no name: a variable is written '?{}'", &name[1..]));
+    }
+    let bad = |letter: &char| "()\"#;".contains(*letter) || letter.is_whitespace() || letter.is_control();
+    match name.chars().find(bad) {
+        Some(letter) => Some(format!("'{}' cannot stand in a name", letter.escape_debug())),
+        None if name.is_empty() => Some("a name has at least one character".into()),
+        None => None,
+    }
+}
+
+/// The word as a name.
+pub fn name<'t>(word: Word<'t>) -> Result<&'t str, TextError> {
+    match name_fault(word.text) {
+        Some(fault) => Err(word.error(fault)),
+        None => Ok(word.text),
+    }
+}
+
+/// A whole number from 0 to a highest one.
+pub fn whole_number(word: Word, what: &str, highest: u16) -> Result<u16, TextError> {
+    let digits = !word.text.is_empty() && word.text.bytes().all(|byte| byte.is_ascii_digit());
+    let number = word.text.parse().ok().filter(|number: &u16| digits && *number <= highest);
+    number.ok_or_else(|| word.error(format!("{what} is a whole number from 0 to {highest}, not '{}'", word.text)))
+}
+
+/// A utility with up to three decimals, as the image's field of thousandths.
+pub fn utility(word: Word) -> Result<u16, TextError> {
+    let thousandths = thousandths(word.text).filter(|value| (-32_768..=32_767).contains(value));
+    thousandths.map(|value| value as u16).ok_or_else(|| {
+        let wanted = "a utility is a number from -32.768 to 32.767 with at most three decimals";
+        word.error(format!("{wanted}, not '{}'", word.text))
+    })
+}
+
+/// A decimal number in thousandths.
+fn thousandths(text: &str) -> Option<i32> {
+    let (sign, digits) = text.strip_prefix('-').map_or((1, text), |rest| (-1, rest));
+    let (whole, decimals) = digits.split_once('.').unwrap_or((digits, "0"));
+    let plain = |part: &str, most| (1..=most).contains(&part.len()) && part.bytes().all(|byte| byte.is_ascii_digit());
+    if !plain(whole, 5) || !plain(decimals, 3) {
+        return None;
+    }
+    let whole: i32 = whole.parse().ok()?;
+    let decimals: i32 = format!("{decimals:0<3}").parse().ok()?;
+    Some(sign * (1_000 * whole + decimals))
+}

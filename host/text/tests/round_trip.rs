@@ -1,0 +1,155 @@
+//! Image to text to image, and text to image to text: nothing is lost.
+
+use jirvuntsag_generate::{damage, each_seed, model, model_of, Shape};
+use jirvuntsag_packing::{model_a, pack, pack_with_fields, ActionSpec, ChunkSpec, ModelSpec, RuleSpec, Term, TestSpec};
+use jirvuntsag_text::{Model, Names};
+
+/// Image, text, image, text: the images are the same, and so are the texts.
+fn assert_round(image: &[u8]) {
+    let first = Model::from_image(image).expect("an image that opens");
+    assert_eq!(first.image(), image);
+    let text = first.to_text();
+    let second = Model::from_text(&text).unwrap_or_else(|error| panic!("{}\n{text}", error.in_file("text")));
+    assert_eq!(second.image(), image, "{text}");
+    assert_eq!(second.to_text(), text);
+}
+
+#[test]
+fn model_a_as_text() {
+    let text = Model::from_image(&pack(&model_a())).expect("model A").to_text();
+    let wanted = "failure latency 200
+
+type t1 s0 s1
+type t2 s0 s1
+
+fact t1 s0 x1 s1 x2 activation 10 latency 100
+fact t1 s0 x2 s1 x3 activation 10 latency 100
+
+buffer b0 t2 s0 x1 s1 x3
+buffer b1
+
+rule r0 utility 0
+  =b0> t2 s0 ?v0
+  =b1> chunk
+  ==>
+  +b1> t1 s0 ?v0
+
+rule r1 utility 0
+  =b0> t2 s0 ?v0
+  =b1> t1 s0 ?v0 s1 ?v1
+  ==>
+  =b0> s0 ?v1
+  +b1> t1 s0 ?v1
+
+rule r2 utility 1
+  =b0> t2 s0 ?v0 s1 ?v0
+  ==>
+  -b0>
+";
+    assert_eq!(text, wanted);
+    assert_round(&pack(&model_a()));
+}
+
+#[test]
+fn random_models() {
+    each_seed(1, 3_000, |_, mut rng| assert_round(&pack(&model(&mut rng))));
+}
+
+#[test]
+fn damaged_images_that_still_open() {
+    let mut opened = 0;
+    each_seed(50_000, 3_000, |_, mut rng| {
+        let shape = Shape::small(&mut rng);
+        let packed = pack_with_fields(&model_of(&mut rng, shape));
+        let (_, image) = damage(&mut rng, &packed);
+        if Model::from_image(&image).is_ok() {
+            assert_round(&image);
+            opened += 1;
+        }
+    });
+    assert!(opened > 300, "{opened} opened");
+}
+
+/// Symbols and variables in an order that no first appearance gives, every utility's sign, empty masks.
+#[test]
+fn numbers_out_of_order() {
+    let v = Term::Variable;
+    let s = Term::Symbol;
+    let rule = |utility| RuleSpec {
+        utility,
+        variables: 3,
+        tests: vec![
+            TestSpec::new(0, 1, &[(0, v(2)), (1, v(0)), (2, s(4_095))]),
+            TestSpec::new(1, 1, &[(0, v(1)), (2, v(2))]),
+            TestSpec::new(2, 0, &[]),
+        ],
+        actions: vec![
+            ActionSpec::modify(0, &[]),
+            ActionSpec::request(1, 2, &[]),
+            ActionSpec::modify(2, &[]),
+            ActionSpec::clear(3),
+        ],
+    };
+    let spec = ModelSpec {
+        failure: 65_535,
+        types: vec![3, 0],
+        opening: vec![
+            ChunkSpec::new(1, &[9, 0, 2]),
+            ChunkSpec::new(2, &[]),
+            ChunkSpec::nil(),
+            ChunkSpec::new(1, &[1, 3, 2]),
+        ],
+        facts: vec![],
+        rules: [0x8000, 0xffff, 0x7fff, 1, 999, 0xfc18, 0xfc17].map(rule).into(),
+    };
+    assert_round(&pack(&spec));
+    let text = Model::from_image(&pack(&spec)).expect("opens").to_text();
+    for line in [
+        "symbol x9 = 9",
+        "symbol x2 = 2",
+        "symbol x4095 = 4095",
+        "rule r0 utility -32.768 variables ?v0 ?v1 ?v2",
+        "rule r1 utility -0.001 variables ?v0 ?v1 ?v2",
+        "rule r2 utility 32.767 variables ?v0 ?v1 ?v2",
+        "rule r4 utility 0.999 variables ?v0 ?v1 ?v2",
+        "rule r5 utility -1 variables ?v0 ?v1 ?v2",
+        "  =b0>",
+        "  +b1> t2",
+    ] {
+        assert!(text.lines().any(|one| one == line), "{line} is not in\n{text}");
+    }
+    assert_eq!(text.lines().filter(|line| line.starts_with("symbol")).count(), 3);
+}
+
+#[test]
+fn names_go_to_a_file_and_back() {
+    each_seed(70_000, 300, |_, mut rng| {
+        let image = pack(&model(&mut rng));
+        let text = Model::from_image(&image).expect("opens").to_text();
+        let named = Model::from_text(&text).expect("packs");
+        let names = Names::from_json(&named.names().to_json()).expect("names");
+        assert_eq!(&names, named.names());
+        let again = Model::from_image(&image).expect("opens").with_names(names).expect("names that fit");
+        assert_eq!(again.to_text(), text);
+    });
+}
+
+#[test]
+fn order_of_lines_and_slots_changes_no_byte() {
+    let one = "type t a b c\nbuffer x t a 1 b 2\nbuffer y\n
+rule r variables ?p ?q
+ =x> t a ?p b ?q
+ =y> chunk
+ ==>
+ =x> a ?q b ?p
+ -y>";
+    let other = "# the same\ntype t a b c\r\nbuffer x isa t a 1 b 2 c nil ; opening\nbuffer y chunk\nrule r utility 0.0 variables ?p ?q
+=y> isa chunk
+=x> isa t b ?q a ?p
+==>
+-y>
+=x> b ?p a ?q
+failure latency 0";
+    let (one, other) = (Model::from_text(one).expect("one"), Model::from_text(other).expect("other"));
+    assert_eq!(one, other);
+}
