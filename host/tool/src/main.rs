@@ -1,0 +1,64 @@
+//! The command `jirvuntsag`: each subcommand has a file of its own.
+
+mod arguments;
+mod check;
+mod failure;
+mod files;
+mod pack;
+mod unpack;
+
+use std::process::ExitCode;
+
+use arguments::Arguments;
+use failure::Failure;
+
+/// What every subcommand is: how it is used, and what it does.
+struct Command {
+    name: &'static str,
+    /// One line for the list of subcommands.
+    summary: &'static str,
+    /// The first line is how it is written.
+    usage: &'static str,
+    /// Options that are followed by a value.
+    options: &'static [&'static str],
+    run: fn(Arguments) -> Result<(), Failure>,
+}
+
+/// All subcommands.
+const COMMANDS: [&Command; 3] = [&pack::COMMAND, &unpack::COMMAND, &check::COMMAND];
+
+fn main() -> ExitCode {
+    let mut words = std::env::args().skip(1);
+    let first = words.next().unwrap_or_default();
+    let result = match COMMANDS.iter().find(|command| command.name == first) {
+        Some(command) => run(command, words.collect()),
+        None if first == "-h" || first == "--help" => files::write_out(help().as_bytes()),
+        None if first.is_empty() => Err(Failure::usage(help())),
+        None => Err(Failure::usage(format!("jirvuntsag: '{first}' is no subcommand\n{}", help()))),
+    };
+    match result {
+        Ok(()) => ExitCode::SUCCESS,
+        Err(failure) => {
+            eprintln!("{}", failure.message.trim_end());
+            ExitCode::from(failure.status)
+        }
+    }
+}
+
+/// Runs a subcommand, or prints its help.
+fn run(command: &Command, words: Vec<String>) -> Result<(), Failure> {
+    if words.iter().any(|word| word == "-h" || word == "--help") {
+        return files::write_out(format!("{}\n", command.usage).as_bytes());
+    }
+    let refused = |why| Failure::usage(format!("jirvuntsag {}: {why}\n{}", command.name, command.usage));
+    (command.run)(Arguments::new(words, command.options).map_err(refused)?)
+}
+
+/// The list of subcommands.
+fn help() -> String {
+    let lines: String = COMMANDS.iter().map(|command| format!("  {:10}{}\n", command.name, command.summary)).collect();
+    format!(
+        "usage: jirvuntsag SUBCOMMAND ..\n\n{lines}\n'jirvuntsag SUBCOMMAND --help' says more. Exit status: 0 done, 1 the input is refused, 2 not \
+         used rightly,\nor a file cannot be read or written.\n"
+    )
+}
