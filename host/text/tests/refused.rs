@@ -1,5 +1,6 @@
 //! Refused images: the same number and bit as the engines, and the field in words.
 
+use jirvuntsag_compare::PROVED;
 use jirvuntsag_generate::{damage, each_seed, model_of, Shape};
 use jirvuntsag_packing::{model_a, pack, pack_with_fields, ActionSpec, Role};
 use jirvuntsag_text::read_image;
@@ -20,8 +21,8 @@ fn assert_same(image: &[u8]) {
         }
         (ours, theirs) => panic!("{ours:?} and {:?}", theirs.map(|_| ())),
     };
-    let mut table = vec![0; jirvuntsag_proved::table_len(image)];
-    assert_eq!(jirvuntsag_proved::open(image, &mut table).0, number);
+    let mut table = vec![0; (PROVED.table_len)(image)];
+    assert_eq!((PROVED.open)(image, &mut table).0, number);
 }
 
 #[test]
