@@ -31,7 +31,11 @@ pub fn read(path: &str) -> Result<Vec<u8>, Failure> {
 
 /// The text of a file.
 pub fn read_text(path: &str) -> Result<String, Failure> {
-    String::from_utf8(read(path)?).map_err(|error| {
+    text_of(path, read(path)?)
+}
+
+fn text_of(path: &str, bytes: Vec<u8>) -> Result<String, Failure> {
+    String::from_utf8(bytes).map_err(|error| {
         let valid = &error.as_bytes()[..error.utf8_error().valid_up_to()];
         let line = 1 + valid.iter().filter(|&&byte| byte == b'\n').count();
         let message = "this is no text: a byte that is not UTF-8".into();
@@ -46,6 +50,28 @@ pub fn model_of_image(path: &str, image: &[u8], names: Option<&str>) -> Result<M
     let refused = |error: TextError| Failure::refused(error.in_file(shown(names_path)));
     let names = Names::from_json(&read_text(names_path)?).map_err(refused)?;
     model.with_names(names).map_err(refused)
+}
+
+/// The model of a text.
+pub fn model_of_text(path: &str, text: &str) -> Result<Model, Failure> {
+    Model::from_text(text).map_err(|error| Failure::refused(error.in_file(shown(path))))
+}
+
+/// The model of a file that holds a text or an image; only an image takes names from another file.
+pub fn model_of_file(path: &str, names: Option<&str>) -> Result<Model, Failure> {
+    let bytes = read(path)?;
+    if is_image(path, &bytes) {
+        return model_of_image(path, &bytes, names);
+    }
+    match names {
+        None => model_of_text(path, &text_of(path, bytes)?),
+        Some(_) => Err(Failure::usage(format!("jirvuntsag: {} is a text, which has its own names", shown(path)))),
+    }
+}
+
+/// Whether a file is an image: by its name, or by a first byte with which no text begins (an image's is 1).
+fn is_image(path: &str, bytes: &[u8]) -> bool {
+    path.ends_with(".image") || bytes.first().is_some_and(|&byte| byte < b'\t')
 }
 
 /// Writes to standard output.

@@ -2,9 +2,12 @@
 
 mod arguments;
 mod check;
+mod engine;
 mod failure;
 mod files;
+mod lines;
 mod pack;
+mod trace;
 mod unpack;
 
 use std::process::ExitCode;
@@ -25,7 +28,7 @@ struct Command {
 }
 
 /// All subcommands.
-const COMMANDS: [&Command; 3] = [&pack::COMMAND, &unpack::COMMAND, &check::COMMAND];
+const COMMANDS: [&Command; 4] = [&pack::COMMAND, &unpack::COMMAND, &check::COMMAND, &trace::COMMAND];
 
 fn main() -> ExitCode {
     let mut words = std::env::args().skip(1);

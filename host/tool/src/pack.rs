@@ -1,10 +1,8 @@
 //! `jirvuntsag pack`: from text to an image.
 
-use jirvuntsag_text::Model;
-
 use crate::arguments::Arguments;
 use crate::failure::Failure;
-use crate::files::{read_text, shown, write_all, STANDARD};
+use crate::files::{model_of_text, read_text, write_all, STANDARD};
 use crate::Command;
 
 /// The subcommand.
@@ -20,8 +18,7 @@ A text that is no model is refused with the line and the column; nothing is writ
 };
 
 fn run(arguments: Arguments) -> Result<(), Failure> {
-    let text = read_text(&arguments.input)?;
-    let model = Model::from_text(&text).map_err(|error| Failure::refused(error.in_file(shown(&arguments.input))))?;
+    let model = model_of_text(&arguments.input, &read_text(&arguments.input)?)?;
     let (image, names) = (model.image(), model.names().to_json());
     let mut outputs = vec![(arguments.option("-o").unwrap_or(STANDARD), &image[..])];
     if let Some(path) = arguments.option("--names") {

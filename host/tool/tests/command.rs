@@ -112,7 +112,7 @@ fn help_and_wrong_use() {
     let first = |output: &[u8]| text(output).lines().next().unwrap_or_default().to_owned();
     let help = call(&folder, &["--help"], &[]);
     assert!(help.status.success() && first(&help.stdout) == "usage: jirvuntsag SUBCOMMAND ..");
-    for name in ["pack", "unpack", "check"] {
+    for name in ["pack", "unpack", "check", "trace"] {
         let help = call(&folder, &[name, "--help"], &[]);
         assert!(help.status.success() && first(&help.stdout).starts_with(&format!("usage: jirvuntsag {name} ")));
     }
