@@ -104,3 +104,17 @@ fn what_cannot_be_traced_is_refused() {
         assert!(output.stdout.is_empty());
     }
 }
+
+/// The example of docs/MODELS.md is traced as the page prints it.
+#[test]
+fn the_example_of_the_page() {
+    let page = Path::new(env!("CARGO_MANIFEST_DIR")).join("../../docs/MODELS.md");
+    let page = std::fs::read_to_string(page).expect("the page");
+    let block = |mark: &str| {
+        let (_, rest) = page.split_once(&format!("\n```{mark}\n")).expect("the block");
+        rest.split_once("```").expect("its end").0.to_owned()
+    };
+    let path = Path::new(env!("CARGO_TARGET_TMPDIR")).join("count.model");
+    std::fs::write(&path, block("model")).expect("the text");
+    assert_eq!(trace(&[&path.to_string_lossy()]), block("trace"));
+}
