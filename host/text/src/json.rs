@@ -129,13 +129,16 @@ impl Reader<'_> {
 
     fn object(&mut self, depth: usize) -> Result<Json, TextError> {
         self.expect('{')?;
-        let mut members = Vec::new();
+        let mut members: Vec<(String, Json)> = Vec::new();
         if self.passes('}') {
             return Ok(Json::Object(members));
         }
         loop {
             self.skip_blanks();
             let key = self.string()?;
+            if members.iter().any(|(other, _)| *other == key) {
+                return Err(self.error(format!("the member '{key}' stands twice")));
+            }
             self.expect(':')?;
             members.push((key, self.value(depth + 1)?));
             if !self.passes(',') {

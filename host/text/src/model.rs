@@ -15,9 +15,6 @@ pub struct Model {
     names: Names,
 }
 
-/// Largest image in bytes.
-pub const IMAGE_LIMIT: usize = 65_536;
-
 impl Model {
     /// A model that was checked, with names that fit it.
     pub(crate) fn new(spec: ModelSpec, names: Names) -> Model {

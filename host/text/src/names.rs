@@ -6,6 +6,7 @@ use jirvuntsag_packing::ModelSpec;
 
 use crate::error::TextError;
 use crate::json::{parse, quote, Json};
+use crate::limits::SYMBOL;
 
 /// The names of everything in a model, each by its number.
 #[derive(Clone, PartialEq, Eq, Debug, Default)]
@@ -92,9 +93,7 @@ impl Names {
             names.types.push(TypeNames { name, slots });
         }
         for (number, name) in members(member(&json, "symbols")?, "symbols")? {
-            let refused = || TextError::whole(format!("symbols: '{number}' is no symbol number, 0 to 4095"));
-            let number = number.parse().ok().filter(|&number: &u16| number < 4_096).ok_or_else(refused)?;
-            names.symbols.insert(number, text_of(name, "symbols")?);
+            names.symbols.insert(symbol_number(number)?, text_of(name, "symbols")?);
         }
         for one in items(member(&json, "rules")?, "rules")? {
             let name = text_of(member(one, "name")?, "name")?;
@@ -103,6 +102,12 @@ impl Names {
         }
         Ok(names)
     }
+}
+
+/// A symbol's number as a JSON file writes it: one way for each number.
+fn symbol_number(text: &str) -> Result<u16, TextError> {
+    let number = text.parse().ok().filter(|number: &u16| *number <= SYMBOL && number.to_string() == text);
+    number.ok_or_else(|| TextError::whole(format!("symbols: '{text}' is no symbol number, 0 to {SYMBOL}")))
 }
 
 /// A letter with each number below a count.

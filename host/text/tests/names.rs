@@ -1,7 +1,7 @@
 //! The file of names: written, read again, and refused where it is no such file.
 
-use jirvuntsag_packing::model_a;
-use jirvuntsag_text::Names;
+use jirvuntsag_packing::{model_a, pack};
+use jirvuntsag_text::{Model, Names};
 
 /// The file of names of model A's invented names.
 const MODEL_A: &str = r#"{
@@ -43,7 +43,7 @@ fn escapes_and_other_members() {
 }
 
 /// Files that are refused, and how.
-const REFUSED: [(&str, &str); 11] = [
+const REFUSED: [(&str, &str); 14] = [
     ("", "1:1: expected a value, found the end"),
     ("[1, 2", "1:6: expected ']', found the end"),
     ("{\n \"a\" 1}", "2:6: expected ':', found '1'"),
@@ -52,6 +52,9 @@ const REFUSED: [(&str, &str); 11] = [
     ("[\"\\ud800\"]", "1:10: a code that is no character"),
     ("[1] 2", "1:5: '2' after the end of the value"),
     ("[nan]", "1:5: 'nan' is no JSON value"),
+    (r#"{"a": 1, "a": 2}"#, "1:13: the member 'a' stands twice"),
+    (r#"{"buffers":[],"types":[],"symbols":{"01":"a"}}"#, " symbols: '01' is no symbol number, 0 to 4095"),
+    (r#"{"buffers":[],"types":[],"symbols":{"+1":"a"}}"#, " symbols: '+1' is no symbol number, 0 to 4095"),
     ("[]", " the file: expected an object"),
     (r#"{"buffers": []}"#, " names without \"types\""),
     (r#"{"buffers":[],"types":[],"symbols":{"4096":"a"}}"#, " symbols: '4096' is no symbol number, 0 to 4095"),
@@ -65,4 +68,36 @@ fn what_is_no_file_of_names_is_refused() {
     }
     let deep = "[".repeat(100_000);
     assert!(Names::from_json(&deep).expect_err("too deep").message.contains("more than 64"));
+}
+
+/// What is said of model A's names after a change.
+fn unfit(change: impl Fn(&mut Names)) -> String {
+    let model = Model::from_image(&pack(&model_a())).expect("model A");
+    let mut names = model.names().clone();
+    change(&mut names);
+    let said = model.with_names(names).expect_err("names that do not fit").message;
+    said.strip_prefix("the names do not fit the model: ").expect("these words").into()
+}
+
+#[test]
+fn names_of_another_model_are_refused() {
+    let twice = |names: &mut Vec<String>| names[1] = names[0].clone();
+    assert_eq!(unfit(|names| names.buffers.truncate(1)), "1 buffers are named and 2 are there");
+    assert_eq!(unfit(|names| twice(&mut names.buffers)), "buffer 'b0' is declared twice");
+    assert_eq!(unfit(|names| names.buffers[1] = "a>".into()), "'>' cannot stand in the name of a buffer");
+    assert_eq!(unfit(|names| names.types.truncate(2)), "1 declared types are named and 2 are there");
+    assert_eq!(unfit(|names| names.types[0].name = "nil".into()), "the first type is 'chunk', without slots");
+    assert_eq!(unfit(|names| names.types.clear()), "the first type is 'chunk', without slots");
+    assert_eq!(unfit(|names| names.types[2].name = "t1".into()), "type 't1' is declared twice");
+    assert_eq!(unfit(|names| names.types[1].slots.truncate(1)), "1 slots of type 't1' are named and 2 are there");
+    assert_eq!(unfit(|names| twice(&mut names.types[1].slots)), "slot 's0' is named twice");
+    assert_eq!(unfit(|names| names.rules.truncate(1)), "1 rules are named and 3 are there");
+    assert_eq!(unfit(|names| names.rules[1].name = "r0".into()), "rule 'r0' stands twice");
+    assert_eq!(unfit(|names| names.rules[0].variables.clear()), "0 variables of rule 'r0' are named and 1 are there");
+    assert_eq!(unfit(|names| twice(&mut names.rules[1].variables)), "variable 'v0' stands twice");
+    assert_eq!(unfit(|names| names.rules[0].name = "a b".into()), "' ' cannot stand in a name");
+    assert_eq!(unfit(|names| names.symbols.clear()), "symbol 0 is 'nil'");
+    assert_eq!(unfit(|names| names.symbols.extend([(1, "a".into()), (2, "a".into())])), "symbol 'a' stands twice");
+    let borrowed = "symbol 1 is called 'x2' as symbol 2 would be, which has no name";
+    assert_eq!(unfit(|names| names.symbols.extend([(1, "x2".into())])), borrowed);
 }

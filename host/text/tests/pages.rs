@@ -1,7 +1,7 @@
 //! What docs/FORMAT.md and docs/MODELS.md print is true.
 
 use jirvuntsag_packing::{model_a, pack_with_fields, ChunkSpec, ModelSpec, Packed};
-use jirvuntsag_text::{read_image, Model};
+use jirvuntsag_text::{read_image, Model, IMAGE_LIMIT};
 
 fn page(name: &str) -> String {
     let path = format!("{}/../../docs/{name}", env!("CARGO_MANIFEST_DIR"));
@@ -99,24 +99,41 @@ fn the_errors_are_as_printed() {
     }
 }
 
-/// The limits that the page gives are those that texts are refused for.
+/// A text with so many of what a row of the limits counts.
+fn text_with(what: &str, count: usize) -> String {
+    let each = |line: &str| (0..count).map(|n| line.replace('N', &n.to_string())).collect::<String>();
+    let terms = |from: usize, to: usize| (from..to).map(|n| format!(" s{} ?v{n}", n % 8)).collect::<String>();
+    let eight = "buffer a\nbuffer b\ntype t s0 s1 s2 s3 s4 s5 s6 s7\n";
+    match what {
+        "buffers" => each("buffer bN\n"),
+        "types, besides `chunk`" => format!("buffer b\n{}", each("type tN\n")),
+        "slots of a type" => format!("buffer b\ntype t {}", each("sN ")),
+        "facts" => format!("buffer b\ntype t\n{}", each("fact t\n")),
+        "rules" => format!("buffer b\n{}", each("rule rN\n=b> chunk\n==>\n")),
+        "variables of a rule" => {
+            format!("{eight}rule r\n=a> t{}\n=b> t{}\n==>\n", terms(0, count.min(8)), terms(8, count))
+        }
+        "symbols, besides nil" => {
+            let slot = |n| if n % 8 == 0 { format!("\nfact t s0 x{n}") } else { format!(" s{} x{n}", n % 8) };
+            eight.to_owned() + &(0..count).map(slot).collect::<String>()
+        }
+        _ => format!("buffer b\nfailure latency {count}"),
+    }
+}
+
 #[test]
-fn the_limits_are_named() {
+fn the_limits_are_as_printed() {
     let page = page("MODELS.md");
-    let limits: Vec<String> = rows(&page, "## Limits").iter().map(|row| row.join(": ")).collect();
-    assert_eq!(
-        limits,
-        [
-            "buffers: 8, and one at least",
-            "types, besides `chunk`: 63",
-            "slots of a type: 8",
-            "facts: 512",
-            "rules: 256",
-            "variables of a rule: 8",
-            "symbols, besides nil: 4,095",
-            "latencies, activations: whole numbers, 0 to 65535",
-            "utilities: -32.768 to 32.767, with three decimals",
-            "the image: 65,536 bytes",
-        ]
-    );
+    let rows = rows(&page, "## Limits");
+    let (counted, ends) = rows.split_at(8);
+    for row in counted {
+        let digits = row[1].rsplit(" to ").next().and_then(|cell| cell.split(", ").next()).expect("a number");
+        let most: usize = digits.replace(',', "").parse().expect("a number");
+        assert!(Model::from_text(&text_with(row[0], most)).is_ok(), "{most} {}", row[0]);
+        assert!(Model::from_text(&text_with(row[0], most + 1)).is_err(), "one more than {most} {}", row[0]);
+    }
+    let rule = |utility: &str| Model::from_text(&format!("buffer b\nrule r utility {utility}\n=b> chunk\n==>")).is_ok();
+    assert_eq!(ends[0], ["utilities", "-32.768 to 32.767, with three decimals"]);
+    assert!(rule("-32.768") && rule("32.767") && !rule("-32.769") && !rule("32.768") && !rule("0.0001"));
+    assert_eq!(ends[1][1].replace(',', ""), format!("{IMAGE_LIMIT} bytes"));
 }

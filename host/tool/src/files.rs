@@ -82,23 +82,25 @@ pub fn write_out(bytes: &[u8]) -> Result<(), Failure> {
 
 /// What is to be written to a file: a temporary file beside it, which takes its place when all is written.
 struct Pending {
+    /// As the user wrote it, for messages.
+    said: String,
     path: PathBuf,
     temporary: PathBuf,
 }
 
 impl Pending {
     /// Writes the temporary file; a link is followed, so that it stays a link.
-    fn new(path: &str, bytes: &[u8]) -> Result<Pending, Failure> {
-        let path = std::fs::canonicalize(path).unwrap_or_else(|_| path.into());
+    fn new(said: &str, bytes: &[u8]) -> Result<Pending, Failure> {
+        let path = std::fs::canonicalize(said).unwrap_or_else(|_| said.into());
         let mut name = path.file_name().unwrap_or_default().to_owned();
         name.push(format!(".{}.part", std::process::id()));
-        let pending = Pending { temporary: path.with_file_name(name), path };
+        let pending = Pending { said: said.into(), temporary: path.with_file_name(name), path };
         std::fs::write(&pending.temporary, bytes).map_err(|error| pending.failure(error))?;
         Ok(pending)
     }
 
     fn failure(&self, error: std::io::Error) -> Failure {
-        Failure::file(&self.path.to_string_lossy(), error)
+        Failure::file(&self.said, error)
     }
 
     /// Puts it in its place.

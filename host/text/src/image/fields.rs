@@ -23,8 +23,8 @@ impl<'i> Fields<'i> {
     pub fn take(&mut self, width: usize, what: impl Fn() -> String) -> Result<u16, Refused> {
         let (start, bits) = (self.at, 8 * self.image.len());
         if start + width > bits {
-            let cause = format!("{} has {width} bits, but the image ends after bit {}", what(), bits as isize - 1);
-            let cause = if bits == 0 { format!("{} has {width} bits, but the image is empty", what()) } else { cause };
+            let end = if bits == 0 { "is empty".into() } else { format!("ends after bit {}", bits - 1) };
+            let cause = format!("{} has {width} bits, but the image {end}", what());
             return Err(Refused { number: 2, at: Some(start), cause });
         }
         self.at += width;
@@ -47,8 +47,8 @@ impl<'i> Fields<'i> {
     }
 
     /// The next field, if it is not above a highest value.
-    pub fn at_most(&mut self, width: usize, highest: u16, what: impl Fn() -> String) -> Result<u16, Refused> {
-        self.judged(width, what, |value| (value > highest).then(|| format!("{highest} is the highest")))
+    pub fn at_most(&mut self, width: usize, highest: usize, what: impl Fn() -> String) -> Result<u16, Refused> {
+        self.judged(width, what, |value| (usize::from(value) > highest).then(|| format!("{highest} is the highest")))
     }
 
     /// A rule that must hold where the next field begins.

@@ -7,7 +7,7 @@ use std::fmt;
 
 use jirvuntsag_packing::{ChunkSpec, FactSpec, ModelSpec};
 
-use crate::model::IMAGE_LIMIT;
+use crate::limits::{BUFFERS, FACTS, IMAGE_LIMIT, RULES, SLOTS};
 use fields::{counted, Fields};
 
 /// Why an image is refused.
@@ -55,7 +55,7 @@ pub fn read_image(image: &[u8]) -> Result<ModelSpec, Refused> {
     let counts = header(&mut fields, &mut spec)?;
     for number in 1..=counts.types {
         let what = || format!("slot count of type {number}");
-        spec.types.push(fields.at_most(4, 8, what)? as u8);
+        spec.types.push(fields.at_most(4, SLOTS, what)? as u8);
     }
     for buffer in 0..counts.buffers {
         let opening = chunk(&mut fields, &spec, 0, &format!("the opening of buffer {buffer}"))?;
@@ -84,11 +84,13 @@ struct Counts {
 /// Version, counts and failure latency.
 fn header(fields: &mut Fields, spec: &mut ModelSpec) -> Result<Counts, Refused> {
     fields.judged(8, || "version".into(), |version| (version != 1).then(|| "only version 1 is known".into()))?;
-    let wrong = |count| (!(1..=8).contains(&count)).then(|| "there are 1 to 8 buffers".into());
+    let wrong = |count: u16| {
+        (!(1..=BUFFERS).contains(&usize::from(count))).then(|| format!("there are 1 to {BUFFERS} buffers"))
+    };
     let buffers = fields.judged(4, || "number of buffers".into(), wrong)?;
     let types = fields.take(6, || "number of types".into())?;
-    let rules = fields.at_most(9, 256, || "number of rules".into())?;
-    let facts = fields.at_most(10, 512, || "number of facts".into())?;
+    let rules = fields.at_most(9, RULES, || "number of rules".into())?;
+    let facts = fields.at_most(10, FACTS, || "number of facts".into())?;
     spec.failure = fields.take(16, || "failure latency".into())?;
     Ok(Counts { buffers, types, rules, facts })
 }

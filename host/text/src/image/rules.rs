@@ -4,6 +4,7 @@ use jirvuntsag_packing::{ActionSpec, Deed, ModelSpec, PatternSpec, RuleSpec, Ter
 
 use super::fields::{counted, Fields};
 use super::{type_of, Refused};
+use crate::limits::VARIABLES;
 
 /// What a rule's terms and actions must know of the rule.
 struct Scope<'m> {
@@ -20,7 +21,7 @@ pub fn rule(fields: &mut Fields, spec: &ModelSpec, number: u16) -> Result<RuleSp
     let utility = fields.take(16, || format!("utility of {whose}"))?;
     let tests = fields.judged(4, || format!("number of tests of {whose}"), none_or_too_many)?;
     let actions = fields.judged(4, || format!("number of actions of {whose}"), too_many)?;
-    let variables = fields.at_most(4, 8, || format!("number of variables of {whose}"))? as u8;
+    let variables = fields.at_most(4, VARIABLES, || format!("number of variables of {whose}"))? as u8;
     let scope = Scope { spec, variables };
     let mut rule = RuleSpec { utility, variables, ..RuleSpec::default() };
     for number in 0..tests {

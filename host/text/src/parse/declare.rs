@@ -3,10 +3,10 @@
 use jirvuntsag_packing::{ChunkSpec, FactSpec};
 
 use super::lookup::ISA;
-use super::symbols::HIGHEST;
 use super::words::{name_fault, whole_number, Line, Word};
 use super::Parser;
 use crate::error::TextError;
+use crate::limits::{BUFFERS, FACTS, SLOTS, SYMBOL, TYPES};
 use crate::names::TypeNames;
 
 /// Words that end the slots of a fact, so that no slot can be called so.
@@ -30,7 +30,7 @@ impl<'t> Parser<'t> {
         let word = line.take("a symbol")?;
         line.expect("=")?;
         let wanted = line.take("a symbol's number")?;
-        let number = whole_number(wanted, "a symbol's number", HIGHEST)?;
+        let number = whole_number(wanted, "a symbol's number", SYMBOL)?;
         self.symbols.declare(word, wanted, number)?;
         line.end()
     }
@@ -43,16 +43,16 @@ impl<'t> Parser<'t> {
             return Err(word.error(fault));
         }
         let own = word.text.to_owned();
-        if self.spec.types.len() == 63 {
-            return Err(word.error("more than 63 types"));
+        if self.spec.types.len() == TYPES {
+            return Err(word.error(format!("more than {TYPES} types")));
         }
         let mut slots: Vec<String> = Vec::new();
         while let Some(word) = line.next() {
             if let Some(fault) = slot_name_fault(word.text, &slots) {
                 return Err(word.error(fault));
             }
-            if slots.len() == 8 {
-                return Err(word.error(format!("more than 8 slots in type '{own}'")));
+            if slots.len() == SLOTS {
+                return Err(word.error(format!("more than {SLOTS} slots in type '{own}'")));
             }
             slots.push(word.text.into());
         }
@@ -67,8 +67,8 @@ impl<'t> Parser<'t> {
         if let Some(fault) = buffer_name_fault(word.text, &self.names.buffers) {
             return Err(word.error(fault));
         }
-        if self.spec.opening.len() == 8 {
-            return Err(word.error("more than 8 buffers"));
+        if self.spec.opening.len() == BUFFERS {
+            return Err(word.error(format!("more than {BUFFERS} buffers")));
         }
         let chunk = match line.peek() {
             None => ChunkSpec::nil(),
@@ -85,17 +85,15 @@ impl<'t> Parser<'t> {
 
     /// `fact TYPE SLOT VALUE .. activation NUMBER latency MS`.
     pub fn fact(&mut self, first: Word, mut line: Line<'t>) -> Result<(), TextError> {
-        if self.spec.facts.len() == 512 {
-            return Err(first.error("more than 512 facts"));
+        if self.spec.facts.len() == FACTS {
+            return Err(first.error(format!("more than {FACTS} facts")));
         }
         let isa = self.take_declared_type(&mut line, "a fact")?;
         let mut fact = FactSpec { chunk: self.chunk(isa, &mut line)?, ..FactSpec::default() };
-        if line.peek().is_some_and(|word| word.text == ACTIVATION) {
-            line.next();
+        if line.passes(ACTIVATION) {
             fact.activation = whole_number(line.take("an activation")?, "an activation", u16::MAX)?;
         }
-        if line.peek().is_some_and(|word| word.text == LATENCY) {
-            line.next();
+        if line.passes(LATENCY) {
             fact.latency = whole_number(line.take("a latency in ms")?, "a latency", u16::MAX)?;
         }
         line.end()?;

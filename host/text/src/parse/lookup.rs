@@ -11,9 +11,7 @@ pub const ISA: &str = "isa";
 impl<'t> Parser<'t> {
     /// The number of a type; the word `isa` before it is passed over.
     pub fn take_type(&self, line: &mut Line<'t>) -> Result<(Word<'t>, u8), TextError> {
-        if line.peek().is_some_and(|word| word.text == ISA) {
-            line.next();
-        }
+        line.passes(ISA);
         let word = line.take("a type")?;
         let position = self.names.types.iter().position(|one| one.name == word.text);
         match position {

@@ -1,6 +1,7 @@
 //! From a text to a model with its names, one line after the other.
 
 mod declare;
+mod draft;
 mod lookup;
 mod rule;
 mod symbols;
@@ -9,9 +10,10 @@ mod words;
 use jirvuntsag_packing::ModelSpec;
 
 use crate::error::TextError;
-use crate::model::{Model, IMAGE_LIMIT};
+use crate::limits::{BUFFERS, IMAGE_LIMIT};
+use crate::model::Model;
 use crate::names::Names;
-use rule::Draft;
+use draft::Draft;
 use symbols::Symbols;
 use words::{Line, Word};
 
@@ -90,7 +92,7 @@ impl<'t> Parser<'t> {
     fn finish(mut self) -> Result<Model, TextError> {
         self.end_rule()?;
         if self.spec.opening.is_empty() {
-            return Err(TextError::whole("no buffer is declared: a model has 1 to 8 buffers"));
+            return Err(TextError::whole(format!("no buffer is declared: a model has 1 to {BUFFERS} buffers")));
         }
         self.names.symbols = self.symbols.into_names();
         let model = Model::new(self.spec, self.names);

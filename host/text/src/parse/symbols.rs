@@ -4,10 +4,8 @@ use std::collections::{BTreeMap, HashMap};
 
 use super::words::{name, Word};
 use crate::error::TextError;
+use crate::limits::SYMBOL;
 use crate::names::NIL;
-
-/// Highest symbol.
-pub const HIGHEST: u16 = 4_095;
 
 /// The symbols so far.
 pub struct Symbols {
@@ -39,8 +37,8 @@ impl Symbols {
         while self.names.contains_key(&self.lowest) {
             self.lowest += 1;
         }
-        if self.lowest > HIGHEST {
-            return Err(word.error(format!("more than {HIGHEST} symbols besides nil: '{name}' finds no number")));
+        if self.lowest > SYMBOL {
+            return Err(word.error(format!("more than {SYMBOL} symbols besides nil: '{name}' finds no number")));
         }
         self.insert(name, self.lowest);
         Ok(self.lowest)

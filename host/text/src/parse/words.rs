@@ -52,6 +52,15 @@ impl<'t> Line<'t> {
         self.words.as_slice().first().copied()
     }
 
+    /// Whether this word comes next; it is left behind then.
+    pub fn passes(&mut self, wanted: &str) -> bool {
+        let there = self.peek().is_some_and(|word| word.text == wanted);
+        if there {
+            self.next();
+        }
+        there
+    }
+
     /// The next word, or a fault that says what it should have been.
     pub fn take(&mut self, wanted: &str) -> Result<Word<'t>, TextError> {
         self.next().ok_or_else(|| self.error_at_end(format!("the line ends where {wanted} is expected")))
@@ -85,8 +94,8 @@ pub fn name_fault(name: &str) -> Option<String> {
     if name.starts_with('?') {
         return Some(format!("'{name}' is a variable, which stands only in rules"));
     }
-    if name.starts_with('=') {
-        return Some(format!("'{name}' is no name: a variable is written '?{}'", &name[1..]));
+    if let Some(rest) = name.strip_prefix('=') {
+        return Some(format!("'{name}' is no name: a variable is written '?{rest}'"));
     }
     let bad = |letter: &char| "()\"#;".contains(*letter) || letter.is_whitespace() || letter.is_control();
     match name.chars().find(bad) {

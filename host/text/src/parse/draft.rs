@@ -1,0 +1,137 @@
+//! A rule whose lines are being read, and what it must keep to.
+
+use jirvuntsag_packing::{ActionSpec, TestSpec};
+
+use super::words::{name, Line, Word};
+use crate::error::TextError;
+use crate::limits::VARIABLES;
+
+/// A rule whose lines are being read.
+pub struct Draft<'t> {
+    pub head: Word<'t>,
+    pub name: &'t str,
+    pub utility: u16,
+    /// The variables by number, with the words that they first stood in.
+    pub variables: Vec<Word<'t>>,
+    /// Those that stood in a test, bit v for variable v.
+    tested: u8,
+    /// Whether the head names the variables, so that no test can add one.
+    listed: bool,
+    pub tests: Vec<(Word<'t>, TestSpec)>,
+    /// Whether `==>` was read.
+    pub turned: bool,
+    pub actions: Vec<(Word<'t>, ActionSpec)>,
+}
+
+/// The buffer's name in `=goal>`, `+goal>` or `-goal>`.
+pub fn buffer_of<'t>(first: Word<'t>) -> &'t str {
+    &first.text[1..first.text.len() - 1]
+}
+
+impl<'t> Draft<'t> {
+    pub fn new(head: Word<'t>, name: &'t str) -> Draft<'t> {
+        Draft {
+            head,
+            name,
+            utility: 0,
+            variables: Vec::new(),
+            tested: 0,
+            listed: false,
+            tests: Vec::new(),
+            turned: false,
+            actions: Vec::new(),
+        }
+    }
+
+    /// The variables in the order of their numbers, to the line's end.
+    pub fn list_variables(&mut self, line: &mut Line<'t>) -> Result<(), TextError> {
+        while let Some(word) = line.next() {
+            if !word.text.starts_with('?') {
+                return Err(word.error(format!("expected a variable, as '?a', found '{}'", word.text)));
+            }
+            if self.position(word).is_some() {
+                return Err(word.error(format!("variable '{}' is listed twice", word.text)));
+            }
+            self.add_variable(word)?;
+        }
+        self.listed = true;
+        Ok(())
+    }
+
+    fn position(&self, word: Word) -> Option<usize> {
+        self.variables.iter().position(|other| other.text == word.text)
+    }
+
+    fn add_variable(&mut self, word: Word<'t>) -> Result<usize, TextError> {
+        name(Word { text: &word.text[1..], ..word })?;
+        if self.variables.len() == VARIABLES {
+            return Err(word.error(format!("more than {VARIABLES} variables in rule '{}'", self.name)));
+        }
+        self.variables.push(word);
+        Ok(self.variables.len() - 1)
+    }
+
+    /// The number of a variable; in a test a new one gets the next number.
+    pub fn variable(&mut self, word: Word<'t>) -> Result<u16, TextError> {
+        let number = match self.position(word) {
+            Some(number) if !self.turned || self.tested >> number & 1 == 1 => number,
+            _ if self.turned => return Err(self.untested(word)),
+            _ if self.listed => {
+                let message = format!("variable '{}' is not in the list of rule '{}'", word.text, self.name);
+                return Err(word.error(message));
+            }
+            _ => self.add_variable(word)?,
+        };
+        self.tested |= 1 << number;
+        Ok(number as u16)
+    }
+
+    fn untested(&self, word: Word) -> TextError {
+        word.error(format!("variable '{}' stands in no test of rule '{}'", word.text, self.name))
+    }
+
+    /// The fault of a second test of a buffer, or a second action on it.
+    pub fn twice(&self, what: &str, first: Word, before: Word) -> TextError {
+        let (rule, buffer, line) = (self.name, buffer_of(first), before.line);
+        first.error(format!("rule '{rule}' {what} buffer '{buffer}' twice, first in line {line}"))
+    }
+
+    /// `==>`: the tests end here.
+    pub fn turn(&mut self, first: Word, mut line: Line) -> Result<(), TextError> {
+        if self.turned {
+            return Err(first.error(format!("rule '{}' has two lines '==>'", self.name)));
+        }
+        if self.tests.is_empty() {
+            return Err(first.error(format!("rule '{}' has no test: it needs one at least", self.name)));
+        }
+        self.turned = true;
+        line.end()
+    }
+
+    /// `-BUFFER>`.
+    pub fn clear(&mut self, first: Word<'t>, buffer: u8, mut line: Line) -> Result<(), TextError> {
+        line.end()?;
+        self.act(first, ActionSpec::clear(buffer))
+    }
+
+    /// Adds an action, one for each buffer.
+    pub fn act(&mut self, first: Word<'t>, action: ActionSpec) -> Result<(), TextError> {
+        if let Some((other, _)) = self.actions.iter().find(|(_, other)| other.buffer == action.buffer) {
+            return Err(self.twice("acts on", first, *other));
+        }
+        self.actions.push((first, action));
+        Ok(())
+    }
+
+    /// What can be said only when all lines of the rule are read.
+    pub fn check(&self) -> Result<(), TextError> {
+        if !self.turned {
+            return Err(self.head.error(format!("rule '{}' has no line '==>' between tests and actions", self.name)));
+        }
+        let untested = (0..self.variables.len()).find(|number| self.tested >> number & 1 == 0);
+        match untested.map(|number| self.variables[number]) {
+            Some(word) => Err(self.untested(word)),
+            None => Ok(()),
+        }
+    }
+}

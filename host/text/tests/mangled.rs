@@ -1,0 +1,89 @@
+//! Texts that were mangled: each is refused with a place in it, or is a model whose image opens.
+
+use jirvuntsag_compare::PROVED;
+use jirvuntsag_generate::{each_seed, Rng};
+use jirvuntsag_text::Model;
+
+const TEXT: &str = include_str!("../../../examples/addition.model");
+
+/// Words that mean something somewhere.
+const WORDS: [&str; 26] = [
+    "rule",
+    "type",
+    "fact",
+    "buffer",
+    "symbol",
+    "failure",
+    "latency",
+    "activation",
+    "utility",
+    "variables",
+    "==>",
+    "=",
+    "=goal>",
+    "+retrieval>",
+    "-goal>",
+    "?a",
+    "?",
+    "nil",
+    "chunk",
+    "isa",
+    "add",
+    "arg1",
+    "-1",
+    "65536",
+    "#",
+    "é\u{3000}>",
+];
+
+/// A text with a word exchanged, left out or doubled, a line moved, or cut.
+fn mangle(rng: &mut Rng, text: &str) -> String {
+    let mut lines: Vec<Vec<&str>> = text.lines().map(|line| line.split(' ').collect()).collect();
+    let line = rng.below(lines.len());
+    let word = rng.below(lines[line].len());
+    match rng.below(6) {
+        0..=1 => lines[line][word] = rng.pick(&WORDS),
+        2 => {
+            lines[line].remove(word);
+        }
+        3 => {
+            let again = lines[line][word];
+            lines[line].insert(word, again);
+        }
+        4 => {
+            let moved = lines.remove(line);
+            let to = rng.below(lines.len());
+            lines.insert(to, moved);
+        }
+        _ => lines.truncate(line.max(1)),
+    }
+    lines.iter().map(|words| words.join(" ") + "\n").collect()
+}
+
+#[test]
+fn mangled_texts_are_answered() {
+    let (mut accepted, mut refused) = (0, 0);
+    each_seed(110_000, 6_000, |_, mut rng| {
+        let mut text = TEXT.to_owned();
+        for _ in 0..rng.from_to(1, 3) {
+            text = mangle(&mut rng, &text);
+        }
+        match Model::from_text(&text) {
+            Ok(model) => {
+                let image = model.image();
+                let mut table = vec![0; (PROVED.table_len)(&image)];
+                assert_eq!((PROVED.open)(&image, &mut table).0, 0, "{text}");
+                let again = Model::from_text(&model.to_text()).expect("the same model");
+                assert_eq!((again.image(), &again.names().rules), (image, &model.names().rules), "{text}");
+                accepted += 1;
+            }
+            Err(error) => {
+                assert!(error.line <= text.lines().count(), "{error}");
+                let line = text.lines().nth(error.line.saturating_sub(1)).unwrap_or("");
+                assert!(error.column <= line.chars().count() + 1, "{error} in {line}");
+                refused += 1;
+            }
+        }
+    });
+    assert!(accepted > 500 && refused > 500, "{accepted} accepted, {refused} refused");
+}
