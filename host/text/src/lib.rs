@@ -12,7 +12,6 @@ mod write;
 
 pub use error::TextError;
 pub use image::{read_image, Refused};
-pub use json::{parse as parse_json, Json};
 pub use limits::IMAGE_LIMIT;
 pub use model::Model;
 pub use names::{Names, RuleNames, TypeNames, CHUNK, NIL};

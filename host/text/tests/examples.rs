@@ -53,7 +53,7 @@ fn these_are_all_and_the_page_lists_them() {
     let files = std::fs::read_dir(folder()).expect("the folder").map(|entry| entry.expect("a file").file_name());
     let mut files: Vec<String> = files.map(|name| name.into_string().expect("a name")).collect();
     files.sort();
-    let endings = ["image", "model", "trace"];
+    let endings = ["image", "model", "names.json", "trace"];
     let mut wanted: Vec<String> =
         NAMES.iter().flat_map(|name| endings.map(|ending| format!("{name}.{ending}"))).collect();
     wanted.push("README.md".into());
@@ -72,12 +72,14 @@ fn texts_pack_to_the_images_and_images_to_themselves() {
         assert_eq!(model.image(), image, "{name}");
         let unnamed = Model::from_image(&image).expect(name);
         assert_eq!(Model::from_text(&unnamed.to_text()).expect(name).image(), image, "{name}");
-        let names = Names::from_json(&model.names().to_json()).expect(name);
+        assert_eq!(model.names().to_json(), text(name, "names.json"), "{name}");
+        let names = Names::from_json(&text(name, "names.json")).expect(name);
         let named = unnamed.with_names(names).expect(name).to_text();
         assert_eq!(Model::from_text(&named).expect(name), model, "{name}");
     }
 }
 
+/// `published.txt` has the images of the published models, made without this packer.
 #[test]
 fn images_are_the_published_models() {
     let published = include_str!("published.txt");

@@ -116,8 +116,11 @@ impl Drop for Pending {
     }
 }
 
-/// Writes several outputs; of the files, all or none.
-pub fn write_all(outputs: &[(&str, &[u8])]) -> Result<(), Failure> {
+/// Writes what was made of an input; of the files, all or none.
+pub fn write_all(input: &str, outputs: &[(&str, &[u8])]) -> Result<(), Failure> {
+    if input != STANDARD && outputs.iter().any(|(path, _)| *path == input) {
+        return Err(Failure::usage(format!("jirvuntsag: '{input}' is read, and is not to be written")));
+    }
     let twice =
         outputs.iter().enumerate().find(|(at, (path, _))| outputs[..*at].iter().any(|(other, _)| other == path));
     if let Some((_, (path, _))) = twice {

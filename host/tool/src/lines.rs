@@ -99,9 +99,10 @@ impl<'m> Lines<'m> {
     /// Why no more steps are made.
     pub fn stop(&mut self, clock: u32, number: u8) {
         let why = match number {
-            0 => "the steps asked are made",
-            8 => "the clock would pass 4294967295 ms",
-            _ => "no events left to process",
+            0 => "the steps asked are made".into(),
+            8 => "the clock would pass 4294967295 ms".into(),
+            9 => "no events left to process".into(),
+            other => format!("the library answers {other}"),
         };
         self.line(clock, "------", &format!("Stopped because {why}"));
     }

@@ -10,6 +10,7 @@ mod pack;
 mod trace;
 mod unpack;
 
+use std::ffi::OsString;
 use std::process::ExitCode;
 
 use arguments::Arguments;
@@ -31,20 +32,31 @@ struct Command {
 const COMMANDS: [&Command; 4] = [&pack::COMMAND, &unpack::COMMAND, &check::COMMAND, &trace::COMMAND];
 
 fn main() -> ExitCode {
-    let mut words = std::env::args().skip(1);
-    let first = words.next().unwrap_or_default();
-    let result = match COMMANDS.iter().find(|command| command.name == first) {
-        Some(command) => run(command, words.collect()),
-        None if first == "-h" || first == "--help" => files::write_out(help().as_bytes()),
-        None if first.is_empty() => Err(Failure::usage(help())),
-        None => Err(Failure::usage(format!("jirvuntsag: '{first}' is no subcommand\n{}", help()))),
-    };
-    match result {
+    match words().and_then(dispatch) {
         Ok(()) => ExitCode::SUCCESS,
         Err(failure) => {
             eprintln!("{}", failure.message.trim_end());
             ExitCode::from(failure.status)
         }
+    }
+}
+
+/// The words of the command line after the program's name.
+fn words() -> Result<Vec<String>, Failure> {
+    let refused = |word: OsString| Failure::usage(format!("jirvuntsag: {} is not UTF-8", word.to_string_lossy()));
+    std::env::args_os().skip(1).map(|word| word.into_string().map_err(refused)).collect()
+}
+
+/// Finds the subcommand that the first word names.
+fn dispatch(mut words: Vec<String>) -> Result<(), Failure> {
+    if words.is_empty() {
+        return Err(Failure::usage(help()));
+    }
+    let first = words.remove(0);
+    match COMMANDS.iter().find(|command| command.name == first) {
+        Some(command) => run(command, words),
+        None if first == "-h" || first == "--help" => files::write_out(help().as_bytes()),
+        None => Err(Failure::usage(format!("jirvuntsag: '{first}' is no subcommand\n{}", help()))),
     }
 }
 

@@ -24,5 +24,5 @@ fn run(arguments: Arguments) -> Result<(), Failure> {
     if let Some(path) = arguments.option("--names") {
         outputs.push((path, names.as_bytes()));
     }
-    write_all(&outputs)
+    write_all(&arguments.input, &outputs)
 }

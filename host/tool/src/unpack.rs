@@ -20,5 +20,5 @@ are invented: b0, t1, s0, x1, r0, v0. An image that is refused is explained: the
 fn run(arguments: Arguments) -> Result<(), Failure> {
     let image = read(&arguments.input)?;
     let text = model_of_image(&arguments.input, &image, arguments.option("--names"))?.to_text();
-    write_all(&[(arguments.option("-o").unwrap_or(STANDARD), text.as_bytes())])
+    write_all(&arguments.input, &[(arguments.option("-o").unwrap_or(STANDARD), text.as_bytes())])
 }

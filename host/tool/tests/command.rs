@@ -104,6 +104,21 @@ fn what_cannot_be_read_or_written() {
     assert!(status == Some(2) && said.starts_with("jirvuntsag: no/n: "), "{said}");
     let (status, said) = failed(&folder, &["pack", "-", "-o", "i", "--names", "i"], b"buffer b");
     assert_eq!((status, said.as_str()), (Some(2), "jirvuntsag: 'i' is to be written twice\n"));
+    std::fs::write(folder.join("m"), "buffer b\n").expect("the text");
+    let (status, said) = failed(&folder, &["pack", "m", "-o", "m"], &[]);
+    assert_eq!((status, said.as_str()), (Some(2), "jirvuntsag: 'm' is read, and is not to be written\n"));
+    assert_eq!(std::fs::read(folder.join("m")).expect("the text"), b"buffer b\n");
+}
+
+#[test]
+fn a_word_that_is_not_utf_8() {
+    use std::os::unix::ffi::OsStrExt;
+    let word = std::ffi::OsStr::from_bytes(b"a\xff");
+    let output = Command::new(env!("CARGO_BIN_EXE_jirvuntsag")).arg("check").arg(word).output().expect("the command");
+    assert_eq!(
+        (output.status.code(), text(&output.stderr).as_str()),
+        (Some(2), "jirvuntsag: a\u{fffd} is not UTF-8\n")
+    );
 }
 
 #[test]
