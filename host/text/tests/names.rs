@@ -37,7 +37,8 @@ fn read_as_written() {
 
 #[test]
 fn escapes_and_other_members() {
-    let text = r#"{"made":[1,-2.5e3,null,true,{}], "buffers":["\u0067o\u0061l", "\ud83d\ude00\t\/"],"types":[],"symbols":{},"rules":[]}"#;
+    let text = r#"{"made":[1,-2.5e3,null,true,{}], "buffers":["\u0067o\u0061l", "\ud83d\ude00\t\/"],
+        "types":[],"symbols":{},"rules":[]}"#;
     let names = Names::from_json(text).expect("names");
     assert_eq!(names.buffers, ["goal", "\u{1f600}\t/"]);
 }

@@ -70,16 +70,14 @@ fn damaged_images_that_still_open() {
     assert!(opened > 300, "{opened} opened");
 }
 
-/// Symbols and variables in an order that no first appearance gives, every utility's sign, empty masks.
-#[test]
-fn numbers_out_of_order() {
+/// Symbols and variables in an order that no first appearance gives, utilities of both signs, empty masks.
+fn out_of_order() -> ModelSpec {
     let v = Term::Variable;
-    let s = Term::Symbol;
     let rule = |utility| RuleSpec {
         utility,
         variables: 3,
         tests: vec![
-            TestSpec::new(0, 1, &[(0, v(2)), (1, v(0)), (2, s(4_095))]),
+            TestSpec::new(0, 1, &[(0, v(2)), (1, v(0)), (2, Term::Symbol(4_095))]),
             TestSpec::new(1, 1, &[(0, v(1)), (2, v(2))]),
             TestSpec::new(2, 0, &[]),
         ],
@@ -90,35 +88,30 @@ fn numbers_out_of_order() {
             ActionSpec::clear(3),
         ],
     };
-    let spec = ModelSpec {
+    let (first, last) = (ChunkSpec::new(1, &[9, 0, 2]), ChunkSpec::new(1, &[1, 3, 2]));
+    ModelSpec {
         failure: 65_535,
         types: vec![3, 0],
-        opening: vec![
-            ChunkSpec::new(1, &[9, 0, 2]),
-            ChunkSpec::new(2, &[]),
-            ChunkSpec::nil(),
-            ChunkSpec::new(1, &[1, 3, 2]),
-        ],
+        opening: vec![first, ChunkSpec::new(2, &[]), ChunkSpec::nil(), last],
         facts: vec![],
         rules: [0x8000, 0xffff, 0x7fff, 1, 999, 0xfc18, 0xfc17].map(rule).into(),
-    };
-    assert_round(&pack(&spec));
-    let text = Model::from_image(&pack(&spec)).expect("opens").to_text();
-    for line in [
-        "symbol x9 = 9",
-        "symbol x2 = 2",
-        "symbol x4095 = 4095",
-        "rule r0 utility -32.768 variables ?v0 ?v1 ?v2",
-        "rule r1 utility -0.001 variables ?v0 ?v1 ?v2",
-        "rule r2 utility 32.767 variables ?v0 ?v1 ?v2",
-        "rule r4 utility 0.999 variables ?v0 ?v1 ?v2",
-        "rule r5 utility -1 variables ?v0 ?v1 ?v2",
-        "  =b0>",
-        "  +b1> t2",
-    ] {
+    }
+}
+
+#[test]
+fn numbers_out_of_order_are_written() {
+    let image = pack(&out_of_order());
+    assert_round(&image);
+    let text = Model::from_image(&image).expect("opens").to_text();
+    for line in ["symbol x2 = 2", "symbol x9 = 9", "symbol x4095 = 4095", "  =b0>", "  +b1> t2"] {
         assert!(text.lines().any(|one| one == line), "{line} is not in\n{text}");
     }
     assert_eq!(text.lines().filter(|line| line.starts_with("symbol")).count(), 3);
+    let utilities = ["-32.768", "-0.001", "32.767", "0.001", "0.999", "-1", "-1.001"];
+    for (number, utility) in utilities.iter().enumerate() {
+        let line = format!("rule r{number} utility {utility} variables ?v0 ?v1 ?v2");
+        assert!(text.lines().any(|one| one == line), "{line} is not in\n{text}");
+    }
 }
 
 #[test]
@@ -143,7 +136,8 @@ rule r variables ?p ?q
  ==>
  =x> a ?q b ?p
  -y>";
-    let other = "# the same\ntype t a b c\r\nbuffer x isa t a 1 b 2 c nil ; opening\nbuffer y chunk\nrule r utility 0.0 variables ?p ?q
+    let other = "# the same\ntype t a b c\r\nbuffer x isa t a 1 b 2 c nil ; opening\nbuffer y chunk
+rule r utility 0.0 variables ?p ?q
 =y> isa chunk
 =x> isa t b ?q a ?p
 ==>

@@ -72,8 +72,10 @@ fn run(command: &Command, words: Vec<String>) -> Result<(), Failure> {
 /// The list of subcommands.
 fn help() -> String {
     let lines: String = COMMANDS.iter().map(|command| format!("  {:10}{}\n", command.name, command.summary)).collect();
-    format!(
-        "usage: jirvuntsag SUBCOMMAND ..\n\n{lines}\n'jirvuntsag SUBCOMMAND --help' says more. Exit status: 0 done, 1 the input is refused, 2 not \
-         used rightly,\nor a file cannot be read or written.\n"
-    )
+    format!("usage: jirvuntsag SUBCOMMAND ..\n\n{lines}\n{MORE}\n")
 }
+
+/// What the list of subcommands ends with.
+const MORE: &str =
+    "'jirvuntsag SUBCOMMAND --help' says more. Exit status: 0 done, 1 the input is refused, 2 not used rightly,
+or a file cannot be read or written.";

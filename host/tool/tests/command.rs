@@ -75,9 +75,10 @@ fn refused_input_leaves_everything_as_it_was() {
     assert_eq!(failed(&folder, &["pack", "-", "-o", "kept"], wrong), (Some(1), said.into()));
     let said = "standard input:2: this is no text: a byte that is not UTF-8\n";
     assert_eq!(failed(&folder, &["pack", "-", "-o", "kept"], b"buffer b\n\xff"), (Some(1), said.into()));
-    let said = "standard input: refused: 2 (a field is not wholly there) at bit 8: number of buffers has 4 bits, but the image ends after bit 7\n";
-    assert_eq!(failed(&folder, &["check", "-"], &[1]), (Some(1), said.into()));
-    assert_eq!(failed(&folder, &["unpack", "-", "-o", "kept"], &[1]), (Some(1), said.into()));
+    let field = "number of buffers has 4 bits, but the image ends after bit 7";
+    let said = format!("standard input: refused: 2 (a field is not wholly there) at bit 8: {field}\n");
+    assert_eq!(failed(&folder, &["check", "-"], &[1]), (Some(1), said.clone()));
+    assert_eq!(failed(&folder, &["unpack", "-", "-o", "kept"], &[1]), (Some(1), said));
     let said = "kept:1:5: 'kept' is no JSON value\n";
     assert_eq!(failed(&folder, &["unpack", "-", "--names", "kept"], &pack(&model_a())), (Some(1), said.into()));
     assert_eq!(std::fs::read(folder.join("kept")).expect("the file"), b"kept");
