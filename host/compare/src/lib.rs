@@ -2,10 +2,12 @@
 
 mod cases;
 mod printing;
+mod proved;
 
 pub use cases::{cases, Case};
+pub use proved::{from_proved, to_proved};
 
-use jirvuntsag_proved as proved;
+use jirvuntsag_proved::calls;
 use jirvuntsag_reference as reference;
 use jirvuntsag_reference::{Event, State};
 
@@ -41,7 +43,7 @@ pub const REFERENCE: Engine = Engine {
 /// The proved library.
 pub const PROVED: Engine = Engine {
     name: "proved",
-    table_len: proved::table_len,
+    table_len: calls::table_length,
     open: proved::open,
     run: proved::run,
     trace: proved::trace,

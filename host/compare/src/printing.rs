@@ -1,24 +1,29 @@
 //! The printed lines, from the proved library's calls.
 
-use jirvuntsag_proved::{open, table_len, trace};
-use jirvuntsag_reference::{Event, Kind, PRINTED_STEPS};
+use jirvuntsag_proved::{Event, Model, Ran, Refusal, Step};
+use jirvuntsag_reference::PRINTED_STEPS;
 
 /// Opens an image, runs it and prints each step.
 pub fn print_proved(image: &[u8]) -> String {
-    let mut table = vec![0; table_len(image)];
-    let (number, state) = open(image, &mut table);
-    if number != 0 {
-        return format!("end {number} 0\n");
+    match traced(image) {
+        Ok((ran, events)) => {
+            let lines: String = events.iter().map(line).collect();
+            format!("{lines}end {} {}\n", ran.end.number(), ran.made)
+        }
+        Err(refusal) => format!("end {} 0\n", refusal.number()),
     }
-    let (number, _, events) = trace(image, state, &mut table, PRINTED_STEPS);
-    let lines: String = events.iter().map(line).collect();
-    format!("{lines}end {number} {}\n", events.len())
+}
+
+/// The printed run of an image, or why there is none.
+fn traced(image: &[u8]) -> Result<(Ran, Vec<Event>), Refusal> {
+    let (model, state, mut table) = Model::open(image)?;
+    model.trace(state, &mut table, PRINTED_STEPS)
 }
 
 /// The line of one step.
 fn line(event: &Event) -> String {
-    match event.kind {
-        Kind::Fire(rule) => format!("{} fire {rule}\n", event.clock),
-        Kind::Wait(ms) => format!("{} wait {ms}\n", event.clock),
+    match event.step {
+        Step::Fire { rule } => format!("{} fire {rule}\n", event.clock),
+        Step::Wait { ms } => format!("{} wait {ms}\n", event.clock),
     }
 }

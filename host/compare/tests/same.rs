@@ -87,5 +87,5 @@ fn images_at_the_largest_size_and_past_it() {
 
 #[test]
 fn random_models_states_tables_and_marks() {
-    each_seed(1, 3_000, |seed, _| assert_same(&case(seed)));
+    each_seed(1, 20_000, |seed, _| assert_same(&case(seed)));
 }

@@ -16,7 +16,7 @@ pub use case::{case, Case};
 pub use image::{damage, Damage};
 pub use model::{model, model_of};
 pub use rng::Rng;
-pub use seeds::{each_seed, SEED_VARIABLE};
+pub use seeds::{each_seed, SEED_VARIABLE, TIMES_VARIABLE};
 pub use shape::Shape;
 pub use state::{broken_state, clock, mark, state, steps, BrokenBy};
 pub use table::{guessed_table, table, TableKind};

@@ -1,39 +1,37 @@
-//! The proved library's calls for Rust, in the same shape as the reference engine's.
+//! The proved library for Rust: runs ACT-R models from a packed image.
+//!
+//! [`Model::open`] takes an image and gives the model, its opening [`State`] and its kept [`Table`]; [`Model::run`] makes
+//! steps. A call that is refused says why by a [`Refusal`] and has changed nothing; a run that was made says by an [`End`]
+//! why it made no more steps. No call panics, keeps anything between calls, or asks for memory but for what it gives back.
+//! [`calls`] has the five calls of the library as they are, on bytes and words that the caller owns.
+//!
+//! ```
+//! use jirvuntsag_proved::{End, Model, Refusal, Step};
+//!
+//! # let path = concat!(env!("CARGO_MANIFEST_DIR"), "/../../models/counting.image");
+//! # let image = std::fs::read(path)?;
+//! let (model, state, mut table) = Model::open(&image)?;
+//! let first = model.run(state, &mut table, 1)?;
+//! assert_eq!((first.end, first.made, first.state.clock), (End::Done, 1, 50));
+//!
+//! let (ran, events) = model.trace(first.state, &mut table, 1_000)?;
+//! assert_eq!((ran.end, ran.made), (End::Halted, 6));
+//! assert_eq!((events[0].clock, events[0].step), (150, Step::Wait { ms: 100 }));
+//! assert_eq!(ran.end.to_string(), "halted before the steps asked were made");
+//!
+//! assert_eq!(Model::open(&image[1..]).err(), Some(Refusal::Broken));
+//! # Ok::<(), Box<dyn std::error::Error>>(())
+//! ```
 
+pub mod calls;
 mod linked;
+mod model;
+mod number;
+mod state;
+mod table;
 mod words;
 
-use jirvuntsag_reference::{Event, State};
-use words::{events, number_and_count, state_of, words_of};
-
-/// Words of the table of an accepted image, 9 for each rule; 0 for any other.
-pub fn table_len(image: &[u8]) -> usize {
-    linked::table_len(image) as usize
-}
-
-/// Opens an image: the number, the opening state, and the fresh table if accepted.
-pub fn open(image: &[u8], table: &mut [u16]) -> (u8, State) {
-    let mut words = [0; words::STATE];
-    let (number, _) = number_and_count(linked::open(image, table, &mut words));
-    (number, state_of(&words))
-}
-
-/// Runs up to `steps` steps: the number, the state and the steps made.
-pub fn run(image: &[u8], state: State, table: &mut [u16], steps: u16) -> (u8, State, u16) {
-    let mut words = words_of(&state);
-    let (number, made) = number_and_count(linked::run(image, &mut words, table, steps));
-    (number, state_of(&words), made)
-}
-
-/// Refreshes the entries of rules that test a marked buffer: the number and how many these are.
-pub fn refresh(image: &[u8], state: &State, mark: u16, table: &mut [u16]) -> (u8, u16) {
-    number_and_count(linked::refresh(image, &words_of(state), mark, table))
-}
-
-/// A run that also tells each step.
-pub fn trace(image: &[u8], state: State, table: &mut [u16], steps: u16) -> (u8, State, Vec<Event>) {
-    let mut words = words_of(&state);
-    let mut noted = vec![0; words::EVENT * usize::from(steps)];
-    let (number, made) = number_and_count(linked::trace(image, &mut words, table, steps, &mut noted));
-    (number, state_of(&words), events(&noted[..words::EVENT * usize::from(made)]))
-}
+pub use model::{Model, Ran};
+pub use number::{End, Number, Refusal};
+pub use state::{Buffer, Event, State, Step};
+pub use table::{Entry, Table};

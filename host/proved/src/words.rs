@@ -1,6 +1,7 @@
-//! States, events and answers as the words that the library takes and gives.
+//! States, steps and answers as the words that the library takes and gives.
 
-use jirvuntsag_reference::{Buffer, Event, Kind, State};
+use crate::number::Number;
+use crate::state::{Buffer, Event, State, Step};
 
 /// Words of a state: the clock, then type, eight slot values and delay of each buffer.
 pub const STATE: usize = 81;
@@ -23,31 +24,27 @@ pub fn words_of(state: &State) -> [u32; STATE] {
     words
 }
 
-/// A word of a buffer, which the library keeps to 16 bits.
-fn short(word: u32) -> u16 {
-    u16::try_from(word).expect("a word of 16 bits")
-}
-
-/// The state of its words.
+/// The state of its words. All but the clock have 16 bits: the library was handed such words, and leaves such.
 pub fn state_of(words: &[u32; STATE]) -> State {
     let mut state = State { clock: words[0], ..State::default() };
     for (buffer, part) in state.buffers.iter_mut().zip(words[1..].chunks_exact(BUFFER)) {
-        let slots = std::array::from_fn(|slot| short(part[1 + slot]));
-        *buffer = Buffer { isa: short(part[0]), slots, delay: short(part[9]) };
+        let slots = std::array::from_fn(|slot| part[1 + slot] as u16);
+        *buffer = Buffer { isa: part[0] as u16, slots, delay: part[9] as u16 };
     }
     state
 }
 
 /// The number in the low half of an answer, and the count in the high half.
-pub fn number_and_count(answer: u32) -> (u8, u16) {
-    (u8::try_from(answer & 0xffff).expect("a number"), (answer >> 16) as u16)
+pub fn number_and_count(answer: u32) -> (Number, u16) {
+    (Number::of(answer as u16), (answer >> 16) as u16)
 }
 
-/// The steps of their words.
-pub fn events(words: &[u32]) -> Vec<Event> {
+/// The first `made` steps of their words; rules and ms have 16 bits.
+pub fn events(words: &[u32], made: u16) -> Vec<Event> {
     let event = |part: &[u32]| {
-        let kind = if part[1] == 0 { Kind::Fire(short(part[2])) } else { Kind::Wait(short(part[2])) };
-        Event { clock: part[0], kind }
+        let value = part[2] as u16;
+        let step = if part[1] == 0 { Step::Fire { rule: value } } else { Step::Wait { ms: value } };
+        Event { clock: part[0], step }
     };
-    words.chunks_exact(EVENT).map(event).collect()
+    words.chunks_exact(EVENT).take(usize::from(made)).map(event).collect()
 }

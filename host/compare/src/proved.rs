@@ -1,0 +1,46 @@
+//! The proved library's calls in the reference engine's types.
+
+use jirvuntsag_proved as proved;
+use jirvuntsag_proved::calls;
+use jirvuntsag_reference::{Buffer, Event, Kind, State};
+
+/// A state for the proved library.
+pub fn to_proved(state: &State) -> proved::State {
+    let buffer = |buffer: Buffer| proved::Buffer { isa: buffer.isa, slots: buffer.slots, delay: buffer.delay };
+    proved::State { buffers: state.buffers.map(buffer), clock: state.clock }
+}
+
+/// A state of the proved library.
+pub fn from_proved(state: &proved::State) -> State {
+    let buffer = |buffer: proved::Buffer| Buffer { isa: buffer.isa, slots: buffer.slots, delay: buffer.delay };
+    State { buffers: state.buffers.map(buffer), clock: state.clock }
+}
+
+/// A step that the proved library tells.
+fn event(event: &proved::Event) -> Event {
+    let kind = match event.step {
+        proved::Step::Fire { rule } => Kind::Fire(rule),
+        proved::Step::Wait { ms } => Kind::Wait(ms),
+    };
+    Event { clock: event.clock, kind }
+}
+
+pub fn open(image: &[u8], table: &mut [u16]) -> (u8, State) {
+    let (number, state) = calls::open(image, table);
+    (number.number(), from_proved(&state))
+}
+
+pub fn run(image: &[u8], state: State, table: &mut [u16], steps: u16) -> (u8, State, u16) {
+    let (number, state, made) = calls::run(image, &to_proved(&state), table, steps);
+    (number.number(), from_proved(&state), made)
+}
+
+pub fn trace(image: &[u8], state: State, table: &mut [u16], steps: u16) -> (u8, State, Vec<Event>) {
+    let (number, state, events) = calls::trace(image, &to_proved(&state), table, steps);
+    (number.number(), from_proved(&state), events.iter().map(event).collect())
+}
+
+pub fn refresh(image: &[u8], state: &State, mark: u16, table: &mut [u16]) -> (u8, u16) {
+    let (number, count) = calls::refresh(image, &to_proved(state), mark, table);
+    (number.number(), count)
+}

@@ -1,0 +1,171 @@
+//! Chains of calls, refused ones among them: each is handed the state and the table that the call before it left.
+
+use std::collections::BTreeMap;
+
+use jirvuntsag_compare::{Engine, PROVED, REFERENCE};
+use jirvuntsag_generate::{broken_state, clock, damage, each_seed, mark, model, steps, Rng};
+use jirvuntsag_packing::{pack_with_fields, ModelSpec, Packed};
+use jirvuntsag_reference::{Event, Model, State};
+
+/// Links of a chain.
+const LINKS: usize = 24;
+
+/// One link: a call, or something that befalls state or table between two calls.
+#[derive(Clone, Debug)]
+enum Link {
+    Run(u16),
+    Trace(u16),
+    Refresh(u16),
+    /// A run and a refresh that are handed this image.
+    DamagedImage(Vec<u8>),
+    /// A run and a refresh that are handed this state.
+    BrokenState(Box<State>),
+    /// A run and a refresh that are handed the table without its last word, or with one more.
+    TableLength,
+    SetClock(u32),
+    SetWord(usize, u16),
+}
+
+/// What an engine has in hand.
+#[derive(Clone, PartialEq, Debug)]
+struct Hand {
+    state: State,
+    table: Vec<u16>,
+}
+
+/// What the calls of a link answer: numbers, counts and steps.
+#[derive(PartialEq, Debug, Default)]
+struct Said {
+    numbers: Vec<u8>,
+    counts: Vec<u16>,
+    events: Vec<Event>,
+}
+
+impl Said {
+    fn note(&mut self, number: u8, count: u16) {
+        self.numbers.push(number);
+        self.counts.push(count);
+    }
+
+    /// Whether each call was refused, so that nothing may have changed.
+    fn refused(&self) -> bool {
+        self.numbers.iter().all(|number| matches!(number, 1..=6 | 10))
+    }
+}
+
+/// A link that fits anywhere in a chain.
+fn link(rng: &mut Rng, spec: &ModelSpec, packed: &Packed) -> Link {
+    match rng.below(20) {
+        0..=6 => Link::Run(steps(rng).min(200)),
+        7..=9 => Link::Trace(steps(rng).min(200)),
+        10..=12 => Link::Refresh(mark(rng, spec.opening.len())),
+        13..=14 => Link::DamagedImage(damage(rng, packed).1),
+        15 => Link::BrokenState(Box::new(broken_state(rng, spec).1)),
+        16 => Link::TableLength,
+        17..=18 => Link::SetClock(clock(rng)),
+        _ => Link::SetWord(rng.word() as usize, rng.pick(&[0, 1, 1, 2, 65_535])),
+    }
+}
+
+/// A run of three steps and a refresh by this state, where both may be refused.
+fn run_and_refresh(engine: &Engine, image: &[u8], state: State, table: &mut [u16], said: &mut Said) -> State {
+    let (number, after, made) = (engine.run)(image, state, table, 3);
+    said.note(number, made);
+    let (number, count) = (engine.refresh)(image, &after, 1, table);
+    said.note(number, count);
+    after
+}
+
+/// Makes a link's calls on what is in hand, and leaves there what they left.
+fn make(engine: &Engine, image: &[u8], link: &Link, hand: &mut Hand) -> Said {
+    let mut said = Said::default();
+    match link {
+        Link::Run(steps) => {
+            let (number, state, made) = (engine.run)(image, hand.state, &mut hand.table, *steps);
+            hand.state = state;
+            said.note(number, made);
+        }
+        Link::Trace(steps) => {
+            let (number, state, events) = (engine.trace)(image, hand.state, &mut hand.table, *steps);
+            hand.state = state;
+            said.note(number, events.len() as u16);
+            said.events = events;
+        }
+        Link::Refresh(mark) => {
+            let (number, count) = (engine.refresh)(image, &hand.state, *mark, &mut hand.table);
+            said.note(number, count);
+        }
+        Link::DamagedImage(damaged) => {
+            hand.state = run_and_refresh(engine, damaged, hand.state, &mut hand.table, &mut said);
+        }
+        Link::BrokenState(broken) => {
+            let after = run_and_refresh(engine, image, **broken, &mut hand.table, &mut said);
+            assert_eq!(after, **broken, "a broken state comes back as it was");
+        }
+        Link::TableLength => {
+            let mut longer = [&hand.table[..], &[1]].concat();
+            hand.state = run_and_refresh(engine, image, hand.state, &mut longer, &mut said);
+            assert_eq!(longer.pop(), Some(1));
+            hand.table = longer;
+        }
+        Link::SetClock(clock) => hand.state.clock = *clock,
+        Link::SetWord(at, value) => {
+            let words = hand.table.len().max(1);
+            if let Some(word) = hand.table.get_mut(at % words) {
+                *word = *value;
+            }
+        }
+    }
+    said
+}
+
+/// Whether a table that was fresh before the link must be fresh after it.
+fn keeps(link: &Link, said: &Said) -> bool {
+    match link {
+        Link::Run(_) | Link::Trace(_) | Link::Refresh(_) | Link::SetClock(_) => true,
+        Link::DamagedImage(_) | Link::BrokenState(_) | Link::TableLength => said.refused(),
+        Link::SetWord(..) => false,
+    }
+}
+
+/// Makes one chain on both engines and holds them to each other after each link.
+fn chain(rng: &mut Rng, numbers: &mut BTreeMap<u8, u32>) {
+    let spec = model(rng);
+    let packed = pack_with_fields(&spec);
+    let image = &packed.bytes;
+    let decoded = Model::decode(image).expect("a valid model");
+    let mut table = vec![0; decoded.table_len()];
+    let (_, state) = (PROVED.open)(image, &mut table);
+    let mut proved = Hand { state, table };
+    let mut reference = proved.clone();
+    let mut kept = true;
+    for _ in 0..LINKS {
+        let link = link(rng, &spec, &packed);
+        let before = proved.clone();
+        let said = make(&PROVED, image, &link, &mut proved);
+        assert_eq!(said, make(&REFERENCE, image, &link, &mut reference), "{link:?} from {before:?}");
+        assert_eq!(proved, reference, "{link:?} from {before:?}");
+        if !said.numbers.is_empty() && said.refused() {
+            assert_eq!(proved, before, "refused: {link:?}");
+        }
+        kept = kept && keeps(&link, &said);
+        if kept {
+            assert_eq!(proved.table, decoded.fresh_table(&proved.state), "the kept table after {link:?}");
+        }
+        said.numbers.iter().for_each(|number| *numbers.entry(*number).or_default() += 1);
+        if !decoded.is_well_formed(&proved.state) {
+            // A damaged image that is accepted may leave a state that this one refuses from here on.
+            break;
+        }
+    }
+}
+
+#[test]
+fn chains_of_calls_with_refused_ones_between() {
+    let mut numbers = BTreeMap::new();
+    each_seed(50_000, 6_000, |_, mut rng| chain(&mut rng, &mut numbers));
+    println!("{numbers:?}");
+    for number in 0..=10 {
+        assert!(numbers.contains_key(&number), "no chain met {number}: {numbers:?}");
+    }
+}

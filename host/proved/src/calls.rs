@@ -1,0 +1,39 @@
+//! The five calls as they are: on an image's bytes and a table's words, with all that they give back, refused or not.
+
+use crate::linked;
+use crate::number::Number;
+use crate::state::{Event, State};
+use crate::words::{self, events, number_and_count, state_of, words_of};
+
+/// The words that the table of this image needs: nine for each rule; 0 if the image is refused.
+pub fn table_length(image: &[u8]) -> usize {
+    linked::table_len(image) as usize
+}
+
+/// Opens an image. If it is refused the state is all zeros and the table as it was; otherwise the table is the fresh one.
+pub fn open(image: &[u8], table: &mut [u16]) -> (Number, State) {
+    let mut words = [0; words::STATE];
+    let (number, _) = number_and_count(linked::open(image, table, &mut words));
+    (number, state_of(&words))
+}
+
+/// Runs at most `steps` steps: the number, the state after the steps made, and how many these are.
+pub fn run(image: &[u8], state: &State, table: &mut [u16], steps: u16) -> (Number, State, u16) {
+    let mut words = words_of(state);
+    let (number, made) = number_and_count(linked::run(image, &mut words, table, steps));
+    (number, state_of(&words), made)
+}
+
+/// Runs as [`run`] does, and tells each step made.
+pub fn trace(image: &[u8], state: &State, table: &mut [u16], steps: u16) -> (Number, State, Vec<Event>) {
+    let mut words = words_of(state);
+    let mut noted = vec![0; words::EVENT * usize::from(steps)];
+    let (number, made) = number_and_count(linked::trace(image, &mut words, table, steps, &mut noted));
+    (number, state_of(&words), events(&noted, made))
+}
+
+/// Makes the entries of the rules that test a marked buffer afresh: the number and how many rules these are.
+/// Buffer b has weight 2 to the power b in `mark`.
+pub fn refresh(image: &[u8], state: &State, mark: u16, table: &mut [u16]) -> (Number, u16) {
+    number_and_count(linked::refresh(image, &words_of(state), mark, table))
+}

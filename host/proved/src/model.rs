@@ -1,0 +1,57 @@
+//! A model that was opened, and its runs.
+
+use crate::calls;
+use crate::number::{End, Refusal};
+use crate::state::{Event, State};
+use crate::table::Table;
+
+/// A model: an image that was accepted.
+#[derive(Clone, Copy, PartialEq, Eq, Debug)]
+pub struct Model<'a> {
+    image: &'a [u8],
+}
+
+/// A run that was made.
+#[derive(Clone, Copy, PartialEq, Eq, Debug)]
+pub struct Ran {
+    /// Why it made no more steps.
+    pub end: End,
+    /// The state after the steps made.
+    pub state: State,
+    /// The steps made.
+    pub made: u16,
+}
+
+impl<'a> Model<'a> {
+    /// Opens an image: the model, its opening state and the fresh table of that state.
+    pub fn open(image: &'a [u8]) -> Result<(Model<'a>, State, Table), Refusal> {
+        let mut table = Table::from_words(vec![0; calls::table_length(image)]);
+        let (number, state) = calls::open(image, table.words_mut());
+        number.ended().map(|_| (Model { image }, state, table))
+    }
+
+    /// The image.
+    pub fn image(&self) -> &'a [u8] {
+        self.image
+    }
+
+    /// Runs at most `steps` steps from a state, and keeps the table. A refused run leaves the table as it was.
+    pub fn run(&self, state: State, table: &mut Table, steps: u16) -> Result<Ran, Refusal> {
+        let (number, state, made) = calls::run(self.image, &state, table.words_mut(), steps);
+        number.ended().map(|end| Ran { end, state, made })
+    }
+
+    /// Runs as [`Model::run`] does, and tells each step made.
+    pub fn trace(&self, state: State, table: &mut Table, steps: u16) -> Result<(Ran, Vec<Event>), Refusal> {
+        let (number, state, events) = calls::trace(self.image, &state, table.words_mut(), steps);
+        let made = events.len() as u16;
+        number.ended().map(|end| (Ran { end, state, made }, events))
+    }
+
+    /// Makes the entries of the rules that test a marked buffer afresh, and gives how many these are.
+    /// Buffer b has weight 2 to the power b in `mark`. A refused refresh leaves the table as it was.
+    pub fn refresh(&self, state: &State, mark: u16, table: &mut Table) -> Result<u16, Refusal> {
+        let (number, count) = calls::refresh(self.image, state, mark, table.words_mut());
+        number.ended().map(|_| count)
+    }
+}
