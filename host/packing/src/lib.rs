@@ -3,11 +3,13 @@
 //! Nothing is validated: tests want images that break a rule, too. Values wider
 //! than their field lose their upper bits.
 
+mod largest;
 mod model_a;
 mod pack;
 mod spec;
 mod writer;
 
+pub use largest::largest;
 pub use model_a::model_a;
 pub use pack::{pack, pack_under, pack_with_fields, Packed};
 pub use spec::{ActionSpec, ChunkSpec, Deed, FactSpec, Header, ModelSpec, PatternSpec, RuleSpec, Term, TestSpec};

@@ -1,7 +1,7 @@
 //! The packed bytes of small models, by hand.
 
 use jirvuntsag_packing::{
-    model_a, pack, pack_under, pack_with_fields, ChunkSpec, Header, ModelSpec, PatternSpec, Role, Term,
+    largest, model_a, pack, pack_under, pack_with_fields, ChunkSpec, Header, ModelSpec, PatternSpec, Role, Term,
 };
 
 #[test]
@@ -50,4 +50,10 @@ fn patterns_name_their_slots_in_order() {
     let pattern = PatternSpec::new(&named);
     assert_eq!(pattern.mask, 0b1001_0001);
     assert_eq!(pattern.named().collect::<Vec<_>>(), named);
+}
+
+#[test]
+fn the_largest_model_fills_the_largest_image() {
+    let spec = largest();
+    assert_eq!((spec.facts.len(), spec.rules.len(), pack(&spec).len()), (512, 256, 65_536));
 }

@@ -1,0 +1,131 @@
+/* The five functions of jirvuntsag.h on model A, answers and all that they leave. Also compiled as C++. Exits with 1 at the first that differs. */
+#include <stdio.h>
+#include <stdlib.h>
+#include <string.h>
+
+#include "jirvuntsag.h"
+
+enum { LENGTH = 71, WORDS = 27, STATE = JIRVUNTSAG_STATE_WORDS };
+
+/* A check that holds in every build, unlike assert. */
+#define CHECK(holds)                                                            \
+    do {                                                                        \
+        if (!(holds)) {                                                         \
+            fprintf(stderr, "%s:%d: not so: %s\n", __FILE__, __LINE__, #holds); \
+            exit(1);                                                            \
+        }                                                                       \
+    } while (0)
+
+static uint8_t image[LENGTH];
+static uint16_t fresh[WORDS];
+static uint32_t opening[STATE];
+
+static void read_image(const char *path) {
+    FILE *file = fopen(path, "rb");
+    CHECK(file != NULL && fread(image, 1, LENGTH, file) == LENGTH && fgetc(file) == EOF);
+    fclose(file);
+}
+
+static uint32_t answered(uint32_t number, uint32_t count) {
+    return number + 65536 * count;
+}
+
+/* Opens model A, and three images that are refused. */
+static void check_open(void) {
+    CHECK(jirvuntsag_table_len(image, LENGTH) == WORDS);
+    CHECK(jirvuntsag_open(image, LENGTH, fresh, WORDS, opening) == 0);
+    CHECK(opening[0] == 0 && opening[1] == 2 && opening[2] == 1 && opening[3] == 3 && opening[11] == 0);
+    CHECK(fresh[0] == 1 && fresh[1] == 1 && fresh[9] == 0 && fresh[18] == 0);
+    uint16_t table[WORDS] = {7, 8, 9}, before[WORDS] = {7, 8, 9};
+    uint32_t state[STATE], zeros[STATE] = {0};
+    memset(state, 255, sizeof state);
+    CHECK(jirvuntsag_table_len(image, LENGTH - 1) == 0);
+    CHECK(jirvuntsag_open(image, LENGTH - 1, table, WORDS, state) == 2);
+    CHECK(memcmp(state, zeros, sizeof state) == 0 && memcmp(table, before, sizeof table) == 0);
+    CHECK(jirvuntsag_open(image, LENGTH, table, WORDS - 1, state) == 5);
+    CHECK(jirvuntsag_open(image, 0, table, 0, state) == 2);
+    CHECK(memcmp(table, before, sizeof table) == 0);
+}
+
+/* Runs one step, then all. */
+static void check_run(void) {
+    uint16_t table[WORDS];
+    uint32_t state[STATE];
+    memcpy(table, fresh, sizeof table);
+    memcpy(state, opening, sizeof state);
+    CHECK(jirvuntsag_run(image, LENGTH, state, table, WORDS, 1) == answered(0, 1));
+    CHECK(state[0] == 50 && state[11] == 1 && state[12] == 1 && state[13] == 2 && state[20] == 100);
+    CHECK(jirvuntsag_run(image, LENGTH, state, table, WORDS, 0) == 0);
+    CHECK(jirvuntsag_run(image, LENGTH, state, table, WORDS, 65535) == answered(9, 6));
+    CHECK(state[0] == 550);
+}
+
+/* A word that is too large for its field is 6 in each call, and every word comes back as it was. */
+static void check_large_words(void) {
+    const uint32_t large[] = {65536, 65537, 131072, 1u << 31, UINT32_MAX};
+    for (size_t word = 1; word < STATE; word++) {
+        uint32_t state[STATE], before[STATE], events[3] = {1, 2, 3};
+        uint16_t table[WORDS];
+        memcpy(table, fresh, sizeof table);
+        memcpy(state, opening, sizeof state);
+        state[word] += large[word % 5];
+        memcpy(before, state, sizeof state);
+        CHECK(jirvuntsag_run(image, LENGTH, state, table, WORDS, 5) == 6);
+        CHECK(jirvuntsag_trace(image, LENGTH, state, table, WORDS, 5, events, 3) == 6);
+        CHECK(jirvuntsag_refresh(image, LENGTH, state, 1, table, WORDS) == 6);
+        CHECK(memcmp(state, before, sizeof state) == 0 && memcmp(table, fresh, sizeof table) == 0);
+        CHECK(events[0] == 1 && events[1] == 2 && events[2] == 3);
+    }
+    /* The clock has all 32 bits. */
+    uint32_t state[STATE];
+    uint16_t table[WORDS];
+    memcpy(table, fresh, sizeof table);
+    memcpy(state, opening, sizeof state);
+    state[0] = UINT32_MAX;
+    CHECK(jirvuntsag_run(image, LENGTH, state, table, WORDS, 5) == 8 && state[0] == UINT32_MAX);
+}
+
+/* Events are noted as far as there is room, and no word past those of the steps made is written. */
+static void check_trace(void) {
+    const uint32_t noted[] = {50, 0, 0, 150, 1, 100, 200, 0, 1, 300, 1, 100};
+    for (size_t room = 0; room <= 12; room++) {
+        uint32_t state[STATE], events[16];
+        uint16_t table[WORDS];
+        memset(events, 255, sizeof events);
+        memcpy(table, fresh, sizeof table);
+        memcpy(state, opening, sizeof state);
+        CHECK(jirvuntsag_trace(image, LENGTH, state, table, WORDS, 4, events, room) == answered(0, 4));
+        CHECK(state[0] == 300);
+        for (size_t word = 0; word < 16; word++)
+            CHECK(events[word] == (word < room / 3 * 3 ? noted[word] : UINT32_MAX));
+    }
+}
+
+/* Only the rules that test a marked buffer are counted and written. */
+static void check_refresh(void) {
+    uint16_t table[WORDS];
+    memset(table, 255, sizeof table);
+    CHECK(jirvuntsag_refresh(image, LENGTH, opening, 4, table, WORDS) == 10);
+    CHECK(jirvuntsag_refresh(image, LENGTH, opening, 0, table, WORDS) == 0);
+    for (size_t word = 0; word < WORDS; word++)
+        CHECK(table[word] == 65535);
+    CHECK(jirvuntsag_refresh(image, LENGTH, opening, 2, table, WORDS) == answered(0, 2));
+    for (size_t word = 0; word < WORDS; word++)
+        CHECK(table[word] == (word < 18 ? fresh[word] : 65535));
+    CHECK(jirvuntsag_refresh(image, LENGTH, opening, 1, table, WORDS) == answered(0, 3));
+    CHECK(memcmp(table, fresh, sizeof table) == 0);
+}
+
+int main(int count, char **arguments) {
+    if (count != 2) {
+        fprintf(stderr, "usage: calls PATH (the image of model A)\n");
+        return 2;
+    }
+    read_image(arguments[1]);
+    check_open();
+    check_run();
+    check_large_words();
+    check_trace();
+    check_refresh();
+    return 0;
+}

@@ -1,0 +1,23 @@
+/* Cases that `cargo run --example cases` in host/generate writes: what the five calls are handed. */
+#ifndef CASES_H
+#define CASES_H
+
+#include <stdbool.h>
+#include <stdint.h>
+#include <stddef.h>
+
+/* Bytes of the longest image in a case, words of its longest table, and words for the events of a run. */
+enum { LONGEST_IMAGE = 1 << 17, LONGEST_TABLE = 4096, LONGEST_EVENTS = 3 * 300, STATE_WORDS = 81 };
+
+typedef struct {
+    uint32_t image_length, table_length, events_length;
+    uint16_t mark, steps;
+    uint8_t image[LONGEST_IMAGE];
+    uint16_t table[LONGEST_TABLE];
+    uint32_t state[STATE_WORDS];
+} Case;
+
+/* The next case of standard input; false where it ends. A case that is cut or too long ends the program with status 2. */
+bool next_case(Case *into);
+
+#endif

@@ -1,0 +1,42 @@
+/* Runs the model image at a path by jirvuntsag_trace and prints a line for each step: lines PATH. */
+#include <stdio.h>
+#include <stdlib.h>
+
+#include "jirvuntsag.h"
+
+enum { IMAGE = 65537, RULES = 256, STEPS = 1000 };
+
+static uint8_t image[IMAGE];
+static uint16_t table[9 * RULES];
+static uint32_t events[3 * STEPS];
+
+/* Reads at most one byte more than an image can have, so that a longer file is refused as one. */
+static size_t read_image(const char *path) {
+    FILE *file = fopen(path, "rb");
+    if (file == NULL) {
+        perror(path);
+        exit(2);
+    }
+    size_t length = fread(image, 1, IMAGE, file);
+    fclose(file);
+    return length;
+}
+
+int main(int count, char **arguments) {
+    if (count != 2) {
+        fprintf(stderr, "usage: lines PATH\n");
+        return 2;
+    }
+    size_t length = read_image(arguments[1]);
+    size_t words = jirvuntsag_table_len(image, length);
+    uint32_t state[JIRVUNTSAG_STATE_WORDS];
+    uint32_t answer = jirvuntsag_open(image, length, table, words, state);
+    if (JIRVUNTSAG_NUMBER(answer) == 0)
+        answer = jirvuntsag_trace(image, length, state, table, words, STEPS, events, 3 * STEPS);
+    for (uint32_t step = 0; step < JIRVUNTSAG_COUNT(answer); step++) {
+        const uint32_t *event = events + 3 * step;
+        printf("%lu %s %lu\n", (unsigned long)event[0], event[1] == 0 ? "fire" : "wait", (unsigned long)event[2]);
+    }
+    printf("end %lu %lu\n", (unsigned long)JIRVUNTSAG_NUMBER(answer), (unsigned long)JIRVUNTSAG_COUNT(answer));
+    return 0;
+}

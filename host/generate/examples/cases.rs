@@ -1,0 +1,101 @@
+//! Writes calls for the drivers in `host/c` to standard output: `cargo run --example cases -- COUNT [SEED]`.
+//!
+//! A case is, in little-endian words of 32 bits: the image's length and its bytes; the 81 words of a state; the table's
+//! length and its words of 16 bits; the mark; the steps. The first case is model A from its opening, the second the largest
+//! image; then come each cut and each flipped bit of model A, and COUNT random cases.
+
+use std::io::{self, Write};
+use std::process::ExitCode;
+
+use jirvuntsag_generate::{case, Case, Rng};
+use jirvuntsag_packing::{largest, model_a, pack};
+use jirvuntsag_reference::{open, table_len};
+
+const USAGE: &str = "usage: cases COUNT [SEED]
+Writes model A, the largest image, each cut and flipped bit of model A, and COUNT random cases from SEED (1) on, as calls
+for the drivers in host/c, to standard output.";
+/// Most steps of a run, so that a slow checker ends.
+const STEPS: u16 = 300;
+
+/// An image from its opening.
+fn opening(image: Vec<u8>) -> Case {
+    let mut table = vec![0; table_len(&image)];
+    let (_, state) = open(&image, &mut table);
+    Case { image, state, table, mark: 1, steps: STEPS }
+}
+
+/// The words of a case's state, one of them too large for its field in about one case of ten.
+fn state_words(rng: &mut Rng, case: &Case) -> Vec<u32> {
+    let mut words = vec![case.state.clock];
+    for buffer in &case.state.buffers {
+        words.push(u32::from(buffer.isa));
+        words.extend(buffer.slots.map(u32::from));
+        words.push(u32::from(buffer.delay));
+    }
+    if rng.chance(10) {
+        words[rng.from_to(1, 80)] |= 1 << rng.from_to(16, 31);
+    }
+    words
+}
+
+/// The bytes of a case.
+fn bytes(rng: &mut Rng, case: &Case) -> Vec<u8> {
+    let word = |word: usize| (word as u32).to_le_bytes();
+    let mut bytes = [&word(case.image.len())[..], &case.image].concat();
+    bytes.extend(state_words(rng, case).into_iter().flat_map(u32::to_le_bytes));
+    bytes.extend(word(case.table.len()));
+    bytes.extend(case.table.iter().flat_map(|word| word.to_le_bytes()));
+    bytes.extend(word(usize::from(case.mark)));
+    bytes.extend(word(usize::from(case.steps.min(STEPS))));
+    bytes
+}
+
+/// Model A, the largest image, and each cut and each flipped bit of model A.
+fn fixed_cases() -> Vec<Case> {
+    let image = pack(&model_a());
+    let mut images = vec![image.clone(), pack(&largest())];
+    images.extend((0..image.len()).map(|bytes| image[..bytes].to_vec()));
+    images.extend((0..8 * image.len()).map(|bit| {
+        let mut flipped = image.clone();
+        flipped[bit / 8] ^= 0x80 >> (bit % 8);
+        flipped
+    }));
+    images.into_iter().map(opening).collect()
+}
+
+/// All cases to standard output.
+fn write_all(count: u64, seed: u64) -> io::Result<()> {
+    let mut rng = Rng::new(seed);
+    let mut out = io::BufWriter::new(io::stdout().lock());
+    for fixed in fixed_cases() {
+        out.write_all(&bytes(&mut Rng::new(0), &fixed))?;
+    }
+    for i in 0..count {
+        out.write_all(&bytes(&mut rng, &case(seed.wrapping_add(i))))?;
+    }
+    out.flush()
+}
+
+fn main() -> ExitCode {
+    let arguments: Vec<String> = std::env::args().skip(1).collect();
+    if arguments.iter().any(|argument| argument == "-h" || argument == "--help") {
+        println!("{USAGE}");
+        return ExitCode::SUCCESS;
+    }
+    let numbers: Result<Vec<u64>, _> = arguments.iter().map(|argument| argument.parse()).collect();
+    let (count, seed) = match numbers.as_deref() {
+        Ok([count]) => (*count, 1),
+        Ok([count, seed]) => (*count, *seed),
+        _ => {
+            eprintln!("{USAGE}");
+            return ExitCode::from(2);
+        }
+    };
+    match write_all(count, seed) {
+        Ok(()) => ExitCode::SUCCESS,
+        Err(error) => {
+            eprintln!("cases: standard output: {error}");
+            ExitCode::from(2)
+        }
+    }
+}
