@@ -1,9 +1,11 @@
 # make run:  runs a model on the proved library and prints its run (MODEL=path of an image).
 # make test: everything that is checked, proved or run; the last line is 'N passed, 0 failed'.
+# make lib:  the library for C, static and shared, in target/lib.
+# make bench: what calls cost beside an independent engine in Rust, as a table for docs/SPEED.md.
 
 MODEL = models/counting.image
 
-.PHONY: run test
+.PHONY: run test lib bench
 
 run:
 	@rt staticlib jirvuntsag >&2
@@ -11,3 +13,10 @@ run:
 
 test:
 	@tools/test
+
+lib:
+	@tools/lib
+
+bench:
+	@rt staticlib jirvuntsag >&2
+	@cargo run --quiet --offline --release --manifest-path host/Cargo.toml -p jirvuntsag-bench

@@ -2,7 +2,7 @@
 
 use jirvuntsag_compare::{Engine, PROVED, REFERENCE};
 use jirvuntsag_generate::{case, each_seed, Case};
-use jirvuntsag_packing::{model_a, pack};
+use jirvuntsag_packing::{model_a, pack, pack_with_fields, Field};
 use jirvuntsag_reference::{Event, State};
 
 /// All that an engine says of a case.
@@ -58,6 +58,28 @@ fn every_flipped_bit_of_model_a() {
         let mut flipped = image.clone();
         flipped[bit / 8] ^= 0x80 >> (bit % 8);
         assert_same(&opening(flipped));
+    }
+}
+
+/// Every value of a narrow field; of a wide one the ends, the neighbours of what it holds, and each single bit.
+fn values(field: &Field, held: u16) -> Vec<u16> {
+    let all = ((1_u32 << field.width) - 1) as u16;
+    if field.width <= 10 {
+        return (0..=all).collect();
+    }
+    let bits = (0..field.width).map(|bit| 1 << bit);
+    bits.chain([0, all, held.wrapping_add(1) & all, held.wrapping_sub(1) & all]).collect()
+}
+
+#[test]
+fn every_value_of_every_field_of_model_a() {
+    let packed = pack_with_fields(&model_a());
+    for field in &packed.fields {
+        for value in values(field, field.get(&packed.bytes)) {
+            let mut image = packed.bytes.clone();
+            field.set(&mut image, value);
+            assert_same(&opening(image));
+        }
     }
 }
 

@@ -1,0 +1,72 @@
+//! Times of several ways to do the same, taken in turn, so that what else the machine does falls on all of them.
+
+use std::time::Instant;
+
+/// Rounds, in each of which every way is timed once.
+const ROUNDS: usize = 31;
+/// Nanoseconds that one way gets in a round.
+const SLICE: f64 = 4e6;
+
+/// A median and the quartiles around it.
+#[derive(Clone, Copy)]
+pub struct Spread {
+    /// A quarter of the rounds lie below.
+    pub low: f64,
+    /// Half of the rounds lie below.
+    pub median: f64,
+    /// A quarter of the rounds lie above.
+    pub high: f64,
+}
+
+/// Nanoseconds of one call in each round, way by way.
+pub struct Times {
+    rounds: Vec<Vec<f64>>,
+}
+
+impl Spread {
+    /// Of some values; of none it is nothing but NaN.
+    fn of(values: impl Iterator<Item = f64>) -> Spread {
+        let mut sorted: Vec<f64> = values.collect();
+        sorted.sort_by(f64::total_cmp);
+        let at = |quarters: usize| sorted.get(sorted.len() * quarters / 4).copied().unwrap_or(f64::NAN);
+        Spread { low: at(1), median: at(2), high: at(3) }
+    }
+}
+
+impl Times {
+    /// Times each way in every round, a different one first each time.
+    pub fn take(ways: &mut [&mut dyn FnMut()]) -> Times {
+        let calls: Vec<u32> = ways.iter_mut().map(|way| (SLICE / round(way, 3)).clamp(1.0, 1e6) as u32).collect();
+        let mut rounds = vec![Vec::with_capacity(ROUNDS); ways.len()];
+        for number in 0..ROUNDS {
+            for turn in 0..ways.len() {
+                let way = (turn + number) % ways.len();
+                let time = round(&mut ways[way], calls[way]);
+                rounds[way].push(time);
+            }
+        }
+        Times { rounds }
+    }
+
+    /// Nanoseconds of one call.
+    pub fn of(&self, way: usize) -> Spread {
+        Spread::of(self.rounds[way].iter().copied())
+    }
+
+    /// What one way takes over what another takes in the same round.
+    pub fn ratio(&self, way: usize, over: usize) -> Spread {
+        Spread::of(self.rounds[way].iter().zip(&self.rounds[over]).map(|(one, other)| one / other))
+    }
+
+    /// What one way takes more than another in the same round.
+    pub fn difference(&self, way: usize, less: usize) -> Spread {
+        Spread::of(self.rounds[way].iter().zip(&self.rounds[less]).map(|(one, other)| one - other))
+    }
+}
+
+/// Nanoseconds of one call, over so many calls.
+fn round(way: &mut impl FnMut(), calls: u32) -> f64 {
+    let start = Instant::now();
+    (0..calls).for_each(|_| way());
+    start.elapsed().as_nanos() as f64 / f64::from(calls)
+}
