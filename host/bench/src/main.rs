@@ -7,12 +7,12 @@ use std::hint::black_box;
 
 use jirvuntsag_proved as proved;
 use jirvuntsag_reference as reference;
-use models::{models, Measured};
+use models::{growing, models, Measured};
 use timing::{Spread, Times};
 
 const USAGE: &str = "usage: jirvuntsag-bench
-Measures calls of the proved library beside those of the reference engine, in turn, and prints tables in Markdown: medians of
-31 rounds, with the quartiles of the ratios. Takes about a minute.";
+Measures calls of the proved library beside those of the reference engine, in turn, and prints tables in Markdown: medians
+over many short rounds, and the quartiles of the ratios. Takes about a minute.";
 
 /// A model opened by both engines, which agree on it.
 struct Opened<'a> {
@@ -76,6 +76,25 @@ fn beside(opened: &Opened) -> String {
     )
 }
 
+/// One run of a model that grows, in ns a step.
+fn grown(opened: &Opened) -> String {
+    let (image, fresh, steps) = (&opened.model.image, &opened.fresh, opened.model.steps);
+    let mut tables = vec![fresh.clone(); 2];
+    let [proved, reference] = &mut tables[..] else { unreachable!() };
+    let times = Times::take(&mut [
+        &mut || {
+            proved.copy_from_slice(fresh);
+            black_box(proved::calls::run(black_box(image), &opened.proved, proved, steps));
+        },
+        &mut || {
+            reference.copy_from_slice(fresh);
+            black_box(reference::run(black_box(image), opened.reference, reference, steps));
+        },
+    ]);
+    let step = |way: usize| times.of(way).median / f64::from(opened.made);
+    format!("| {} | {:.0} | {:.0} |", opened.model.name, step(0), step(1))
+}
+
 /// One step a call by the proved library, the table kept or made afresh before each.
 fn step_by_step(opened: &Opened, table: &mut [u16], mark: Option<u16>) {
     let mut state = opened.proved;
@@ -132,18 +151,17 @@ fn kept_by_reference(opened: &Opened) -> String {
 /// Measures and prints everything.
 fn measure() {
     let models = models();
-    let opened: Vec<Opened> = models.iter().map(opened).collect();
+    let all: Vec<Opened> = models.iter().map(opened).collect();
     println!("| model | bytes | open, ns | proved / reference | steps | run, ns | proved / reference |");
     println!("|---|---|---|---|---|---|---|");
-    opened.iter().for_each(|one| println!("{}", beside(one)));
-    println!();
-    println!(
-        "| model | one run | all rules afresh | a call a step | refreshed before | ratio | reference | fresh | ratio |"
-    );
+    all.iter().for_each(|one| println!("{}", beside(one)));
+    println!("\n| model | one run | all rules afresh | a call a step | refreshed before | ratio | reference | fresh | ratio |");
     println!("|---|---|---|---|---|---|---|---|---|");
-    for one in &opened {
+    for one in &all {
         println!("| {} | {} | {} |", one.model.name, kept_by_proved(one), kept_by_reference(one));
     }
+    println!("\n| run | proved, ns a step | reference, ns a step |\n|---|---|---|");
+    growing().iter().for_each(|one| println!("{}", grown(&opened(one))));
 }
 
 fn main() -> std::process::ExitCode {

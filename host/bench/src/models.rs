@@ -14,23 +14,36 @@ const ABSENT: Term = Term::Symbol(4_000);
 /// A model and the steps of a measured run.
 pub struct Measured {
     /// What the table calls it.
-    pub name: &'static str,
+    pub name: String,
     /// Its image.
     pub image: Vec<u8>,
     /// Steps asked of a run.
     pub steps: u16,
 }
 
-/// All of them.
+/// A model under a name.
+fn model(name: &str, steps: u16, spec: &ModelSpec) -> Measured {
+    Measured { name: name.to_string(), image: pack(spec), steps }
+}
+
+/// The same model with more and more facts, rules, or steps.
+pub fn growing() -> Vec<Measured> {
+    let facts = [32, 128, 500].map(|facts| model(&format!("counting, {facts} facts"), 1_000, &counting(facts)));
+    let touched = [32, 128, 256].map(|all| model(&format!("all of {all} rules touched"), 1_000, &tokens(all, FIRST)));
+    let few = [32, 128, 256].map(|all| model(&format!("32 of {all} rules touched"), 1_000, &few_of_many(32, all)));
+    let steps = [1, 10, 100].map(|steps| model(&format!("counting, 500 facts, {steps} steps"), steps, &counting(500)));
+    facts.into_iter().chain(touched).chain(few).chain(steps).collect()
+}
+
+/// Those that the engines are compared on.
 pub fn models() -> Vec<Measured> {
-    let model = |name, steps, spec: &ModelSpec| Measured { name, image: pack(spec), steps };
     vec![
         model("model A, one step", 1, &model_a()),
-        model("counting, 500 facts", 2_000, &counting(500)),
-        model("256 rules, first test differs", 2_000, &tokens(RULES, FIRST)),
-        model("256 rules, last test differs", 2_000, &tokens(RULES, LAST)),
-        model("32 of 256 rules, others fail late", 2_000, &few_of_many(32)),
-        model("eight buffers, many pending", 2_000, &pending()),
+        model("counting, 500 facts", 1_000, &counting(500)),
+        model("256 rules, first test differs", 1_000, &tokens(RULES, FIRST)),
+        model("256 rules, last test differs", 1_000, &tokens(RULES, LAST)),
+        model("32 of 256 rules, others fail late", 1_000, &few_of_many(32, RULES)),
+        model("eight buffers, many pending", 1_000, &pending()),
         model("largest image", 1, &largest()),
     ]
 }
@@ -82,7 +95,7 @@ fn tokens(rules: u16, at: Place) -> ModelSpec {
 }
 
 /// Rules of which the first few test the buffer that changes, and the others three that do not, and fail at the last slot.
-fn few_of_many(few: u16) -> ModelSpec {
+fn few_of_many(few: u16, rules: u16) -> ModelSpec {
     let late = RuleSpec {
         tests: vec![
             TestSpec::new(1, 1, &[(0, HELD), (1, HELD)]),
@@ -92,7 +105,7 @@ fn few_of_many(few: u16) -> ModelSpec {
         ..RuleSpec::default()
     };
     let rule = |number| if number < few { token(number, few, FIRST, &[0]) } else { late.clone() };
-    ring_model(FIRST, (0..RULES).map(rule).collect())
+    ring_model(FIRST, (0..rules).map(rule).collect())
 }
 
 /// A token that asks for a late chunk in one of seven other buffers at each step, and 56 rules that wait for one.

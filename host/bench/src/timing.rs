@@ -2,10 +2,12 @@
 
 use std::time::Instant;
 
-/// Rounds, in each of which every way is timed once.
-const ROUNDS: usize = 31;
-/// Nanoseconds that one way gets in a round.
-const SLICE: f64 = 4e6;
+/// Nanoseconds that one way gets in a round, or one call if that takes longer: short, so that few slices are interrupted.
+const SLICE: f64 = 4e5;
+/// Nanoseconds for all rounds, as far as the least number of rounds allows.
+const BUDGET: f64 = 1.5e9;
+/// Fewest and most rounds, in each of which every way is timed once.
+const ROUNDS: (f64, f64) = (15.0, 301.0);
 
 /// A median and the quartiles around it.
 #[derive(Clone, Copy)]
@@ -36,9 +38,12 @@ impl Spread {
 impl Times {
     /// Times each way in every round, a different one first each time.
     pub fn take(ways: &mut [&mut dyn FnMut()]) -> Times {
-        let calls: Vec<u32> = ways.iter_mut().map(|way| (SLICE / round(way, 3)).clamp(1.0, 1e6) as u32).collect();
-        let mut rounds = vec![Vec::with_capacity(ROUNDS); ways.len()];
-        for number in 0..ROUNDS {
+        let once: Vec<f64> = ways.iter_mut().map(|way| round(way, 3)).collect();
+        let calls: Vec<u32> = once.iter().map(|time| (SLICE / time).clamp(1.0, 1e6) as u32).collect();
+        let whole: f64 = once.iter().map(|time| time.max(SLICE)).sum();
+        let count = (BUDGET / whole).clamp(ROUNDS.0, ROUNDS.1) as usize;
+        let mut rounds = vec![Vec::with_capacity(count); ways.len()];
+        for number in 0..count {
             for turn in 0..ways.len() {
                 let way = (turn + number) % ways.len();
                 let time = round(&mut ways[way], calls[way]);

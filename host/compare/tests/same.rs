@@ -2,7 +2,7 @@
 
 use jirvuntsag_compare::{Engine, PROVED, REFERENCE};
 use jirvuntsag_generate::{case, each_seed, Case};
-use jirvuntsag_packing::{model_a, pack, pack_with_fields, Field};
+use jirvuntsag_packing::{model_a, pack, pack_with_fields, ChunkSpec, Field, ModelSpec};
 use jirvuntsag_reference::{Event, State};
 
 /// All that an engine says of a case.
@@ -71,9 +71,9 @@ fn values(field: &Field, held: u16) -> Vec<u16> {
     bits.chain([0, all, held.wrapping_add(1) & all, held.wrapping_sub(1) & all]).collect()
 }
 
-#[test]
-fn every_value_of_every_field_of_model_a() {
-    let packed = pack_with_fields(&model_a());
+/// An image with each of its fields set to other values, one at a time.
+fn hold_fields(spec: &ModelSpec) {
+    let packed = pack_with_fields(spec);
     for field in &packed.fields {
         for value in values(field, field.get(&packed.bytes)) {
             let mut image = packed.bytes.clone();
@@ -81,6 +81,20 @@ fn every_value_of_every_field_of_model_a() {
             assert_same(&opening(image));
         }
     }
+}
+
+#[test]
+fn every_value_of_every_field_of_model_a() {
+    hold_fields(&model_a());
+}
+
+#[test]
+fn every_value_of_every_field_with_a_type_and_a_buffer_that_nothing_uses() {
+    // Whatever is wrong with these alone shifts no field that could be refused in their place.
+    let mut spec = model_a();
+    spec.types.push(0);
+    spec.opening.push(ChunkSpec::nil());
+    hold_fields(&spec);
 }
 
 #[test]
