@@ -31,7 +31,8 @@ pub fn growing() -> Vec<Measured> {
     let facts = [32, 128, 500].map(|facts| model(&format!("counting, {facts} facts"), 1_000, &counting(facts)));
     let touched = [32, 128, 256].map(|all| model(&format!("all of {all} rules touched"), 1_000, &tokens(all, FIRST)));
     let few = [32, 128, 256].map(|all| model(&format!("32 of {all} rules touched"), 1_000, &few_of_many(32, all)));
-    let steps = [1, 10, 100].map(|steps| model(&format!("counting, 500 facts, {steps} steps"), steps, &counting(500)));
+    let steps =
+        [1, 10, 100].map(|steps| model(&format!("counting, 500 facts, steps asked: {steps}"), steps, &counting(500)));
     facts.into_iter().chain(touched).chain(few).chain(steps).collect()
 }
 
