@@ -20,8 +20,8 @@ enum Link {
     DamagedImage(Vec<u8>),
     /// A run and a refresh that are handed this state.
     BrokenState(Box<State>),
-    /// A run and a refresh that are handed the table without its last word, or with one more.
-    TableLength,
+    /// A run and a refresh that are handed the table with one word more.
+    LongTable,
     SetClock(u32),
     SetWord(usize, u16),
 }
@@ -61,7 +61,7 @@ fn link(rng: &mut Rng, spec: &ModelSpec, packed: &Packed) -> Link {
         10..=12 => Link::Refresh(mark(rng, spec.opening.len())),
         13..=14 => Link::DamagedImage(damage(rng, packed).1),
         15 => Link::BrokenState(Box::new(broken_state(rng, spec).1)),
-        16 => Link::TableLength,
+        16 => Link::LongTable,
         17..=18 => Link::SetClock(clock(rng)),
         _ => Link::SetWord(rng.word() as usize, rng.pick(&[0, 1, 1, 2, 65_535])),
     }
@@ -74,6 +74,27 @@ fn run_and_refresh(engine: &Engine, image: &[u8], state: State, table: &mut [u16
     let (number, count) = (engine.refresh)(image, &after, 1, table);
     said.note(number, count);
     after
+}
+
+/// Makes a run and a refresh that are handed something else than what is in hand, and leaves there what they left.
+fn misuse(engine: &Engine, image: &[u8], link: &Link, hand: &mut Hand) -> Said {
+    let mut said = Said::default();
+    match link {
+        Link::DamagedImage(damaged) => {
+            hand.state = run_and_refresh(engine, damaged, hand.state, &mut hand.table, &mut said);
+        }
+        Link::BrokenState(broken) => {
+            let after = run_and_refresh(engine, image, **broken, &mut hand.table, &mut said);
+            assert_eq!(after, **broken, "a broken state comes back as it was");
+        }
+        _ => {
+            let mut longer = [&hand.table[..], &[1]].concat();
+            hand.state = run_and_refresh(engine, image, hand.state, &mut longer, &mut said);
+            assert_eq!(longer.pop(), Some(1), "the word too many comes back as it was");
+            hand.table = longer;
+        }
+    }
+    said
 }
 
 /// Makes a link's calls on what is in hand, and leaves there what they left.
@@ -95,19 +116,6 @@ fn make(engine: &Engine, image: &[u8], link: &Link, hand: &mut Hand) -> Said {
             let (number, count) = (engine.refresh)(image, &hand.state, *mark, &mut hand.table);
             said.note(number, count);
         }
-        Link::DamagedImage(damaged) => {
-            hand.state = run_and_refresh(engine, damaged, hand.state, &mut hand.table, &mut said);
-        }
-        Link::BrokenState(broken) => {
-            let after = run_and_refresh(engine, image, **broken, &mut hand.table, &mut said);
-            assert_eq!(after, **broken, "a broken state comes back as it was");
-        }
-        Link::TableLength => {
-            let mut longer = [&hand.table[..], &[1]].concat();
-            hand.state = run_and_refresh(engine, image, hand.state, &mut longer, &mut said);
-            assert_eq!(longer.pop(), Some(1));
-            hand.table = longer;
-        }
         Link::SetClock(clock) => hand.state.clock = *clock,
         Link::SetWord(at, value) => {
             let words = hand.table.len().max(1);
@@ -115,6 +123,7 @@ fn make(engine: &Engine, image: &[u8], link: &Link, hand: &mut Hand) -> Said {
                 *word = *value;
             }
         }
+        Link::DamagedImage(_) | Link::BrokenState(_) | Link::LongTable => said = misuse(engine, image, link, hand),
     }
     said
 }
@@ -123,37 +132,59 @@ fn make(engine: &Engine, image: &[u8], link: &Link, hand: &mut Hand) -> Said {
 fn keeps(link: &Link, said: &Said) -> bool {
     match link {
         Link::Run(_) | Link::Trace(_) | Link::Refresh(_) | Link::SetClock(_) => true,
-        Link::DamagedImage(_) | Link::BrokenState(_) | Link::TableLength => said.refused(),
+        Link::DamagedImage(_) | Link::BrokenState(_) | Link::LongTable => said.refused(),
         Link::SetWord(..) => false,
     }
 }
 
-/// Makes one chain on both engines and holds them to each other after each link.
+/// A model that was opened, and what both engines have in hand of it.
+struct Chain {
+    image: Vec<u8>,
+    decoded: Model,
+    proved: Hand,
+    reference: Hand,
+    /// Whether nothing has befallen the table but calls.
+    kept: bool,
+}
+
+impl Chain {
+    /// Opens an image on both engines.
+    fn open(image: &[u8]) -> Chain {
+        let decoded = Model::decode(image).expect("a valid model");
+        let [proved, reference] = [&PROVED, &REFERENCE].map(|engine| {
+            let mut table = vec![0; (engine.table_len)(image)];
+            let (_, state) = (engine.open)(image, &mut table);
+            Hand { state, table }
+        });
+        Chain { image: image.to_vec(), decoded, proved, reference, kept: true }
+    }
+
+    /// Adds a link and holds the engines to each other, to what a refusal leaves, and to the fresh table.
+    fn add(&mut self, link: &Link) -> Said {
+        let before = self.proved.clone();
+        let said = make(&PROVED, &self.image, link, &mut self.proved);
+        let other = make(&REFERENCE, &self.image, link, &mut self.reference);
+        assert_eq!((&said, &self.proved), (&other, &self.reference), "{link:?} from {before:?}");
+        if !said.numbers.is_empty() && said.refused() {
+            assert_eq!(self.proved, before, "refused: {link:?}");
+        }
+        self.kept = self.kept && keeps(link, &said);
+        if self.kept {
+            assert_eq!(self.proved.table, self.decoded.fresh_table(&self.proved.state), "kept after {link:?}");
+        }
+        said
+    }
+}
+
+/// Makes one chain and counts the numbers that came up.
 fn chain(rng: &mut Rng, numbers: &mut BTreeMap<u8, u32>) {
     let spec = model(rng);
     let packed = pack_with_fields(&spec);
-    let image = &packed.bytes;
-    let decoded = Model::decode(image).expect("a valid model");
-    let mut table = vec![0; decoded.table_len()];
-    let (_, state) = (PROVED.open)(image, &mut table);
-    let mut proved = Hand { state, table };
-    let mut reference = proved.clone();
-    let mut kept = true;
+    let mut chain = Chain::open(&packed.bytes);
     for _ in 0..LINKS {
-        let link = link(rng, &spec, &packed);
-        let before = proved.clone();
-        let said = make(&PROVED, image, &link, &mut proved);
-        assert_eq!(said, make(&REFERENCE, image, &link, &mut reference), "{link:?} from {before:?}");
-        assert_eq!(proved, reference, "{link:?} from {before:?}");
-        if !said.numbers.is_empty() && said.refused() {
-            assert_eq!(proved, before, "refused: {link:?}");
-        }
-        kept = kept && keeps(&link, &said);
-        if kept {
-            assert_eq!(proved.table, decoded.fresh_table(&proved.state), "the kept table after {link:?}");
-        }
+        let said = chain.add(&link(rng, &spec, &packed));
         said.numbers.iter().for_each(|number| *numbers.entry(*number).or_default() += 1);
-        if !decoded.is_well_formed(&proved.state) {
+        if !chain.decoded.is_well_formed(&chain.proved.state) {
             // A damaged image that is accepted may leave a state that this one refuses from here on.
             break;
         }
