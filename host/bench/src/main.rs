@@ -46,8 +46,8 @@ fn show(spread: Spread, digits: usize) -> String {
 /// Opening and running, proved beside reference.
 fn beside(opened: &Opened) -> String {
     let (image, fresh, steps) = (&opened.model.image, &opened.fresh, opened.model.steps);
-    let mut tables = vec![fresh.clone(); 4];
-    let [open_proved, open_reference, run_proved, run_reference] = &mut tables[..] else { unreachable!() };
+    let mut tables = [(); 4].map(|()| fresh.clone());
+    let [open_proved, open_reference, run_proved, run_reference] = &mut tables;
     let times = Times::take(&mut [
         &mut || {
             black_box(proved::calls::open(black_box(image), open_proved));
@@ -79,8 +79,8 @@ fn beside(opened: &Opened) -> String {
 /// One run of a model that grows, in ns a step.
 fn grown(opened: &Opened) -> String {
     let (image, fresh, steps) = (&opened.model.image, &opened.fresh, opened.model.steps);
-    let mut tables = vec![fresh.clone(); 2];
-    let [proved, reference] = &mut tables[..] else { unreachable!() };
+    let mut tables = [(); 2].map(|()| fresh.clone());
+    let [proved, reference] = &mut tables;
     let times = Times::take(&mut [
         &mut || {
             proved.copy_from_slice(fresh);
@@ -111,8 +111,8 @@ fn step_by_step(opened: &Opened, table: &mut [u16], mark: Option<u16>) {
 /// The proved library, in ns a step: one run; what matching all rules afresh costs; a call a step, without and with a refresh.
 fn kept_by_proved(opened: &Opened) -> String {
     let (image, steps, all) = (&opened.model.image, opened.model.steps, (1 << opened.decoded.buffers()) - 1);
-    let mut tables = vec![opened.fresh.clone(); 5];
-    let [run, marked, unmarked, kept, refreshed] = &mut tables[..] else { unreachable!() };
+    let mut tables = [(); 5].map(|()| opened.fresh.clone());
+    let [run, marked, unmarked, kept, refreshed] = &mut tables;
     let times = Times::take(&mut [
         &mut || {
             run.copy_from_slice(&opened.fresh);

@@ -5,7 +5,6 @@ mod printing;
 mod proved;
 
 pub use cases::{cases, Case};
-pub use proved::{from_proved, to_proved};
 
 use jirvuntsag_proved::calls;
 use jirvuntsag_reference as reference;

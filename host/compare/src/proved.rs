@@ -5,13 +5,13 @@ use jirvuntsag_proved::calls;
 use jirvuntsag_reference::{Buffer, Event, Kind, State};
 
 /// A state for the proved library.
-pub fn to_proved(state: &State) -> proved::State {
+fn to_proved(state: &State) -> proved::State {
     let buffer = |buffer: Buffer| proved::Buffer { isa: buffer.isa, slots: buffer.slots, delay: buffer.delay };
     proved::State { buffers: state.buffers.map(buffer), clock: state.clock }
 }
 
 /// A state of the proved library.
-pub fn from_proved(state: &proved::State) -> State {
+fn from_proved(state: &proved::State) -> State {
     let buffer = |buffer: proved::Buffer| Buffer { isa: buffer.isa, slots: buffer.slots, delay: buffer.delay };
     State { buffers: state.buffers.map(buffer), clock: state.clock }
 }
@@ -25,21 +25,25 @@ fn event(event: &proved::Event) -> Event {
     Event { clock: event.clock, kind }
 }
 
+/// The number and the opening state.
 pub fn open(image: &[u8], table: &mut [u16]) -> (u8, State) {
     let (number, state) = calls::open(image, table);
     (number.number(), from_proved(&state))
 }
 
+/// The number, the state and the steps made.
 pub fn run(image: &[u8], state: State, table: &mut [u16], steps: u16) -> (u8, State, u16) {
     let (number, state, made) = calls::run(image, &to_proved(&state), table, steps);
     (number.number(), from_proved(&state), made)
 }
 
+/// The number, the state and each step.
 pub fn trace(image: &[u8], state: State, table: &mut [u16], steps: u16) -> (u8, State, Vec<Event>) {
     let (number, state, events) = calls::trace(image, &to_proved(&state), table, steps);
     (number.number(), from_proved(&state), events.iter().map(event).collect())
 }
 
+/// The number and the count.
 pub fn refresh(image: &[u8], state: &State, mark: u16, table: &mut [u16]) -> (u8, u16) {
     let (number, count) = calls::refresh(image, &to_proved(state), mark, table);
     (number.number(), count)
