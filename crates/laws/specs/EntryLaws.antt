@@ -1,16 +1,17 @@
 -- "an entry depends only on the buffers that its rule tests", and of a pending buffer only on its being pending.
-use mathlib.Core.Path.{_≡_, refl}
+use mathlib.Core.Path.{_≡_, refl, _∙_}
 use mathlib.Core.Logic.{_⊎_, inl, inr}
-use mathlib.Core.Bool.{Bool, true, false, _&&_, and-false}
-use mathlib.Core.List.{List, [], _∷_, _++_, map}
-use Prim.Native.Nat.{ℕ}
-use lib.ListN.{length, replicate}
+use mathlib.Core.Bool.{Bool, true, false, and-false}
+use mathlib.Core.List.{List, [], _∷_, map}
+use Prim.Native.Nat.{_*_}
+use native.Mathlib.Omega.{arith}
+use lib.ListN.{length, replicate, length-append}
 use Rattle.meaning.specs.declared.Buffer.{Buffer}
 use Rattle.meaning.specs.declared.State.{State}
 use Rattle.meaning.specs.Base.{if_then_else_, all, count}
 use Rattle.meaning.specs.Model.{Rule, Test}
 use Rattle.meaning.specs.State.{bufferOf, visible}
-use Rattle.meaning.specs.Match.{places, valueIn, shows, matches, entryOf}
+use Rattle.meaning.specs.Match.{places, valueIn, shows, matches, entryOf, freshTable}
 
 -- two buffers that no test can tell apart: the same, or both pending
 abbrev pub Alike : Buffer → Buffer → Type 0
@@ -55,3 +56,9 @@ entry-length r s =
       | true ↦ refl
       | false ↦ refl
     ]
+
+-- and so the fresh table nine for each rule
+pub fresh-length : (rules : List Rule) (s : State) → length (freshTable rules s) ≡ 9 * length rules
+unfolding freshTable
+fresh-length [] s = refl
+fresh-length (r ∷ rs) s = length-append (entryOf r s) (freshTable rs s) ∙ omega (arith, entry-length r s, fresh-length rs s)

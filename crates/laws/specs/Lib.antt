@@ -12,3 +12,5 @@ pub mod RetrievalLaws
 pub mod PlaceLaws
 pub mod EntryLaws
 pub mod MarkLaws
+pub mod RunLaws
+pub mod SizeLaws

@@ -2,23 +2,23 @@
 use mathlib.Core.Path.{_≡_, refl, sym, ap, subst, _∙_}
 use mathlib.Core.Logic.{_⊎_, inl, inr, ⊎-elim}
 use mathlib.Core.Bool.{true}
-use mathlib.Core.List.{List, [], _∷_}
+use mathlib.Core.List.{List}
 use mathlib.Core.Option.{Option, none, some}
 use Prim.Native.Nat.{ℕ, zero, suc, _+_, _*_, _≤_, _<_}
 use native.Mathlib.Nat.{add-zero, zero-add}
 use native.Mathlib.Omega.{arith}
 use borrow.Author.Tests.{eq-eqb}
-use lib.ListN.{length, length-append}
+use lib.ListN.{length}
 use Rattle.meaning.specs.declared.State.{State}
-use Rattle.meaning.specs.Model.{Model, Rule}
+use Rattle.meaning.specs.Model.{Model}
 use Rattle.meaning.specs.State.{bufferOf, wellFormed}
 use Rattle.meaning.specs.Read.{Got}
 use Rattle.meaning.specs.Image.{decode}
-use Rattle.meaning.specs.Match.{entryOf, freshTable}
+use Rattle.meaning.specs.Match.{freshTable}
 use Rattle.meaning.specs.Choice.{Candidate, choose, utilities}
 use Rattle.meaning.specs.Step.{Event, Step, Stopped, Made, largest, unlessPast, stepOf}
 use Rattle.meaning.specs.Calls.{accepted, Ran, runFrom, runOf}
-use Rattle.laws.specs.EntryLaws.{entry-length}
+use Rattle.laws.specs.EntryLaws.{fresh-length}
 use Rattle.laws.specs.WindowLaws.{by-lt}
 use Rattle.promises.specs.Words.{Reached}
 use Rattle.promises.specs.Published.{Selected, NoneSelected, Transition, Final, Transitions, no-step, one-step, Passes, Ended, done, full, over, RanOn}
@@ -149,11 +149,6 @@ run-goes m d (suc n) s made = by (λ s′. run-goes m d n s′ (made + 1)) (outc
     by ih (stays k z q) = stopped-run m n s made 9 q (over (omega arith) (stays-final m d s k z))
 
 -- ---- the call
-
-fresh-length : (rules : List Rule) (s : State) → length (freshTable rules s) ≡ 9 * length rules
-unfolding freshTable
-fresh-length [] s = refl
-fresh-length (r ∷ rs) s = length-append (entryOf r s) (freshTable rs s) ∙ omega (arith, entry-length r s, fresh-length rs s)
 
 ran-goes : (m : Model) (s : State) (steps : ℕ) (a : Ran) → Goes m s steps 0 a → RanOn m s steps a
 ran-goes m s steps a g =

@@ -1,0 +1,46 @@
+-- What is printed of an image, by what its opening answers.
+use Prim.Native.Nat.{ℕ, _*_}
+use mathlib.Core.Path.{_≡_, refl, ap, _∙_}
+use mathlib.Core.List.{List, [], _∷_}
+use borrow.Author.Tests.{eq-eqb}
+use lib.ListN.{length}
+use Rattle.meaning.specs.Model.{Model}
+use Rattle.meaning.specs.Read.{Read, Refused, Got}
+use Rattle.meaning.specs.Image.{decode}
+use Rattle.meaning.specs.Match.{freshTable}
+use Rattle.meaning.specs.Calls.{accepted, wordsFor, tableLength, Opened, openState, openedBy, openOf}
+use Rattle.meaning.specs.Print.{End, printedBy, printed}
+use Rattle.laws.specs.EntryLaws.{fresh-length}
+use Rattle.laws.specs.OpenLaws.{open-well}
+use Rattle.actr.specs.Lines.{linesOf}
+
+module _ (image table : List ℕ) (room : length table ≡ tableLength image) where
+  -- the table has the right length, so the image alone decides
+  opened-as : (r : Read Model) → decode image ≡ r → openOf image table ≡ openedBy table r
+  unfolding openOf accepted tableLength
+  opened-as (Refused n at) e = rw e
+  opened-as (Got m at) e =
+      let l : length table ≡ 9 * length (m .rules) = room ∙ ap wordsFor e in
+      rw (e, eq-eqb (length table) (9 * length (m .rules)) l)
+
+  lines-as : (r : Read Model) → decode image ≡ r → linesOf image (openedBy table r .state) (openedBy table r .table) 1000 ≡ printedBy r
+  unfolding linesOf accepted
+  lines-as (Refused n at) e = rw e
+  lines-as (Got m at) e =
+      let table′ : List ℕ = freshTable (m .rules) (openState m) in
+      rw (e, eq-eqb (length table′) (9 * length (m .rules)) (fresh-length (m .rules) (openState m)), open-well image m at e)
+
+  module _ (o : Opened) (is : o ≡ openOf image table) where
+    -- the run from what open gives has the lines that are printed
+    pub printed-run : linesOf image (o .state) (o .table) 1000 ≡ printed image
+    unfolding printed
+    printed-run = ap (λ (o : Opened). linesOf image (o .state) (o .table) 1000) (is ∙ opened-as (decode image) refl) ∙ lines-as (decode image) refl
+
+    -- "A refused opening prints that line alone."
+    pub printed-refused : (o .number ≡ 0 → ⊥) → End (o .number) 0 ∷ [] ≡ printed image
+    unfolding printed
+    printed-refused z = by (decode image) (is ∙ opened-as (decode image) refl)
+      where
+        by : (r : Read Model) → o ≡ openedBy table r → End (o .number) 0 ∷ [] ≡ printedBy r
+        by (Refused n at) e = ap (λ (o : Opened). End (o .number) 0 ∷ []) e
+        by (Got m at) e = absurd (z (ap (λ (o : Opened). o .number) e))

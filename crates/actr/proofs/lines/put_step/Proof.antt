@@ -1,0 +1,42 @@
+-- `actr::lines::put_step` meets its contract: clock, kind, value and newline, one after the other.
+use native.Mathlib.Omega.{arith}
+use Rattle.actr.proofs.WrittenLaws.{written-join, written-as}
+use Rattle.actr.proofs.LineLaws.{step-letters}
+use borrow.Author.Needs.{needs}
+use Rattle.actr.proofs.lines.put_step.Statement.{statement}
+use Rattle.actr.proofs.lines.put_step.Tie as tie
+
+put-number-requires : tie.Need-put-number-requires
+put-number-requires c κs = search needs
+
+put-kind-requires : tie.Need-put-kind-requires
+put-kind-requires c κs = search needs
+
+put-number-requires-2 : tie.Need-put-number-requires-2
+put-number-requires-2 c κs = search needs
+
+slice-aggregate-put : tie.Need-slice-aggregate-put
+slice-aggregate-put c = search needs
+
+put-requires : tie.Need-put-requires
+put-requires c κs = search needs
+
+same-length : tie.Need-same-length
+same-length c = search needs
+
+returns : tie.Need-returns
+returns c =
+    let a = c .before .before .before .before .before .before .before .before .before .before .before .before .before .before .before .before .before .before .args in
+    written-as (step-letters (a .clock) (a .kind) (a .value)) (omega arith) (written-join (written-join (written-join (c .before .before .before .before .before .before .before .before .before .before .before .before .before .before .before .put-number .ensures) (c .before .before .before .before .before .before .before .before .before .before .before .put-kind .ensures)) (c .before .before .before .before .before .before .before .put-number2 .ensures)) (c .before .before .put .ensures))
+
+pub put-step-spec : {M : Type 1} → statement M
+put-step-spec =
+    tie.close
+    (tie.spec
+    put-number-requires
+    put-kind-requires
+    put-number-requires-2
+    slice-aggregate-put
+    put-requires
+    same-length
+    returns)
