@@ -1,4 +1,4 @@
-# make run:  runs a model on the proved library and prints its run (MODEL=path of an image).
+# make run:  runs a model on the proved printing program (MODEL=path of an image).
 # make test: everything that is checked, proved or run; the last line is 'N passed, 0 failed'.
 # make lib:  the library for C, static and shared, in target/lib.
 # make bench: what calls cost beside an independent engine in Rust, as a table for docs/SPEED.md.
@@ -8,8 +8,7 @@ MODEL = models/counting.image
 .PHONY: run test lib bench
 
 run:
-	@rt staticlib jirvuntsag >&2
-	@cargo run --quiet --offline --manifest-path host/Cargo.toml -p jirvuntsag-compare --example run -- "$(abspath $(MODEL))"
+	@tools/run "$(MODEL)"
 
 test:
 	@tools/test

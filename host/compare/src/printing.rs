@@ -1,29 +1,25 @@
-//! The printed lines, from the proved library's calls.
+//! The printed lines, from the proved printing program: an image goes in at its standard input, its lines come out.
 
-use jirvuntsag_proved::{Event, Model, Ran, Refusal, Step};
-use jirvuntsag_reference::PRINTED_STEPS;
+use std::io::{ErrorKind, Write};
+use std::process::{Command, Stdio};
 
-/// Opens an image, runs it and prints each step.
+const PROGRAM: &str = concat!(env!("CARGO_MANIFEST_DIR"), "/../../target/bin/actr");
+
+/// What the program writes for an image.
 pub fn print_proved(image: &[u8]) -> String {
-    match traced(image) {
-        Ok((ran, events)) => {
-            let lines: String = events.iter().map(line).collect();
-            format!("{lines}end {} {}\n", ran.end.number(), ran.made)
-        }
-        Err(refusal) => format!("end {} 0\n", refusal.number()),
+    let mut program = Command::new(PROGRAM)
+        .stdin(Stdio::piped())
+        .stdout(Stdio::piped())
+        .spawn()
+        .unwrap_or_else(|error| panic!("target/bin/actr: {error}: make it with `rt check actr`"));
+    let mut input = program.stdin.take().expect("its standard input");
+    match input.write_all(image) {
+        // The program reads no further than it takes to see that an image is too long.
+        Err(error) if error.kind() == ErrorKind::BrokenPipe => {}
+        written => written.expect("the image is written"),
     }
-}
-
-/// The printed run of an image, or why there is none.
-fn traced(image: &[u8]) -> Result<(Ran, Vec<Event>), Refusal> {
-    let (model, state, mut table) = Model::open(image)?;
-    model.trace(state, &mut table, PRINTED_STEPS)
-}
-
-/// The line of one step.
-fn line(event: &Event) -> String {
-    match event.step {
-        Step::Fire { rule } => format!("{} fire {rule}\n", event.clock),
-        Step::Wait { ms } => format!("{} wait {ms}\n", event.clock),
-    }
+    drop(input);
+    let output = program.wait_with_output().expect("its output");
+    assert!(output.status.success(), "target/bin/actr: {}", output.status);
+    String::from_utf8(output.stdout).expect("letters")
 }

@@ -125,11 +125,3 @@ fn images_at_the_largest_size_and_past_it() {
 fn random_models_states_tables_and_marks() {
     each_seed(1, 20_000, |seed, _| assert_same(&case(seed)));
 }
-
-#[test]
-fn random_images_are_printed_alike() {
-    each_seed(40_000, 2_000, |seed, _| {
-        let image = case(seed).image;
-        assert_eq!((PROVED.print)(&image), (REFERENCE.print)(&image), "image {image:02x?}");
-    });
-}
