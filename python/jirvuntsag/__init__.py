@@ -1,7 +1,7 @@
 """Runs ACT-R models from packed images, on the proved library.
 
 >>> import jirvuntsag as jv
->>> model = jv.Model.load("models/counting.image", names="python/tests/data/counting.names.json")
+>>> model = jv.Model.load("examples/counting.image", names="examples/counting.names.json")
 >>> run = model.open()
 >>> print(run.step())
 50 fire start
@@ -22,7 +22,7 @@ retrieval is pending for another 100 ms
 550 wait 150
 >>> branch.put("retrieval", "follows", {"first": 1, "second": 3})
 >>> branch.matching()
-[Match(rule=1, name='go-on', utility=0, values={'at': 1, 'next': 3})]
+[Match(rule=1, name='go-on', utility=0, values={'number': '1', 'next': '3'})]
 
 What is refused is raised as `Refused`, with its number and what that means; what Python can tell by itself as ValueError or
 TypeError. Nothing is altered by a call that raises, but for the steps that a run has made before it is refused.

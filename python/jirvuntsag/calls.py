@@ -5,7 +5,7 @@ sees memory that Python could change or free meanwhile. An image is bytes, a sta
 16 bits for each rule. See include/jirvuntsag.h for what the words are.
 
 >>> import pathlib
->>> image = pathlib.Path("models/counting.image").read_bytes()
+>>> image = pathlib.Path("examples/counting.image").read_bytes()
 >>> opened = open_image(image, [0] * table_length(image))
 >>> opened.number, list(opened.table[:3])
 (0, [1, 1, 0])

@@ -15,7 +15,7 @@ LARGEST_IMAGE = 65_536
 class Model:
     """A model, from the bytes of its image and, if there are some, its names.
 
-    >>> model = Model.load("models/counting.image")
+    >>> model = Model.load("examples/counting.image")
     >>> model
     <Model of 71 bytes: 2 buffers, 3 types, 3 rules>
     >>> Model(b"")
@@ -45,7 +45,7 @@ class Model:
     def open(self):
         """A run from the opening state.
 
-        >>> run = Model.load("models/counting.image").open()
+        >>> run = Model.load("examples/counting.image").open()
         >>> run.clock, str(run.buffers[0])
         (0, '2 0=1 1=3')
         """
@@ -54,7 +54,7 @@ class Model:
     def at(self, state):
         """A run from any well-formed state: plain data as `Run.state` gives it, or 81 words as `Run.words` does.
 
-        >>> model = Model.load("models/counting.image")
+        >>> model = Model.load("examples/counting.image")
         >>> run = model.at({"clock": 350, "buffers": {0: {"type": 2, "slots": {0: 3, 1: 3}}}})
         >>> [str(event) for event in run.steps()]
         ['400 fire 2']

@@ -30,7 +30,7 @@ def record(run, steps):
     """Makes at most so many steps on a copy of a run, and tells them.
 
     >>> from jirvuntsag import Model
-    >>> recording = record(Model.load("models/counting.image").open(), 2)
+    >>> recording = record(Model.load("examples/counting.image").open(), 2)
     >>> [(span.start, span.end, str(span.buffer)) for span in recording.lanes[1]]
     [(0, 50, '0'), (50, 150, '1 0=1 1=2 in 100 ms'), (150, None, '1 0=1 1=2')]
     """

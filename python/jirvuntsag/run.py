@@ -19,7 +19,7 @@ class Run:
     one: `Refused`, by 8, after the steps that could be made.
 
     >>> from jirvuntsag import Model
-    >>> run = Model.load("models/counting.image").open()
+    >>> run = Model.load("examples/counting.image").open()
     >>> run.step()
     Event(clock=50, kind='fire', rule=0, ms=50, name=0)
     >>> branch = run.copy()
@@ -63,7 +63,7 @@ class Run:
         """The state as plain data. What it is set to becomes the state, and the table is made to fit it.
 
         >>> from jirvuntsag import Model
-        >>> run = Model.load("models/counting.image").open()
+        >>> run = Model.load("examples/counting.image").open()
         >>> kept = run.state
         >>> kept
         {'clock': 0, 'buffers': {0: {'type': 2, 'slots': {0: 1, 1: 3}, 'delay': 0}, 1: {'type': 0, 'slots': {}, 'delay': 0}}}
@@ -88,7 +88,7 @@ class Run:
         """Puts a chunk into a buffer from outside. Slots that are not named hold nil.
 
         >>> from jirvuntsag import Model
-        >>> run = Model.load("models/counting.image").open()
+        >>> run = Model.load("examples/counting.image").open()
         >>> run.put(0, 2, {0: 2, 1: 3})
         >>> print(run.buffers[0])
         2 0=2 1=3
@@ -109,7 +109,7 @@ class Run:
         Of these the one of highest utility fires next, the first among equals.
 
         >>> from jirvuntsag import Model
-        >>> Model.load("models/counting.image").open().matching()
+        >>> Model.load("examples/counting.image").open().matching()
         [Match(rule=0, name=0, utility=0, values={0: 1})]
         """
         entries = enumerate(self.table)
@@ -119,7 +119,7 @@ class Run:
         """The first test of a rule that does not hold now; None if the rule matches.
 
         >>> from jirvuntsag import Model
-        >>> run = Model.load("models/counting.image").open()
+        >>> run = Model.load("examples/counting.image").open()
         >>> print(run.why_not(2))
         slot 1 of buffer 0 is 3, not 1
         >>> print(run.why_not(0))
@@ -140,7 +140,7 @@ class Run:
         """Makes steps, one whenever an event is asked for, at most so many; ends where the model halts.
 
         >>> from jirvuntsag import Model
-        >>> run = Model.load("models/counting.image").open()
+        >>> run = Model.load("examples/counting.image").open()
         >>> [str(event) for event in run.steps(2)]
         ['50 fire 0', '150 wait 100']
         """
@@ -163,7 +163,7 @@ class Run:
         """Makes steps while the clock is below `clock`: how it ended, 0 if the clock has got there.
 
         >>> from jirvuntsag import Model
-        >>> run = Model.load("models/counting.image").open()
+        >>> run = Model.load("examples/counting.image").open()
         >>> print(run.until(300), run.clock)
         end 0 4 300
         """

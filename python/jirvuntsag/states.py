@@ -55,7 +55,7 @@ class Buffers(Mapping):
     """The buffers of a state, by name or number.
 
     >>> from jirvuntsag import Model
-    >>> buffers = Model.load("models/counting.image").open().buffers
+    >>> buffers = Model.load("examples/counting.image").open().buffers
     >>> buffers[0].visible, 2 in buffers
     (True, False)
     """

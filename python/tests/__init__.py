@@ -2,8 +2,8 @@
 import pathlib
 
 ROOT = pathlib.Path(__file__).resolve().parents[2]
-DATA = ROOT / "python" / "tests" / "data"
-COUNTING = ROOT / "models" / "counting.image"
-COUNTING_NAMES = DATA / "counting.names.json"
-COUNT_FROM = DATA / "count-from.image"
-COUNT_FROM_NAMES = DATA / "count-from.names.json"
+EXAMPLES = ROOT / "examples"
+COUNTING = EXAMPLES / "counting.image"
+COUNTING_NAMES = EXAMPLES / "counting.names.json"
+COUNT_FROM = EXAMPLES / "count-chr.image"
+COUNT_FROM_NAMES = EXAMPLES / "count-chr.names.json"

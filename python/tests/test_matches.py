@@ -27,7 +27,7 @@ class Misses(unittest.TestCase):
         self.assertEqual(self.run_.why_not("go-on"), Miss("retrieval", "pending", None, None, 100))
 
     def test_a_variable_that_has_another_value(self):
-        self.assertEqual(self.run_.why_not("stop"), Miss("goal", "slot", "target", 1, 3))
+        self.assertEqual(self.run_.why_not("stop"), Miss("goal", "slot", "target", "1", "3"))
         self.run_.put("retrieval", "follows", {"first": 2, "second": 3})
         self.assertEqual(str(self.run_.why_not("go-on")), "first of retrieval is 2, not 1")
 

@@ -65,7 +65,7 @@ class Runs(unittest.TestCase):
 
     def test_buffers_have_names_and_numbers(self):
         self.run_.step()
-        self.assertEqual(self.run_.buffers["retrieval"], Buffer("follows", {"first": 1, "second": 2}, 100))
+        self.assertEqual(self.run_.buffers["retrieval"], Buffer("follows", {"first": "1", "second": "2"}, 100))
         self.assertEqual(self.run_.buffers[1], self.run_.buffers["retrieval"])
         self.assertFalse(self.run_.buffers["retrieval"].visible)
         self.assertEqual([*self.run_.buffers], ["goal", "retrieval"])
@@ -81,7 +81,7 @@ class Runs(unittest.TestCase):
     def test_what_is_put_is_matched(self):
         self.run_.put("goal", "count", {"current": 3, "target": 3})
         self.assertEqual([match.name for match in self.run_.matching()], ["start", "stop"])
-        self.assertEqual(self.run_.matching()[1], (2, "stop", 1000, {"at": 3}))
+        self.assertEqual(self.run_.matching()[1], (2, "stop", 1000, {"number": "3"}))
         self.assertEqual(self.run_.table, self.fresh_table())
         self.assertEqual(str(self.run_.step()), "50 fire stop")
 

@@ -160,7 +160,7 @@ class Command(unittest.TestCase):
         self.assertEqual(self.written.buffer.getvalue(), b"")
 
     def test_the_stored_pictures(self):
-        cases = [(COUNTING, COUNTING_NAMES, "counting.svg"), (COUNT_FROM, COUNT_FROM_NAMES, "count-from.svg")]
+        cases = [(COUNTING, COUNTING_NAMES, "counting.svg"), (COUNT_FROM, COUNT_FROM_NAMES, "count-chr.svg")]
         for image, names, picture in cases:
             self.assertEqual(self.status(image, "--names", names, "-o", self.folder / picture), 0)
             self.assertEqual((self.folder / picture).read_bytes(), (PICTURES / picture).read_bytes())

@@ -7,7 +7,7 @@ const ROOT: &str = concat!(env!("CARGO_MANIFEST_DIR"), "/../..");
 
 #[test]
 fn the_counting_model_is_model_a() {
-    let image = std::fs::read(format!("{ROOT}/models/counting.image")).expect("the image");
+    let image = std::fs::read(format!("{ROOT}/examples/counting.image")).expect("the image");
     assert_eq!(image, pack(&model_a()));
 }
 
@@ -16,7 +16,6 @@ fn the_counting_model_runs_as_the_readme_prints_it() {
     let readme = std::fs::read_to_string(format!("{ROOT}/README.md")).expect("the README");
     for engine in [&PROVED, &REFERENCE] {
         let printed = (engine.print)(&pack(&model_a()));
-        let block: String = printed.lines().map(|line| format!("    {line}\n")).collect();
-        assert!(readme.contains(&format!("\n\n{block}\n")), "{}: {printed}", engine.name);
+        assert!(readme.contains(&format!("```text\n{printed}```\n")), "{}: {printed}", engine.name);
     }
 }

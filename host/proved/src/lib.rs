@@ -9,7 +9,7 @@
 //! ```
 //! use jirvuntsag_proved::{End, Model, Refusal, Step};
 //!
-//! # let path = concat!(env!("CARGO_MANIFEST_DIR"), "/../../models/counting.image");
+//! # let path = concat!(env!("CARGO_MANIFEST_DIR"), "/../../examples/counting.image");
 //! # let image = std::fs::read(path)?;
 //! let (model, state, mut table) = Model::open(&image)?;
 //! let first = model.run(state, &mut table, 1)?;

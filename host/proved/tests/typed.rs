@@ -6,8 +6,8 @@ use jirvuntsag_proved::{calls, End, Model, Number, Refusal, State, Table};
 
 /// The shipped model that counts from 1 to 3.
 fn counting() -> Vec<u8> {
-    let path = concat!(env!("CARGO_MANIFEST_DIR"), "/../../models/counting.image");
-    std::fs::read(path).expect("models/counting.image")
+    let path = concat!(env!("CARGO_MANIFEST_DIR"), "/../../examples/counting.image");
+    std::fs::read(path).expect("examples/counting.image")
 }
 
 #[test]

@@ -31,7 +31,7 @@ def timeline(run, steps=1000, title="A run", width=WIDEST):
     """The SVG of a run's next steps, at most so many; `width` is the most pixels of its lanes. The run itself is not moved.
 
     >>> from jirvuntsag import Model
-    >>> timeline(Model.load("models/counting.image").open()).count('class="fire"') - 1
+    >>> timeline(Model.load("examples/counting.image").open()).count('class="fire"') - 1
     4
     """
     recording = record(run, steps)
