@@ -9,6 +9,7 @@ ghost use Rattle.meaning.specs.Fire.{done, deedOn, after, fire};
 ghost use Rattle.meaning.specs.Mark.{actedOn, markOf};
 ghost use Rattle.layout.specs.Rows.{actionIn, actionsIn, factsIn};
 ghost use Rattle.layout.specs.StateWords.{bufferIn, stateIn};
+ghost use Rattle.retrieval.specs.Chains.{Chained};
 ghost use Rattle.waiting.specs.Remade.{Remade, arrives};
 ghost use Rattle.acting.specs.Acts.{deedAt, RowWithin};
 
@@ -43,10 +44,11 @@ fn perform(
     q: usize,
     nine: &[u16],
     facts: &[u16],
+    index: &[u16],
     n: usize,
     failure: u16,
 )
-    requires { ⌜ (80 ≤ length (now state)) × (k < 8) × (q + 11 ≤ length (now words)) × (9 ≤ length (now nine)) × (n ≤ 512) × (11 * n ≤ length (now facts)) ⌝ }
+    requires { ⌜ (80 ≤ length (now state)) × (k < 8) × (q + 11 ≤ length (now words)) × (9 ≤ length (now nine)) × (n ≤ 512) × (11 * n ≤ length (now facts)) × Chained (now index) (now facts) n ⌝ }
     ensures { λ _. ⌜ Remade (now (state .entry)) (now (state .exit)) k (done failure (factsIn (now (facts .entry)) n) (now (nine .entry)) (bufferIn (now (state .entry)) k) (actionIn (now (words .entry)) q .deed)) ⌝ }
 {
     let deed = words[q + 1];
@@ -55,7 +57,7 @@ fn perform(
         return;
     }
     if deed < 64 {
-        effects::request(state, k, words, q, nine, facts, n, failure);
+        effects::request(state, k, words, q, nine, facts, index, n, failure);
         return;
     }
     effects::nil(state, k, 0);
@@ -71,16 +73,17 @@ fn act(
     m: usize,
     nine: &[u16],
     facts: &[u16],
+    index: &[u16],
     n: usize,
     failure: u16,
 ) -> bool
-    requires { ⌜ (80 ≤ length (now state)) × (k < 8) × (o + 11 * m ≤ length (now words)) × (9 ≤ length (now nine)) × (n ≤ 512) × (11 * n ≤ length (now facts)) ⌝ }
+    requires { ⌜ (80 ≤ length (now state)) × (k < 8) × (o + 11 * m ≤ length (now words)) × (9 ≤ length (now nine)) × (n ≤ 512) × (11 * n ≤ length (now facts)) × Chained (now index) (now facts) n ⌝ }
     ensures { λ _. ⌜ Remade (now (state .entry)) (now (state .exit)) k (after failure (factsIn (now (facts .entry)) n) (now (nine .entry)) (bufferIn (now (state .entry)) k) (deedOn (actionsIn (now (words .entry)) o m) k)) ⌝ }
     ensures mark { λ r. ⌜ r ≡ (actedOn (actionsIn (now (words .entry)) o m) k || arrives (bufferIn (now (state .entry)) k) (after failure (factsIn (now (facts .entry)) n) (now (nine .entry)) (bufferIn (now (state .entry)) k) (deedOn (actionsIn (now (words .entry)) o m) k))) ⌝ }
 {
     match action_on(words, o, m, k) {
         OnBuffer::Row(q) => {
-            perform(state, k, words, q, nine, facts, n, failure);
+            perform(state, k, words, q, nine, facts, index, n, failure);
             true
         }
         OnBuffer::NoAction => waiting::lower(state, k, 50),
@@ -95,10 +98,11 @@ pub fn fire(
     m: usize,
     nine: &[u16],
     facts: &[u16],
+    index: &[u16],
     n: usize,
     failure: u16,
 ) -> u16
-    requires { ⌜ (80 ≤ length (now state)) × (o + 11 * m ≤ length (now words)) × (m ≤ 8) × (9 ≤ length (now nine)) × (n ≤ 512) × (11 * n ≤ length (now facts)) ⌝ }
+    requires { ⌜ (80 ≤ length (now state)) × (o + 11 * m ≤ length (now words)) × (m ≤ 8) × (9 ≤ length (now nine)) × (n ≤ 512) × (11 * n ≤ length (now facts)) × Chained (now index) (now facts) n ⌝ }
     ensures { λ _. ⌜ ((clock : ℕ) (r : Rule) → r .actions ≡ actionsIn (now (words .entry)) o m → stateIn (now (state .exit)) (clock + 50) ≡ fire failure (factsIn (now (facts .entry)) n) r (now (nine .entry)) (stateIn (now (state .entry)) clock)) ⌝ }
     ensures mark { λ r. ⌜ ((clock clock′ : ℕ) → r ≡ markOf (actionsIn (now (words .entry)) o m) (stateIn (now (state .entry)) clock) (stateIn (now (state .exit)) clock′)) ⌝ }
 {
@@ -106,7 +110,7 @@ pub fn fire(
     let mut weight = 1u16;
     let mut k = 0;
     while k < 8 {
-        if act(state, k, words, o, m, nine, facts, n, failure) {
+        if act(state, k, words, o, m, nine, facts, index, n, failure) {
             mark += weight;
         }
         weight *= 2;

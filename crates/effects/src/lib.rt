@@ -5,6 +5,7 @@ ghost use Rattle.meaning.specs.State.{nilAfter};
 ghost use Rattle.meaning.specs.Retrieval.{retrieve, retrieved};
 ghost use Rattle.layout.specs.Rows.{maskedIn, factsIn};
 ghost use Rattle.layout.specs.StateWords.{bufferIn};
+ghost use Rattle.retrieval.specs.Chains.{Chained};
 ghost use Rattle.waiting.specs.Remade.{Remade};
 ghost use Rattle.effects.specs.Deeds.{chunkIn, modified};
 use retrieval::Found;
@@ -56,13 +57,14 @@ pub fn request(
     q: usize,
     nine: &[u16],
     facts: &[u16],
+    index: &[u16],
     n: usize,
     failure: u16,
 )
-    requires { ⌜ (80 ≤ length (now state)) × (k < 8) × (q + 11 ≤ length (now words)) × (9 ≤ length (now nine)) × (n ≤ 512) × (11 * n ≤ length (now facts)) ⌝ }
+    requires { ⌜ (80 ≤ length (now state)) × (k < 8) × (q + 11 ≤ length (now words)) × (9 ≤ length (now nine)) × (n ≤ 512) × (11 * n ≤ length (now facts)) × Chained (now index) (now facts) n ⌝ }
     ensures { λ _. ⌜ Remade (now (state .entry)) (now (state .exit)) k (retrieved failure (retrieve (factsIn (now (facts .entry)) n) (getD (now (words .entry)) (q + 1) 0) (maskedIn (now (words .entry)) q) (now (nine .entry)))) ⌝ }
 {
-    match retrieval::retrieve(facts, n, words, q, nine) {
+    match retrieval::retrieve(facts, index, n, words, q, nine) {
         Found::Fact(i) => {
             let f = 11 * i;
             fill(state, k, facts[f], facts, f + 3, facts[f + 2]);

@@ -1,3 +1,5 @@
 -- Laws of the retrieval.
 pub mod FitLaws
 pub mod TurnLaws
+pub mod ChainLaws
+pub mod LeapLaws

@@ -1,2 +1,3 @@
--- What the number of a fact stands for.
+-- What the number of a fact stands for, and the chains that facts are in.
 pub mod Found
+pub mod Chains

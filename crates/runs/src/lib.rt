@@ -55,6 +55,8 @@ fn run_for(
     if !states::well_formed(&now, types, buffers as usize) {
         return no_run(6, state);
     }
+    let mut index = [0u16; 576];
+    retrieval::chain(&mut index, facts, m);
     let went = running::advance(
         &mut now,
         state.clock,
@@ -63,6 +65,7 @@ fn run_for(
         words,
         n,
         facts,
+        &index,
         m,
         failure,
         steps,

@@ -10,6 +10,7 @@ ghost use Rattle.meaning.specs.Step.{Step, fireStep, waitStep, stepOf};
 ghost use Rattle.layout.specs.Rows.{testsIn, rulesIn, factsIn, Laid};
 ghost use Rattle.layout.specs.StateWords.{buffersIn, stateIn};
 ghost use Rattle.choice.specs.Chosen.{candidateAt};
+ghost use Rattle.retrieval.specs.Chains.{Chained};
 ghost use Rattle.stepping.specs.Done.{StepMet};
 use choice::Chosen;
 
@@ -40,10 +41,11 @@ fn fire_step(
     words: &[u16],
     n: usize,
     facts: &[u16],
+    index: &[u16],
     m: usize,
     failure: u16,
 ) -> StepDone
-    requires { ⌜ Laid (now heads) (now words) n × (k < n) × (length (now table) ≡ 9 * n) × (80 ≤ length (now state)) × (m ≤ 512) × (11 * m ≤ length (now facts)) ⌝ }
+    requires { ⌜ Laid (now heads) (now words) n × (k < n) × (length (now table) ≡ 9 * n) × (80 ≤ length (now state)) × (m ≤ 512) × (11 * m ≤ length (now facts)) × Chained (now index) (now facts) m ⌝ }
     ensures { λ r. ⌜ StepMet (λ (d : Step). d ≡ fireStep failure (factsIn (now (facts .entry)) m) (stateIn (now (state .entry)) clock) (candidateAt (now (heads .entry)) (now (words .entry)) (now (table .entry)) k)) r (now (state .entry)) (now (state .exit)) clock ⌝ }
 {
     let a = 9 * k;
@@ -59,7 +61,17 @@ fn fire_step(
     }
     let o = 176 * k + 88;
     let actions = heads[4 * k + 1] as usize;
-    let mark = acting::fire(state, words, o, actions, &table[a..e], facts, m, failure);
+    let mark = acting::fire(
+        state,
+        words,
+        o,
+        actions,
+        &table[a..e],
+        facts,
+        index,
+        m,
+        failure,
+    );
     StepDone::Fired(k as u16, mark)
 }
 
@@ -88,14 +100,27 @@ pub fn step(
     words: &[u16],
     n: usize,
     facts: &[u16],
+    index: &[u16],
     m: usize,
     failure: u16,
 ) -> StepDone
-    requires { ⌜ Laid (now heads) (now words) n × (length (now table) ≡ 9 * n) × (80 ≤ length (now state)) × (m ≤ 512) × (11 * m ≤ length (now facts)) ⌝ }
+    requires { ⌜ Laid (now heads) (now words) n × (length (now table) ≡ 9 * n) × (80 ≤ length (now state)) × (m ≤ 512) × (11 * m ≤ length (now facts)) × Chained (now index) (now facts) m ⌝ }
     ensures { λ r. ⌜ StepMet (λ (d : Step). (mo : Model) → mo .rules ≡ rulesIn (now (heads .entry)) (now (words .entry)) n → mo .facts ≡ factsIn (now (facts .entry)) m → mo .failure ≡ failure → d ≡ stepOf mo (stateIn (now (state .entry)) clock) (now (table .entry))) r (now (state .entry)) (now (state .exit)) clock ⌝ }
 {
     match choice::choose(heads, table, n) {
-        Chosen::Rule(k) => fire_step(state, clock, table, k, heads, words, n, facts, m, failure),
+        Chosen::Rule(k) => fire_step(
+            state,
+            clock,
+            table,
+            k,
+            heads,
+            words,
+            n,
+            facts,
+            index,
+            m,
+            failure,
+        ),
         Chosen::NoRule => wait_step(state, clock),
     }
 }

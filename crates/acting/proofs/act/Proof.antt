@@ -25,13 +25,13 @@ same-length : tie.Need-same-length
 same-length c = search needs
 
 returns : tie.Need-returns
-returns c = let a = c .before .before .before .before .before .before .before .before .before .before .before .before .args in acted-on (a .words .now) (a .failure) (factsIn (a .facts .now) (a .n)) (a .nine .now) (bufferIn (a .state .now) (a .k)) (c .before .before .before .before .before .before .before .action-on .ensures .0) _ (c .before .before .before .before .before .q .given .1) (c .before .before .perform .ensures)
+returns c = let a = c .before .before .before .before .before .before .before .before .before .before .before .before .before .args in acted-on (a .words .now) (a .failure) (factsIn (a .facts .now) (a .n)) (a .nine .now) (bufferIn (a .state .now) (a .k)) (c .before .before .before .before .before .before .before .action-on .ensures .0) _ (c .before .before .before .before .before .q .given .1) (c .before .before .perform .ensures)
 
 same-length-2 : tie.Need-same-length-2
 same-length-2 c = search needs
 
 returns-2 : tie.Need-returns-2
-returns-2 c = let a = c .before .before .before .before .before .before .before .before .before .before .before .args in not-acted-on (a .words .now) (a .failure) (factsIn (a .facts .now) (a .n)) (a .nine .now) (bufferIn (a .state .now) (a .k)) (c .before .before .before .before .before .before .action-on .ensures .0) (c .before .before .lower .result) (c .before .before .before .before .enum-told .given .1) (c .before .before .lower .ensures)
+returns-2 c = let a = c .before .before .before .before .before .before .before .before .before .before .before .before .args in not-acted-on (a .words .now) (a .failure) (factsIn (a .facts .now) (a .n)) (a .nine .now) (bufferIn (a .state .now) (a .k)) (c .before .before .before .before .before .before .action-on .ensures .0) (c .before .before .lower .result) (c .before .before .before .before .enum-told .given .1) (c .before .before .lower .ensures)
 
 pub act-spec : {M : Type 1} → statement M
 act-spec =

@@ -13,16 +13,16 @@ use Rattle.acting.proofs.fire.Statement.{statement}
 use Rattle.acting.proofs.fire.Tie as tie
 
 abbrev Inv-loop : tie.InvT-loop
-Inv-loop state₀ words o m nine facts n failure mark₀ weight₀ k₀ state mark weight k = Going (λ i b. after failure (factsIn facts n) nine b (deedOn (actionsIn words o m) i)) (actedOn (actionsIn words o m)) state₀ state k mark weight
+Inv-loop state₀ words o m nine facts index n failure mark₀ weight₀ k₀ state mark weight k = Going (λ i b. after failure (factsIn facts n) nine b (deedOn (actionsIn words o m) i)) (actedOn (actionsIn words o m)) state₀ state k mark weight
 
 abbrev μ-loop : tie.MeasureT-loop
-μ-loop state₀ words o m nine facts n failure mark₀ weight₀ k₀ state mark weight k = 8 - k
+μ-loop state₀ words o m nine facts index n failure mark₀ weight₀ k₀ state mark weight k = 8 - k
 
 loop-holds : tie.Need-loop-holds Inv-loop μ-loop
 loop-holds c = going-start _ _ _
 
 act-requires : tie.Need-act-requires Inv-loop μ-loop
-act-requires c κs = let p = c .before .before .before .before .before .before .before .pre in (omega (arith, c .before .before .loop .inv .size, p .0), search needs, p .1, p .3, p .4, p .5)
+act-requires c κs = let p = c .before .before .before .before .before .before .before .before .pre in (omega (arith, c .before .before .loop .inv .size, p .0), search needs, p .1, p .3, p .4, p .5, p .6)
 
 add-mark : tie.Need-add-mark Inv-loop μ-loop
 add-mark c = let h = going-fits (c .before .before .before .before .before .before .loop .inv) (omega arith) (c .before .before .before .act .ensures .1) (c .if1 .taken) in omega arith
@@ -49,7 +49,7 @@ same-length c = c .before .loop .inv .size
 returns : tie.Need-returns Inv-loop μ-loop
 returns c =
     let l = c .before .loop in
-    let a = c .before .before .before .before .before .before .args in
+    let a = c .before .before .before .before .before .before .before .args in
     (fired (a .failure) (factsIn (a .facts .now) (a .n)) (a .nine .now) (a .state .now) (l .state) (going-made (l .inv) (omega arith)), λ clock clock′. going-marked (l .inv) (omega arith) (actionsIn (a .words .now) (a .o) (a .m)) refl clock clock′)
 
 pub fire-spec : {M : Type 1} → statement M

@@ -25,7 +25,7 @@ same-length : tie.Need-same-length
 same-length c = search needs
 
 returns : tie.Need-returns
-returns c = let a = c .before .before .before .before .before .before .before .before .before .before .args in rw (done-modify (a .failure) (factsIn (a .facts .now) (a .n)) (a .nine .now) (bufferIn (a .state .now) (a .k)) (getD (a .words .now) (a .q + 1) 0) (maskedIn (a .words .now) (a .q)) (c .before .before .before .before .if1 .taken)) (c .before .before .modify .ensures)
+returns c = let a = c .before .before .before .before .before .before .before .before .before .before .before .args in rw (done-modify (a .failure) (factsIn (a .facts .now) (a .n)) (a .nine .now) (bufferIn (a .state .now) (a .k)) (getD (a .words .now) (a .q + 1) 0) (maskedIn (a .words .now) (a .q)) (c .before .before .before .before .if1 .taken)) (c .before .before .modify .ensures)
 
 request-requires : tie.Need-request-requires
 request-requires c κs = search needs
@@ -34,7 +34,7 @@ same-length-2 : tie.Need-same-length-2
 same-length-2 c = search needs
 
 returns-2 : tie.Need-returns-2
-returns-2 c = let a = c .before .before .before .before .before .before .before .before .before .before .before .args in rw (done-request (a .failure) (factsIn (a .facts .now) (a .n)) (a .nine .now) (bufferIn (a .state .now) (a .k)) (getD (a .words .now) (a .q + 1) 0) (maskedIn (a .words .now) (a .q)) (c .before .before .before .before .before .if1 .left) (omega arith)) (c .before .before .request .ensures)
+returns-2 c = let a = c .before .before .before .before .before .before .before .before .before .before .before .before .args in rw (done-request (a .failure) (factsIn (a .facts .now) (a .n)) (a .nine .now) (bufferIn (a .state .now) (a .k)) (getD (a .words .now) (a .q + 1) 0) (maskedIn (a .words .now) (a .q)) (c .before .before .before .before .before .if1 .left) (omega arith)) (c .before .before .request .ensures)
 
 nil-requires : tie.Need-nil-requires
 nil-requires c κs = search needs
@@ -43,7 +43,7 @@ same-length-3 : tie.Need-same-length-3
 same-length-3 c = search needs
 
 returns-3 : tie.Need-returns-3
-returns-3 c = let a = c .before .before .before .before .before .before .before .before .before .before .before .args in rw (done-clear (a .failure) (factsIn (a .facts .now) (a .n)) (a .nine .now) (bufferIn (a .state .now) (a .k)) (getD (a .words .now) (a .q + 1) 0) (maskedIn (a .words .now) (a .q)) (c .before .before .before .before .before .if1 .left) (omega arith)) (c .before .before .nil .ensures)
+returns-3 c = let a = c .before .before .before .before .before .before .before .before .before .before .before .before .args in rw (done-clear (a .failure) (factsIn (a .facts .now) (a .n)) (a .nine .now) (bufferIn (a .state .now) (a .k)) (getD (a .words .now) (a .q + 1) 0) (maskedIn (a .words .now) (a .q)) (c .before .before .before .before .before .if1 .left) (omega arith)) (c .before .before .nil .ensures)
 
 pub perform-spec : {M : Type 1} → statement M
 perform-spec =

@@ -12,7 +12,7 @@ enum-known-i : tie.Need-enum-known-i
 enum-known-i c = search needs
 
 -- the fact that is found is one of the n
-found : (c : tie.After-known-told) → c .before .i .given .0 .0 < c .before .before .before .before .before .before .before .before .args .n
+found : (c : tie.After-known-told) → c .before .i .given .0 .0 < c .before .before .before .before .before .before .before .before .before .args .n
 found c = fact-below (c .before .i .given .1) (c .before .before .before .retrieve .ensures .1)
 
 mul-f : tie.Need-mul-f
@@ -49,13 +49,13 @@ same-length : tie.Need-same-length
 same-length c = search needs
 
 returns : tie.Need-returns
-returns c = let a = c .before .before .before .before .before .before .before .before .before .before .before .before .before .before .args in fact-made (a .facts .now) (a .failure) (c .before .before .before .before .before .before .before .before .before .retrieve .ensures .0) _ (c .before .before .before .before .before .before .before .i .given .1) (c .before .before .fill .ensures)
+returns c = let a = c .before .before .before .before .before .before .before .before .before .before .before .before .before .before .before .args in fact-made (a .facts .now) (a .failure) (c .before .before .before .before .before .before .before .before .before .retrieve .ensures .0) _ (c .before .before .before .before .before .before .before .i .given .1) (c .before .before .fill .ensures)
 
 same-length-2 : tie.Need-same-length-2
 same-length-2 c = search needs
 
 returns-2 : tie.Need-returns-2
-returns-2 c = let a = c .before .before .before .before .before .before .before .before .before .before .before .args in none-made (a .facts .now) (a .failure) (c .before .before .before .before .before .before .retrieve .ensures .0) (c .before .before .before .before .enum-told .given .1) (c .before .before .nil .ensures)
+returns-2 c = let a = c .before .before .before .before .before .before .before .before .before .before .before .before .args in none-made (a .facts .now) (a .failure) (c .before .before .before .before .before .before .retrieve .ensures .0) (c .before .before .before .before .enum-told .given .1) (c .before .before .nil .ensures)
 
 pub request-spec : {M : Type 1} → statement M
 request-spec =

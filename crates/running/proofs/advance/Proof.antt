@@ -14,29 +14,29 @@ use Rattle.running.proofs.advance.Statement.{statement}
 use Rattle.running.proofs.advance.Tie as tie
 
 abbrev Inv-loop : tie.InvT-loop
-Inv-loop state₀ clock table₀ heads words n facts m failure steps events₀ now₀ made₀ state table events now made =
+Inv-loop state₀ clock table₀ heads words n facts index m failure steps events₀ now₀ made₀ state table events now made =
     (made ≤ steps) × (now ≤ 4294967295) × (steps ≤ 65535) × (length state ≡ length state₀) × (length table ≡ 9 * n) × (length events ≡ length events₀) × ((mo : Model) → mo .rules ≡ rulesIn heads words n → mo .facts ≡ factsIn facts m → mo .failure ≡ failure → Going mo steps state₀ clock table₀ events₀ made state now table events)
 
 abbrev μ-loop : tie.MeasureT-loop
-μ-loop state₀ clock table₀ heads words n facts m failure steps events₀ now₀ made₀ state table events now made = steps - made
+μ-loop state₀ clock table₀ heads words n facts index m failure steps events₀ now₀ made₀ state table events now made = steps - made
 
 loop-holds : tie.Need-loop-holds Inv-loop μ-loop
-loop-holds c = let a = c .before .before .before .before .before .before .args in (search needs, search needs, search needs, refl, c .before .before .before .before .before .before .pre .1, refl, λ mo er ef el. going-start mo (a .steps) (a .state .now) (a .clock) (a .table .now) (a .events .now))
+loop-holds c = let a = c .before .before .before .before .before .before .before .args in (search needs, search needs, search needs, refl, c .before .before .before .before .before .before .before .pre .1, refl, λ mo er ef el. going-start mo (a .steps) (a .state .now) (a .clock) (a .table .now) (a .events .now))
 
 step-requires : tie.Need-step-requires Inv-loop μ-loop
-step-requires c κs = let l = c .before .before .before .loop in (c .before .before .before .before .before .before .before .before .before .before .pre .0, l .inv .4, omega (arith, l .inv .3, c .before .before .before .before .before .before .before .before .before .before .pre .2), c .before .before .before .before .before .before .before .before .before .before .pre .3, c .before .before .before .before .before .before .before .before .before .before .pre .4)
+step-requires c κs = let l = c .before .before .before .loop in (c .before .before .before .before .before .before .before .before .before .before .before .pre .0, l .inv .4, omega (arith, l .inv .3, c .before .before .before .before .before .before .before .before .before .before .before .pre .2), c .before .before .before .before .before .before .before .before .before .before .before .pre .3, c .before .before .before .before .before .before .before .before .before .before .before .pre .4, c .before .before .before .before .before .before .before .before .before .before .before .pre .5)
 
 tell-requires : tie.Need-tell-requires Inv-loop μ-loop
 tell-requires c κs = search needs
 
-cast-t22 : tie.Need-cast-t22 Inv-loop μ-loop
-cast-t22 c = search needs
+cast-t23 : tie.Need-cast-t23 Inv-loop μ-loop
+cast-t23 c = search needs
 
 same-length : tie.Need-same-length Inv-loop μ-loop
 same-length c = c .before .before .before .before .before .before .step .kept .0 ∙ c .before .before .before .before .before .before .before .before .before .before .loop .inv .3
 
 same-length-2 : tie.Need-same-length-2 Inv-loop μ-loop
-same-length-2 c = c .before .before .before .before .before .before .before .before .before .before .loop .inv .4 ∙ sym (c .before .before .before .before .before .before .before .before .before .before .before .before .before .before .before .before .before .pre .1)
+same-length-2 c = c .before .before .before .before .before .before .before .before .before .before .loop .inv .4 ∙ sym (c .before .before .before .before .before .before .before .before .before .before .before .before .before .before .before .before .before .before .pre .1)
 
 same-length-3 : tie.Need-same-length-3 Inv-loop μ-loop
 same-length-3 c = c .before .before .before .before .before .before .before .before .before .before .loop .inv .5
@@ -44,7 +44,7 @@ same-length-3 c = c .before .before .before .before .before .before .before .bef
 returns : tie.Need-returns Inv-loop μ-loop
 returns c =
     let l = c .before .before .before .before .before .before .before .before .before .before .loop in
-    let a = c .before .before .before .before .before .before .before .before .before .before .before .before .before .before .before .before .before .args in
+    let a = c .before .before .before .before .before .before .before .before .before .before .before .before .before .before .before .before .before .before .args in
     let t = c .before .before .before .tell .result in
     let small : c .before .before .before .tell .result .value ≤ 255 = c .before .before .before .tell .ensures .small (c .before .if1 .taken) in
     let same : c .before .before .before .tell .result .value % 256 ≡ c .before .before .before .tell .result .value = omega arith in
@@ -59,7 +59,7 @@ add-now : tie.Need-add-now Inv-loop μ-loop
 add-now c = omega (arith, c .before .before .before .tell .ensures .fits (c .before .before .before .before .before .before .before .before .before .before .loop .now) (c .before .before .before .before .before .before .before .before .before .before .loop .inv .1) (c .before .before .before .before .before .before .step .ensures .clock-fits))
 
 refresh-requires : tie.Need-refresh-requires Inv-loop μ-loop
-refresh-requires c κs = let l = c .before .before .before .before .before .before .before .before .before .before .before .before .loop in (c .before .before .before .before .before .before .before .before .before .before .before .before .before .before .before .before .before .before .before .pre .0, l .inv .4, omega (arith, c .before .before .before .before .before .before .before .before .step .kept .0, l .inv .3, c .before .before .before .before .before .before .before .before .before .before .before .before .before .before .before .before .before .before .before .pre .2))
+refresh-requires c κs = let l = c .before .before .before .before .before .before .before .before .before .before .before .before .loop in (c .before .before .before .before .before .before .before .before .before .before .before .before .before .before .before .before .before .before .before .before .pre .0, l .inv .4, omega (arith, c .before .before .before .before .before .before .before .before .step .kept .0, l .inv .3, c .before .before .before .before .before .before .before .before .before .before .before .before .before .before .before .before .before .before .before .before .pre .2))
 
 note-requires : tie.Need-note-requires Inv-loop μ-loop
 note-requires c κs = search needs
@@ -73,7 +73,7 @@ loop-less c = search needs
 loop-again : tie.Need-loop-again Inv-loop μ-loop
 loop-again c =
     let l = c .before .before .before .before .before .before .before .before .before .before .before .before .before .before .before .before .before .before .before .loop in
-    let a = c .before .before .before .before .before .before .before .before .before .before .before .before .before .before .before .before .before .before .before .before .before .before .before .before .before .before .args in
+    let a = c .before .before .before .before .before .before .before .before .before .before .before .before .before .before .before .before .before .before .before .before .before .before .before .before .before .before .before .args in
     let t = c .before .before .before .before .before .before .before .before .before .before .before .before .tell .result in
     let w′ = c .before .before .before .before .before .before .before .before .before .before .before .before .before .before .before .step .last .0 in
     let later = l .now + c .before .before .before .before .before .before .before .before .before .before .before .before .tell .result .elapsed in (
@@ -93,13 +93,13 @@ same-length-4 : tie.Need-same-length-4 Inv-loop μ-loop
 same-length-4 c = search needs
 
 same-length-5 : tie.Need-same-length-5 Inv-loop μ-loop
-same-length-5 c = c .before .loop .inv .4 ∙ sym (c .before .before .before .before .before .before .before .before .pre .1)
+same-length-5 c = c .before .loop .inv .4 ∙ sym (c .before .before .before .before .before .before .before .before .before .pre .1)
 
 same-length-6 : tie.Need-same-length-6 Inv-loop μ-loop
 same-length-6 c = search needs
 
 returns-2 : tie.Need-returns-2 Inv-loop μ-loop
-returns-2 c = let l = c .before .loop in let a = c .before .before .before .before .before .before .before .before .args in λ mo er ef el. going-end mo (a .steps) (a .state .now) (a .clock) (a .table .now) (a .events .now) (l .made) (l .state) (l .now) (l .table) (l .events) (l .inv .6 mo er ef el) (c .loop-test .left) (l .inv .0)
+returns-2 c = let l = c .before .loop in let a = c .before .before .before .before .before .before .before .before .before .args in λ mo er ef el. going-end mo (a .steps) (a .state .now) (a .clock) (a .table .now) (a .events .now) (l .made) (l .state) (l .now) (l .table) (l .events) (l .inv .6 mo er ef el) (c .loop-test .left) (l .inv .0)
 
 pub advance-spec : {M : Type 1} → statement M
 advance-spec =
@@ -110,7 +110,7 @@ advance-spec =
     loop-holds
     step-requires
     tell-requires
-    cast-t22
+    cast-t23
     same-length
     same-length-2
     same-length-3

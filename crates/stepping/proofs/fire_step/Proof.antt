@@ -26,7 +26,7 @@ shared-slice-read-tests : tie.Need-shared-slice-read-tests
 shared-slice-read-tests c = search needs
 
 cast-tests : tie.Need-cast-tests
-cast-tests c = omega (arith, c .shared-slice-known5 .given (4 * c .before .before .before .before .before .before .args .k))
+cast-tests c = omega (arith, c .shared-slice-known6 .given (4 * c .before .before .before .before .before .before .before .args .k))
 
 mul-is-fresh : tie.Need-mul-is-fresh
 mul-is-fresh c = search needs
@@ -45,8 +45,8 @@ mul-is-fresh-2 c = search needs
 
 is-fresh-requires : tie.Need-is-fresh-requires
 is-fresh-requires c κs =
-    let a = c .before .before .before .before .before .before .before .before .args in
-    let p = c .before .before .before .before .before .before .before .before .pre in
+    let a = c .before .before .before .before .before .before .before .before .before .args in
+    let p = c .before .before .before .before .before .before .before .before .before .pre in
     (search needs, omega (arith, p .0 .tests-few (a .k) (p .1), p .0 .words-room), search needs)
 
 same-length : tie.Need-same-length
@@ -54,7 +54,7 @@ same-length c = search needs
 
 returns : tie.Need-returns
 returns c =
-    let a = c .before .before .before .before .before .before .before .before .before .before .args in
+    let a = c .before .before .before .before .before .before .before .before .before .before .before .args in
     not-fresh (a .failure) _ _ (a .state .now) (a .clock) (part-is (a .k) (a .table .now)) (c .before .is-fresh .ensures (ruleIn (a .heads .now) (a .words .now) (a .k)) (a .clock) refl) (not-true _ (c .if1 .taken))
 
 same-length-2 : tie.Need-same-length-2
@@ -62,7 +62,7 @@ same-length-2 c = search needs
 
 returns-2 : tie.Need-returns-2
 returns-2 c =
-    let a = c .before .before .before .before .before .before .before .before .before .before .before .args in
+    let a = c .before .before .before .before .before .before .before .before .before .before .before .before .args in
     full (a .failure) _ _ (a .state .now) (a .clock) (part-is (a .k) (a .table .now)) (c .before .before .is-fresh .ensures (ruleIn (a .heads .now) (a .words .now) (a .k)) (a .clock) refl) (not-false _ (c .before .if1 .left)) (omega (arith, ltb-true 4294967245 (a .clock) (c .if2 .taken)))
 
 mul-o : tie.Need-mul-o
@@ -84,7 +84,7 @@ shared-slice-read-actions : tie.Need-shared-slice-read-actions
 shared-slice-read-actions c = search needs
 
 cast-actions : tie.Need-cast-actions
-cast-actions c = omega (arith, c .shared-slice-known6 .given (4 * c .before .before .before .before .before .before .before .before .before .before .before .before .args .k + 1))
+cast-actions c = omega (arith, c .shared-slice-known7 .given (4 * c .before .before .before .before .before .before .before .before .before .before .before .before .before .args .k + 1))
 
 mul-fire : tie.Need-mul-fire
 mul-fire c = search needs
@@ -100,19 +100,19 @@ part-fire-end c = search needs
 
 fire-requires : tie.Need-fire-requires
 fire-requires c κs =
-    let a = c .before .before .before .before .before .before .before .before .before .before .before .before .before .before .args in
-    let p = c .before .before .before .before .before .before .before .before .before .before .before .before .before .before .pre in
-    (p .3, omega (arith, p .0 .actions-few (a .k) (p .1), p .0 .words-room), p .0 .actions-few (a .k) (p .1), simp (length-take, length-drop) (omega arith), p .4, p .5)
+    let a = c .before .before .before .before .before .before .before .before .before .before .before .before .before .before .before .args in
+    let p = c .before .before .before .before .before .before .before .before .before .before .before .before .before .before .before .pre in
+    (p .3, omega (arith, p .0 .actions-few (a .k) (p .1), p .0 .words-room), p .0 .actions-few (a .k) (p .1), simp (length-take, length-drop) (omega arith), p .4, p .5, p .6)
 
-cast-t22 : tie.Need-cast-t22
-cast-t22 c = omega (arith, c .before .before .before .before .before .before .before .before .before .before .before .before .before .before .before .before .before .pre .0 .at-most, c .before .before .before .before .before .before .before .before .before .before .before .before .before .before .before .before .before .pre .1)
+cast-t23 : tie.Need-cast-t23
+cast-t23 c = omega (arith, c .before .before .before .before .before .before .before .before .before .before .before .before .before .before .before .before .before .before .pre .0 .at-most, c .before .before .before .before .before .before .before .before .before .before .before .before .before .before .before .before .before .before .pre .1)
 
 same-length-3 : tie.Need-same-length-3
 same-length-3 c = search needs
 
 returns-3 : tie.Need-returns-3
 returns-3 c =
-    let a = c .before .before .before .before .before .before .before .before .before .before .before .before .before .before .before .before .before .args in
+    let a = c .before .before .before .before .before .before .before .before .before .before .before .before .before .before .before .before .before .before .args in
     fired (a .failure) _ _ (a .state .now) (a .clock) (part-is (a .k) (a .table .now)) (c .before .before .before .before .before .before .before .before .is-fresh .ensures (ruleIn (a .heads .now) (a .words .now) (a .k)) (a .clock) refl) (not-false _ (c .before .before .before .before .before .before .before .if1 .left)) (omega (arith, ltb-false 4294967245 (a .clock) (c .before .before .before .before .before .before .if2 .left))) _ _ (c .before .before .fire .ensures .0 (a .clock) (ruleIn (a .heads .now) (a .words .now) (a .k)) refl) (c .before .before .fire .ensures .1 (a .clock) (a .clock + 50))
 
 pub fire-step-spec : {M : Type 1} → statement M
@@ -147,6 +147,6 @@ fire-step-spec =
     part-fire-start
     part-fire-end
     fire-requires
-    cast-t22
+    cast-t23
     same-length-3
     returns-3)
