@@ -1,3 +1,5 @@
 -- Laws of the choice.
 pub mod KeyLaws
 pub mod TurnLaws
+pub mod TopLaws
+pub mod RankLaws

@@ -57,6 +57,10 @@ fn run_for(
     }
     let mut index = [0u16; 576];
     retrieval::chain(&mut index, facts, m);
+    let mut unions = [0u16; 16];
+    tables::unite(&mut unions, heads, n);
+    let mut leads = [0u32; 16];
+    choice::lay_leads(&mut leads, heads, table, n);
     let went = running::advance(
         &mut now,
         state.clock,
@@ -70,6 +74,8 @@ fn run_for(
         failure,
         steps,
         events,
+        &unions,
+        &mut leads,
     );
     let after = states::read_state(&now, went.clock);
     RunDone {

@@ -10,6 +10,7 @@ ghost use Rattle.meaning.specs.Step.{Step, fireStep, waitStep, stepOf};
 ghost use Rattle.layout.specs.Rows.{testsIn, rulesIn, factsIn, Laid};
 ghost use Rattle.layout.specs.StateWords.{buffersIn, stateIn};
 ghost use Rattle.choice.specs.Chosen.{candidateAt};
+ghost use Rattle.choice.specs.Ranks.{Led};
 ghost use Rattle.retrieval.specs.Chains.{Chained};
 ghost use Rattle.stepping.specs.Done.{StepMet};
 use choice::Chosen;
@@ -91,7 +92,7 @@ fn wait_step(state: &mut [u16], clock: u32) -> StepDone
     StepDone::Waited(ms, mark)
 }
 
-// One step of the model whose n rules and m facts stand in words, with its table; a step that is refused leaves the state as it is.
+// One step of the model whose n rules and m facts stand in words, with its table and its leads; a step that is refused leaves the state as it is.
 pub fn step(
     state: &mut [u16],
     clock: u32,
@@ -103,11 +104,12 @@ pub fn step(
     index: &[u16],
     m: usize,
     failure: u16,
+    leads: &[u32],
 ) -> StepDone
-    requires { ⌜ Laid (now heads) (now words) n × (length (now table) ≡ 9 * n) × (80 ≤ length (now state)) × (m ≤ 512) × (11 * m ≤ length (now facts)) × Chained (now index) (now facts) m ⌝ }
+    requires { ⌜ Laid (now heads) (now words) n × (length (now table) ≡ 9 * n) × (80 ≤ length (now state)) × (m ≤ 512) × (11 * m ≤ length (now facts)) × Chained (now index) (now facts) m × Led (now heads) (now table) n (now leads) ⌝ }
     ensures { λ r. ⌜ StepMet (λ (d : Step). (mo : Model) → mo .rules ≡ rulesIn (now (heads .entry)) (now (words .entry)) n → mo .facts ≡ factsIn (now (facts .entry)) m → mo .failure ≡ failure → d ≡ stepOf mo (stateIn (now (state .entry)) clock) (now (table .entry))) r (now (state .entry)) (now (state .exit)) clock ⌝ }
 {
-    match choice::choose(heads, table, n) {
+    match choice::choose(leads, n) {
         Chosen::Rule(k) => fire_step(
             state,
             clock,

@@ -16,7 +16,7 @@ use Rattle.laws.specs.EntryLaws.{entry-length}
 use Rattle.laws.specs.MarkLaws.{LowBuffers, meets, misses}
 use Rattle.layout.specs.Rows.{rowsIn, testIn, testsIn, ruleIn, rulesIn, Laid}
 use Rattle.layout.proofs.RowLaws.{rows-left}
-use Rattle.tables.specs.Entries.{withEntry}
+use Rattle.tables.specs.Entries.{withEntry, doing}
 
 -- ---- a table with one entry anew
 
@@ -51,10 +51,6 @@ module _ (rule : ℕ → Rule) (s : State) (n : ℕ) where
   unfoldable pub making : ℕ → List ℕ → List ℕ
   making k table = take (9 * k) table ++ freshTable (rowsIn rule k (n - k)) s
 
-  -- a refresh: the entries below k are done
-  unfoldable pub doing : ℕ → ℕ → List ℕ → List ℕ
-  doing mark k table = take (9 * k) table ++ refresh (rowsIn rule k (n - k)) s mark (drop (9 * k) table)
-
   pub making-start : (table : List ℕ) → making 0 table ≡ freshTable (rowsIn rule 0 n) s
   unfolding making
   making-start table = let e : n - 0 ≡ n = omega arith in rw e
@@ -65,11 +61,11 @@ module _ (rule : ℕ → Rule) (s : State) (n : ℕ) where
       let e : n - k ≡ 0 = omega arith in
       rw (e, take-all (9 * k) table (omega arith)) (append-nil table)
 
-  pub doing-start : (mark : ℕ) (table : List ℕ) → doing mark 0 table ≡ refresh (rowsIn rule 0 n) s mark table
+  pub doing-start : (mark : ℕ) (table : List ℕ) → doing rule s n mark 0 table ≡ refresh (rowsIn rule 0 n) s mark table
   unfolding doing
   doing-start mark table = let e : n - 0 ≡ n = omega arith in rw e
 
-  pub doing-end : (mark k : ℕ) (table : List ℕ) → n ≤ k → length table ≡ 9 * n → doing mark k table ≡ table
+  pub doing-end : (mark k : ℕ) (table : List ℕ) → n ≤ k → length table ≡ 9 * n → doing rule s n mark k table ≡ table
   unfolding doing refresh rowsIn
   doing-end mark k table h l =
       let e : n - k ≡ 0 = omega arith in
@@ -88,14 +84,14 @@ module _ (rule : ℕ → Rule) (s : State) (n : ℕ) where
         let nine : List ℕ = entryOf (rule k) s in
         rw (e, first, new-take table k nine (entry-length (rule k) s) room) (append-assoc (take (9 * k) table) nine (freshTable (rowsIn rule (k + 1) (n - (k + 1))) s))
 
-    pub doing-marked : (mark : ℕ) (table′ : List ℕ) → testsMarked mark (rule k) ≡ true → table′ ≡ withEntry table k (entryOf (rule k) s) → doing mark (k + 1) table′ ≡ doing mark k table
+    pub doing-marked : (mark : ℕ) (table′ : List ℕ) → testsMarked mark (rule k) ≡ true → table′ ≡ withEntry table k (entryOf (rule k) s) → doing rule s n mark (k + 1) table′ ≡ doing rule s n mark k table
     unfolding doing refresh
     doing-marked mark table′ m e =
         let nine : List ℕ = entryOf (rule k) s in
         let rest : List ℕ = refresh (rowsIn rule (k + 1) (n - (k + 1))) s mark (drop (9 * (k + 1)) table) in
         rw (e, first, m, new-take table k nine (entry-length (rule k) s) room, new-drop table k nine (entry-length (rule k) s) room, old-drop table k) (append-assoc (take (9 * k) table) nine rest)
 
-    pub doing-other : (mark : ℕ) → testsMarked mark (rule k) ≡ false → doing mark (k + 1) table ≡ doing mark k table
+    pub doing-other : (mark : ℕ) → testsMarked mark (rule k) ≡ false → doing rule s n mark (k + 1) table ≡ doing rule s n mark k table
     unfolding doing refresh
     doing-other mark m =
         let rest : List ℕ = refresh (rowsIn rule (k + 1) (n - (k + 1))) s mark (drop (9 * (k + 1)) table) in

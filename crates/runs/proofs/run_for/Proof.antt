@@ -1,6 +1,7 @@
 -- `runs::run_for` meets its contract: the state is judged, and then the model runs in words.
 use borrow.Author.Tests.{not-true, not-false}
 use Rattle.runs.proofs.RunLaws.{run-ill, run-went}
+use native.Mathlib.Omega.{arith}
 use borrow.Author.Needs.{needs}
 use Rattle.runs.proofs.run_for.Statement.{statement}
 use Rattle.runs.proofs.run_for.Tie as tie
@@ -29,14 +30,32 @@ slice-aggregate-chain c = search needs
 chain-requires : tie.Need-chain-requires
 chain-requires c κs = search needs
 
+slice-aggregate-unite : tie.Need-slice-aggregate-unite
+slice-aggregate-unite c = search needs
+
+unite-requires : tie.Need-unite-requires
+unite-requires c κs = let laid = c .before .before .before .before .before .before .before .before .before .before .before .before .before .before .before .before .pre .0 in (laid .at-most, omega (arith, laid .at-most), laid .heads-room)
+
+slice-aggregate-lay-leads : tie.Need-slice-aggregate-lay-leads
+slice-aggregate-lay-leads c = search needs
+
+lay-leads-requires : tie.Need-lay-leads-requires
+lay-leads-requires c κs = let p = c .before .before .before .before .before .before .before .before .before .before .before .before .before .before .before .before .before .before .before .before .pre in (p .0 .at-most, omega (arith, p .0 .at-most), p .0 .heads-room, omega (arith, p .1))
+
 slice-aggregate-advance : tie.Need-slice-aggregate-advance
 slice-aggregate-advance c = search needs
 
 slice-aggregate-advance-2 : tie.Need-slice-aggregate-advance-2
 slice-aggregate-advance-2 c = search needs
 
+slice-aggregate-advance-3 : tie.Need-slice-aggregate-advance-3
+slice-aggregate-advance-3 c = search needs
+
+slice-aggregate-advance-4 : tie.Need-slice-aggregate-advance-4
+slice-aggregate-advance-4 c = search needs
+
 advance-requires : tie.Need-advance-requires
-advance-requires c κs = let p = c .before .before .before .before .before .before .before .before .before .before .before .before .before .before .before .before .before .before .before .pre in (p .0, p .1, search needs, p .2, p .3, c .before .before .before .before .before .chain .ensures)
+advance-requires c κs = let p = c .before .before .before .before .before .before .before .before .before .before .before .before .before .before .before .before .before .before .before .before .before .before .before .before .before .before .before .before .pre in (p .0, p .1, search needs, p .2, p .3, c .before .before .before .before .before .before .before .before .before .before .before .before .before .before .chain .ensures, c .before .before .before .before .before .before .before .before .before .before .before .unite .ensures, c .before .before .before .before .before .before .before .lay-leads .ensures)
 
 slice-aggregate-read-state : tie.Need-slice-aggregate-read-state
 slice-aggregate-read-state c = search needs
@@ -51,7 +70,7 @@ same-length-2 : tie.Need-same-length-2
 same-length-2 c = search needs
 
 returns-2 : tie.Need-returns-2
-returns-2 c = let a = c .before .before .before .before .before .before .before .before .before .before .before .before .before .before .before .before .before .before .before .before .before .before .before .before .before .before .before .args in λ mo st. run-went (a .state) (a .table .now) (a .steps) mo (a .types .now) (a .buffers) (c .before .before .before .before .before .before .before .before .before .before .before .before .before .before .before .before .before .before .before .lay-state .last .1 .0) (c .before .before .before .before .before .before .before .before .before .before .before .before .before .before .before .before .well-formed .result) (c .before .before .before .before .before .before .before .before .before .before .before .before .before .before .before .before .well-formed .ensures) (c .before .before .before .before .before .before .before .before .before .before .before .before .before .before .before .before .before .before .before .lay-state .ensures) (st .its-buffers) (st .its-types) (not-false _ (c .before .before .before .before .before .before .before .before .before .before .before .before .before .before .before .if1 .left)) (c .before .before .before .before .before .before .before .advance .result) (c .read-state .result) (c .before .before .before .before .before .before .before .advance .last .0) _ (a .events .now) _ (c .read-state .ensures) (c .before .before .before .before .before .before .before .advance .ensures mo (st .its-rules) (st .its-facts) (st .its-failure))
+returns-2 c = let a = c .before .before .before .before .before .before .before .before .before .before .before .before .before .before .before .before .before .before .before .before .before .before .before .before .before .before .before .before .before .before .before .before .before .before .before .before .before .args in λ mo st. run-went (a .state) (a .table .now) (a .steps) mo (a .types .now) (a .buffers) (c .before .before .before .before .before .before .before .before .before .before .before .before .before .before .before .before .before .before .before .before .before .before .before .before .before .before .before .before .before .lay-state .last .1 .0) (c .before .before .before .before .before .before .before .before .before .before .before .before .before .before .before .before .before .before .before .before .before .before .before .before .before .before .well-formed .result) (c .before .before .before .before .before .before .before .before .before .before .before .before .before .before .before .before .before .before .before .before .before .before .before .before .before .before .well-formed .ensures) (c .before .before .before .before .before .before .before .before .before .before .before .before .before .before .before .before .before .before .before .before .before .before .before .before .before .before .before .before .before .lay-state .ensures) (st .its-buffers) (st .its-types) (not-false _ (c .before .before .before .before .before .before .before .before .before .before .before .before .before .before .before .before .before .before .before .before .before .before .before .before .before .if1 .left)) (c .before .before .before .before .before .before .before .before .advance .result) (c .read-state .result) (c .before .before .before .before .before .before .before .before .advance .last .0) _ (a .events .now) _ (c .read-state .ensures) (c .before .before .before .before .before .before .before .before .advance .ensures mo (st .its-rules) (st .its-facts) (st .its-failure))
 
 pub run-for-spec : {M : Type 1} → statement M
 run-for-spec =
@@ -65,8 +84,14 @@ run-for-spec =
     returns
     slice-aggregate-chain
     chain-requires
+    slice-aggregate-unite
+    unite-requires
+    slice-aggregate-lay-leads
+    lay-leads-requires
     slice-aggregate-advance
     slice-aggregate-advance-2
+    slice-aggregate-advance-3
+    slice-aggregate-advance-4
     advance-requires
     slice-aggregate-read-state
     read-state-requires

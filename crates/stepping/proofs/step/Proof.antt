@@ -11,7 +11,7 @@ enum-known-k : tie.Need-enum-known-k
 enum-known-k c = search needs
 
 fire-step-requires : tie.Need-fire-step-requires
-fire-step-requires c κs = let p = c .before .before .before .before .before .before .before .before .before .before .before .pre in (p .0, rule-below (c .before .before .k .given .1) (c .before .before .before .before .choose .ensures .1), p .1, p .2, p .3, p .4, p .5)
+fire-step-requires c κs = let p = c .before .before .before .before .before .before .before .before .before .before .before .before .pre in let a = c .before .before .before .before .before .before .before .before .before .before .before .before .args in (p .0, rule-below (c .before .before .k .given .1) (c .before .before .before .before .choose .ensures (a .heads .now) (a .words .now) (a .table .now) (p .6) .1), p .1, p .2, p .3, p .4, p .5)
 
 enum-told : tie.Need-enum-told
 enum-told c = search needs
@@ -24,16 +24,18 @@ same-length c = search needs
 
 returns : tie.Need-returns
 returns c =
-    let a = c .before .before .before .before .before .before .before .before .before .before .before .before .before .before .args in
-    step-fires (a .heads .now) (a .words .now) (a .n) (a .table .now) (a .facts .now) (a .m) (a .failure) (c .before .before .before .before .before .before .before .choose .ensures .0 (a .words .now)) _ (c .before .before .before .before .before .k .given .1) (c .before .before .fire-step .ensures)
+    let a = c .before .before .before .before .before .before .before .before .before .before .before .before .before .before .before .args in
+    let led = c .before .before .before .before .before .before .before .before .before .before .before .before .before .before .before .pre .6 in
+    step-fires (a .heads .now) (a .words .now) (a .n) (a .table .now) (a .facts .now) (a .m) (a .failure) (c .before .before .before .before .before .before .before .choose .ensures (a .heads .now) (a .words .now) (a .table .now) led .0) _ (c .before .before .before .before .before .k .given .1) (c .before .before .fire-step .ensures)
 
 same-length-2 : tie.Need-same-length-2
 same-length-2 c = search needs
 
 returns-2 : tie.Need-returns-2
 returns-2 c =
-    let a = c .before .before .before .before .before .before .before .before .before .before .before .before .before .args in
-    step-waits (a .heads .now) (a .words .now) (a .n) (a .table .now) (a .facts .now) (a .m) (a .failure) (c .before .before .before .before .before .before .choose .ensures .0 (a .words .now)) (c .before .before .before .before .enum-told .given .1) (c .before .before .wait-step .ensures)
+    let a = c .before .before .before .before .before .before .before .before .before .before .before .before .before .before .args in
+    let led = c .before .before .before .before .before .before .before .before .before .before .before .before .before .before .pre .6 in
+    step-waits (a .heads .now) (a .words .now) (a .n) (a .table .now) (a .facts .now) (a .m) (a .failure) (c .before .before .before .before .before .before .choose .ensures (a .heads .now) (a .words .now) (a .table .now) led .0) (c .before .before .before .before .enum-told .given .1) (c .before .before .wait-step .ensures)
 
 pub step-spec : {M : Type 1} → statement M
 step-spec =

@@ -9,7 +9,8 @@ use mathlib.Core.Logic.{⊎-elim}
 use Rattle.meaning.specs.Refresh.{refresh, refreshCount}
 use Rattle.layout.specs.Rows.{ruleIn, rulesIn}
 use Rattle.layout.specs.StateWords.{stateIn}
-use Rattle.tables.proofs.TableLaws.{doing, doing-start, doing-marked, doing-other, doing-end, counting, counting-start, counting-marked, counting-other, counting-end, mark-meets, mark-misses}
+use Rattle.tables.specs.Entries.{doing}
+use Rattle.tables.proofs.TableLaws.{doing-start, doing-marked, doing-other, doing-end, counting, counting-start, counting-marked, counting-other, counting-end, mark-meets, mark-misses}
 use Rattle.tables.proofs.refresh.Statement.{statement}
 use Rattle.tables.proofs.refresh.Tie as tie
 

@@ -1,0 +1,101 @@
+-- `tables::renew_part` meets its contract: the entries from a to k are done, and no other is touched.
+use Prim.Native.Nat.{ℕ, _≤_, _<_, _-_, _+_, _*_}
+use mathlib.Core.Path.{_≡_, refl, sym, ap, _∙_}
+use mathlib.Core.Logic.{⊎-elim}
+use mathlib.Core.List.{List}
+use native.Mathlib.Omega.{arith}
+use lib.ListN.{length, getD}
+use borrow.Author.Needs.{needs}
+use Rattle.meaning.specs.Match.{entryOf}
+use Rattle.laws.specs.EntryLaws.{entry-length}
+use Rattle.layout.specs.Rows.{ruleIn}
+use Rattle.layout.specs.StateWords.{stateIn}
+use Rattle.tables.specs.Entries.{doing}
+use Rattle.tables.proofs.TableLaws.{doing-marked, doing-other, mark-meets, mark-misses}
+use Rattle.tables.proofs.LeadLaws.{other-first}
+use Rattle.tables.proofs.renew_part.Statement.{statement}
+use Rattle.tables.proofs.renew_part.Tie as tie
+
+abbrev Inv-loop : tie.InvT-loop
+Inv-loop table₀ heads words n a e state mark k₀ table k = (a ≤ k) × (k ≤ e) × (length table ≡ 9 * n) × ((clock : ℕ) → doing (ruleIn heads words) (stateIn state clock) n mark k table ≡ doing (ruleIn heads words) (stateIn state clock) n mark a table₀) × ((j : ℕ) → (a ≤ j → j < e → ⊥) → getD table (9 * j) 0 ≡ getD table₀ (9 * j) 0)
+
+abbrev μ-loop : tie.MeasureT-loop
+μ-loop table₀ heads words n a e state mark k₀ table k = e - k
+
+loop-holds : tie.Need-loop-holds Inv-loop μ-loop
+loop-holds c = (search needs, search needs, search needs, λ clock. refl, λ j out. refl)
+
+mul-tested : tie.Need-mul-tested Inv-loop μ-loop
+mul-tested c = omega (arith, c .before .before .before .before .before .before .pre .0 .at-most)
+
+add-tested : tie.Need-add-tested Inv-loop μ-loop
+add-tested c = omega (arith, c .before .before .before .before .before .before .pre .0 .at-most)
+
+mul-tested-2 : tie.Need-mul-tested-2 Inv-loop μ-loop
+mul-tested-2 c = search needs
+
+shared-slice-read-tested : tie.Need-shared-slice-read-tested Inv-loop μ-loop
+shared-slice-read-tested c = omega (arith, c .before .before .before .before .before .before .before .pre .0 .heads-room)
+
+entry-at-requires : tie.Need-entry-at-requires Inv-loop μ-loop
+entry-at-requires c κs = (c .before .before .before .before .before .before .before .before .before .pre .0, search needs, c .before .before .before .before .loop .inv .2, search needs)
+
+add-k : tie.Need-add-k Inv-loop μ-loop
+add-k c = search needs
+
+loop-less : tie.Need-loop-less Inv-loop μ-loop
+loop-less c = search needs
+
+loop-again : tie.Need-loop-again Inv-loop μ-loop
+loop-again c =
+    let l = c .before .before .before .loop in
+    let a = c .before .before .before .before .before .before .before .before .args in
+    let laid = c .before .before .before .before .before .before .before .before .pre .0 in
+    let h : l .k < a .n = omega arith in
+    ⊎-elim
+    (λ w.
+    let m = mark-meets (a .heads .now) (a .words .now) (a .n) (l .k) (a .mark) laid h (w .0 .taken) in (
+      search needs,
+      search needs,
+      ap length (w .5) ∙ w .2 .kept .0 ∙ l .inv .2,
+      λ clock. doing-marked (ruleIn (a .heads .now) (a .words .now)) (stateIn (a .state .now) clock) (a .n) (l .k) h (l .table) (l .inv .2) (a .mark) (c .if1 .table) m (w .5 ∙ w .2 .ensures clock) ∙ l .inv .3 clock,
+      λ j out. ap (λ (t : List ℕ). getD t (9 * j) 0) (w .5 ∙ w .2 .ensures 0)
+          ∙ other-first (l .table) (l .k) (entryOf (ruleIn (a .heads .now) (a .words .now) (l .k)) (stateIn (a .state .now) 0)) (entry-length (ruleIn (a .heads .now) (a .words .now) (l .k)) (stateIn (a .state .now) 0)) (omega (arith, l .inv .2)) j (λ q. out (omega arith) (omega arith)) ∙ l .inv .4 j out,
+    ))
+    (λ w.
+    let m = mark-misses (a .heads .now) (a .words .now) (a .n) (l .k) (a .mark) laid h (w .0 .left) in (
+      search needs,
+      search needs,
+      ap length (w .1) ∙ l .inv .2,
+      λ clock. ap (doing (ruleIn (a .heads .now) (a .words .now)) (stateIn (a .state .now) clock) (a .n) (a .mark) (l .k + 1)) (w .1) ∙ doing-other (ruleIn (a .heads .now) (a .words .now)) (stateIn (a .state .now) clock) (a .n) (l .k) h (l .table) (l .inv .2) (a .mark) m ∙ l .inv .3 clock,
+      λ j out. ap (λ (t : List ℕ). getD t (9 * j) 0) (w .1) ∙ l .inv .4 j out,
+    ))
+    (c .if1 .came)
+
+same-length : tie.Need-same-length Inv-loop μ-loop
+same-length c = search needs
+
+returns : tie.Need-returns Inv-loop μ-loop
+returns c =
+    let l = c .before .loop in
+    let a = c .before .before .before .before .before .before .args in
+    let e : l .k ≡ a .e = omega arith in
+    (λ clock. ap (λ (i : ℕ). doing (ruleIn (a .heads .now) (a .words .now)) (stateIn (a .state .now) clock) (a .n) (a .mark) i (l .table)) (sym e) ∙ l .inv .3 clock, l .inv .4)
+
+pub renew-part-spec : {M : Type 1} → statement M
+renew-part-spec =
+    tie.close
+    (tie.spec
+    Inv-loop
+    μ-loop
+    loop-holds
+    mul-tested
+    add-tested
+    mul-tested-2
+    shared-slice-read-tested
+    entry-at-requires
+    add-k
+    loop-less
+    loop-again
+    same-length
+    returns)
