@@ -44,11 +44,11 @@ fn run_for(
     types: &[u16],
     buffers: u16,
     state: State,
-    steps: u16,
+    asked: u16,
     events: &mut [u32],
 ) -> RunDone
     requires { ⌜ Laid (now heads) (now words) n × (length (now table) ≡ 9 * n) × (m ≤ 512) × (11 * m ≤ length (now facts)) × (buffers ≤ 8) ⌝ }
-    ensures { λ r. ⌜ ((mo : Model) → Stands mo buffers (now (types .entry)) failure (now (facts .entry)) m (now (heads .entry)) (now (words .entry)) n → RunMet r (Got mo 0) state (now (table .entry)) (now (table .exit)) steps (now (events .entry)) (now (events .exit))) ⌝ }
+    ensures { λ r. ⌜ ((mo : Model) → Stands mo buffers (now (types .entry)) failure (now (facts .entry)) m (now (heads .entry)) (now (words .entry)) n → RunMet r (Got mo 0) state (now (table .entry)) (now (table .exit)) asked (now (events .entry)) (now (events .exit))) ⌝ }
 {
     let mut now = [0u16; 80];
     states::lay_state(state, &mut now);
@@ -72,7 +72,7 @@ fn run_for(
         &index,
         m,
         failure,
-        steps,
+        asked,
         events,
         &unions,
         &mut leads,

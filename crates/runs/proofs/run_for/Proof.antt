@@ -22,7 +22,7 @@ no-run-requires : tie.Need-no-run-requires
 no-run-requires c κs = search needs
 
 returns : tie.Need-returns
-returns c = let a = c .before .before .before .before .before .before .before .before .before .before .before .before .before .args in λ mo st. run-ill (a .state) (a .table .now) (a .steps) mo (a .types .now) (a .buffers) (c .before .before .before .before .before .lay-state .last .1 .0) (c .before .before .well-formed .result) (c .before .before .well-formed .ensures) (c .before .before .before .before .before .lay-state .ensures) (st .its-buffers) (st .its-types) (not-true _ (c .before .if1 .taken)) (c .no-run .result) (c .no-run .ensures) (a .events .now)
+returns c = let a = c .before .before .before .before .before .before .before .before .before .before .before .before .before .args in λ mo st. run-ill (a .state) (a .table .now) (a .asked) mo (a .types .now) (a .buffers) (c .before .before .before .before .before .lay-state .last .1 .0) (c .before .before .well-formed .result) (c .before .before .well-formed .ensures) (c .before .before .before .before .before .lay-state .ensures) (st .its-buffers) (st .its-types) (not-true _ (c .before .if1 .taken)) (c .no-run .result) (c .no-run .ensures) (a .events .now)
 
 slice-aggregate-chain : tie.Need-slice-aggregate-chain
 slice-aggregate-chain c = search needs
@@ -70,7 +70,7 @@ same-length-2 : tie.Need-same-length-2
 same-length-2 c = search needs
 
 returns-2 : tie.Need-returns-2
-returns-2 c = let a = c .before .before .before .before .before .before .before .before .before .before .before .before .before .before .before .before .before .before .before .before .before .before .before .before .before .before .before .before .before .before .before .before .before .before .before .before .before .args in λ mo st. run-went (a .state) (a .table .now) (a .steps) mo (a .types .now) (a .buffers) (c .before .before .before .before .before .before .before .before .before .before .before .before .before .before .before .before .before .before .before .before .before .before .before .before .before .before .before .before .before .lay-state .last .1 .0) (c .before .before .before .before .before .before .before .before .before .before .before .before .before .before .before .before .before .before .before .before .before .before .before .before .before .before .well-formed .result) (c .before .before .before .before .before .before .before .before .before .before .before .before .before .before .before .before .before .before .before .before .before .before .before .before .before .before .well-formed .ensures) (c .before .before .before .before .before .before .before .before .before .before .before .before .before .before .before .before .before .before .before .before .before .before .before .before .before .before .before .before .before .lay-state .ensures) (st .its-buffers) (st .its-types) (not-false _ (c .before .before .before .before .before .before .before .before .before .before .before .before .before .before .before .before .before .before .before .before .before .before .before .before .before .if1 .left)) (c .before .before .before .before .before .before .before .before .advance .result) (c .read-state .result) (c .before .before .before .before .before .before .before .before .advance .last .0) _ (a .events .now) _ (c .read-state .ensures) (c .before .before .before .before .before .before .before .before .advance .ensures mo (st .its-rules) (st .its-facts) (st .its-failure))
+returns-2 c = let a = c .before .before .before .before .before .before .before .before .before .before .before .before .before .before .before .before .before .before .before .before .before .before .before .before .before .before .before .before .before .before .before .before .before .before .before .before .before .args in λ mo st. run-went (a .state) (a .table .now) (a .asked) mo (a .types .now) (a .buffers) (c .before .before .before .before .before .before .before .before .before .before .before .before .before .before .before .before .before .before .before .before .before .before .before .before .before .before .before .before .before .lay-state .last .1 .0) (c .before .before .before .before .before .before .before .before .before .before .before .before .before .before .before .before .before .before .before .before .before .before .before .before .before .before .well-formed .result) (c .before .before .before .before .before .before .before .before .before .before .before .before .before .before .before .before .before .before .before .before .before .before .before .before .before .before .well-formed .ensures) (c .before .before .before .before .before .before .before .before .before .before .before .before .before .before .before .before .before .before .before .before .before .before .before .before .before .before .before .before .before .lay-state .ensures) (st .its-buffers) (st .its-types) (not-false _ (c .before .before .before .before .before .before .before .before .before .before .before .before .before .before .before .before .before .before .before .before .before .before .before .before .before .if1 .left)) (c .before .before .before .before .before .before .before .before .advance .result) (c .read-state .result) (c .before .before .before .before .before .before .before .before .advance .last .0) _ (a .events .now) _ (c .read-state .ensures) (c .before .before .before .before .before .before .before .before .advance .ensures mo (st .its-rules) (st .its-facts) (st .its-failure))
 
 pub run-for-spec : {M : Type 1} → statement M
 run-for-spec =
