@@ -1,7 +1,7 @@
 // The match of one rule: from its rows of words, with the state in words too and the variables lent, so that nothing is copied.
 ghost use mathlib.Core.Path.{_≡_};
 ghost use Prim.Native.Nat.{ℕ, _+_, _*_, _≤_};
-ghost use lib.ListN.{length};
+ghost use lib.ListN.{length, replicate};
 ghost use Rattle.meaning.specs.Base.{if_then_else_, same};
 ghost use Rattle.meaning.specs.Model.{Rule};
 ghost use Rattle.meaning.specs.Match.{entryOf};
@@ -76,6 +76,14 @@ fn copy_nine(nine: &mut [u16], from: &[u16])
     }
 }
 
+// The entry of a rule that does not match, into nine words.
+pub fn no_entry(nine: &mut [u16])
+    requires { ⌜ length (now nine) ≡ 9 ⌝ }
+    ensures { λ _. ⌜ now (nine .exit) ≡ replicate 9 0 ⌝ }
+{
+    copy_nine(nine, &[0u16; 9]);
+}
+
 // The fresh entry of the rule whose n tests stand in words from o on, into nine words.
 pub fn entry_into(nine: &mut [u16], words: &[u16], o: usize, n: usize, state: &[u16])
     requires { ⌜ (length (now nine) ≡ 9) × (o + 11 * n ≤ length (now words)) × (80 ≤ length (now state)) ⌝ }
@@ -96,7 +104,7 @@ pub fn entry_into(nine: &mut [u16], words: &[u16], o: usize, n: usize, state: &[
         ];
         copy_nine(nine, &matched);
     } else {
-        copy_nine(nine, &[0u16; 9]);
+        no_entry(nine);
     }
 }
 

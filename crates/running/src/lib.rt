@@ -5,6 +5,7 @@ ghost use Prim.Native.Nat.{ℕ, _+_, _*_, _≤_, _<_};
 ghost use lib.ListN.{length};
 ghost use Rattle.meaning.specs.Model.{Model};
 ghost use Rattle.layout.specs.Rows.{rulesIn, factsIn, Laid};
+ghost use Rattle.gates.specs.Gates.{Gated};
 ghost use Rattle.choice.specs.Ranks.{Led};
 ghost use Rattle.tables.specs.Unions.{United};
 ghost use Rattle.retrieval.specs.Chains.{Chained};
@@ -89,10 +90,11 @@ pub fn advance(
     failure: u16,
     steps: u16,
     events: &mut [u32],
+    gates: &[u16],
     unions: &[u16],
     leads: &mut [u32],
 ) -> Went
-    requires { ⌜ Laid (now heads) (now words) n × (length (now table) ≡ 9 * n) × (80 ≤ length (now state)) × (m ≤ 512) × (11 * m ≤ length (now facts)) × Chained (now index) (now facts) m × United (now heads) (now unions) n × Led (now heads) (now table) n (now leads) ⌝ }
+    requires { ⌜ Laid (now heads) (now words) n × (length (now table) ≡ 9 * n) × (80 ≤ length (now state)) × (m ≤ 512) × (11 * m ≤ length (now facts)) × Chained (now index) (now facts) m × United (now heads) (now unions) n × Led (now heads) (now table) n (now leads) × Gated (now gates) (now heads) (now words) n ⌝ }
     ensures { λ r. ⌜ ((mo : Model) → mo .rules ≡ rulesIn (now (heads .entry)) (now (words .entry)) n → mo .facts ≡ factsIn (now (facts .entry)) m → mo .failure ≡ failure → WentMet r mo (now (state .entry)) (now (state .exit)) clock (now (table .entry)) (now (table .exit)) steps (now (events .entry)) (now (events .exit))) ⌝ }
 {
     let mut now = clock;
@@ -119,7 +121,7 @@ pub fn advance(
             };
         }
         now += t.elapsed as u32;
-        tables::renew(table, leads, heads, words, n, unions, state, t.mark);
+        tables::renew(table, leads, heads, words, n, gates, unions, state, t.mark);
         note(events, made, now, t.kind, t.value);
         made += 1;
     }

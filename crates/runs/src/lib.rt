@@ -57,6 +57,8 @@ fn run_for(
     }
     let mut index = [0u16; 576];
     retrieval::chain(&mut index, facts, m);
+    let mut gates = [0u16; 512];
+    gates::lay_gates(&mut gates, words, n);
     let mut unions = [0u16; 16];
     tables::unite(&mut unions, heads, n);
     let mut leads = [0u32; 16];
@@ -74,6 +76,7 @@ fn run_for(
         failure,
         asked,
         events,
+        &gates,
         &unions,
         &mut leads,
     );

@@ -6,6 +6,7 @@ ghost use Rattle.meaning.specs.Match.{entryOf, freshTable};
 ghost use Rattle.meaning.specs.Refresh.{refresh, refreshCount};
 ghost use Rattle.layout.specs.Rows.{ruleIn, rulesIn, Laid};
 ghost use Rattle.layout.specs.StateWords.{stateIn};
+ghost use Rattle.gates.specs.Gates.{Gated};
 ghost use Rattle.choice.specs.Ranks.{Led};
 ghost use Rattle.tables.specs.Entries.{withEntry, doing};
 ghost use Rattle.tables.specs.Unions.{United};
@@ -19,6 +20,29 @@ fn entry_at(table: &mut [u16], k: usize, heads: &[u16], words: &[u16], n: usize,
     let a = 9 * k;
     let e = a + 9;
     matching::entry_into(&mut table[a..e], words, 176 * k, tests, state);
+}
+
+// The same of a rule with a test, where its gate is looked at first.
+fn gated_entry(
+    table: &mut [u16],
+    k: usize,
+    heads: &[u16],
+    words: &[u16],
+    n: usize,
+    gates: &[u16],
+    state: &[u16],
+)
+    requires { ⌜ Laid (now heads) (now words) n × (k < n) × (length (now table) ≡ 9 * n) × (80 ≤ length (now state)) × Gated (now gates) (now heads) (now words) n × (0 < getD (now heads) (4 * k) 0) ⌝ }
+    ensures { λ _. ⌜ ((clock : ℕ) → now (table .exit) ≡ withEntry (now (table .entry)) k (entryOf (ruleIn (now (heads .entry)) (now (words .entry)) k) (stateIn (now (state .entry)) clock))) ⌝ }
+{
+    let place = gates[2 * k] as usize;
+    if state[place] == gates[2 * k + 1] {
+        entry_at(table, k, heads, words, n, state);
+        return;
+    }
+    let start = 9 * k;
+    let end = start + 9;
+    matching::no_entry(&mut table[start..end]);
 }
 
 // The fresh table of n rules.
@@ -77,12 +101,13 @@ fn renew_part(
     heads: &[u16],
     words: &[u16],
     n: usize,
+    gates: &[u16],
     a: usize,
     e: usize,
     state: &[u16],
     mark: u16,
 )
-    requires { ⌜ Laid (now heads) (now words) n × (length (now table) ≡ 9 * n) × (80 ≤ length (now state)) × (a ≤ e) × (e ≤ n) ⌝ }
+    requires { ⌜ Laid (now heads) (now words) n × (length (now table) ≡ 9 * n) × (80 ≤ length (now state)) × (a ≤ e) × (e ≤ n) × Gated (now gates) (now heads) (now words) n ⌝ }
     ensures { λ _. ⌜ ((clock : ℕ) → doing (ruleIn (now (heads .entry)) (now (words .entry))) (stateIn (now (state .entry)) clock) n mark e (now (table .exit)) ≡ doing (ruleIn (now (heads .entry)) (now (words .entry))) (stateIn (now (state .entry)) clock) n mark a (now (table .entry))) ⌝ }
     ensures kept { λ _. ⌜ ((k : ℕ) → (a ≤ k → k < e → ⊥) → getD (now (table .exit)) (9 * k) 0 ≡ getD (now (table .entry)) (9 * k) 0) ⌝ }
 {
@@ -90,7 +115,7 @@ fn renew_part(
     while k < e {
         let tested = heads[4 * k + 3];
         if tested & mark != 0 {
-            entry_at(table, k, heads, words, n, state);
+            gated_entry(table, k, heads, words, n, gates, state);
         }
         k += 1;
     }
@@ -103,17 +128,18 @@ fn renew_block(
     heads: &[u16],
     words: &[u16],
     n: usize,
+    gates: &[u16],
     b: usize,
     state: &[u16],
     mark: u16,
 )
-    requires { ⌜ Laid (now heads) (now words) n × (length (now table) ≡ 9 * n) × (80 ≤ length (now state)) × (16 * b < n) × Led (now heads) (now table) n (now leads) ⌝ }
+    requires { ⌜ Laid (now heads) (now words) n × (length (now table) ≡ 9 * n) × (80 ≤ length (now state)) × (16 * b < n) × Led (now heads) (now table) n (now leads) × Gated (now gates) (now heads) (now words) n ⌝ }
     ensures { λ _. ⌜ ((clock : ℕ) → doing (ruleIn (now (heads .entry)) (now (words .entry))) (stateIn (now (state .entry)) clock) n mark (16 * (b + 1)) (now (table .exit)) ≡ doing (ruleIn (now (heads .entry)) (now (words .entry))) (stateIn (now (state .entry)) clock) n mark (16 * b) (now (table .entry))) ⌝ }
     ensures led { λ _. ⌜ Led (now (heads .entry)) (now (table .exit)) n (now (leads .exit)) ⌝ }
 {
     let a = 16 * b;
     let e = choice::block_end(b, n);
-    renew_part(table, heads, words, n, a, e, state, mark);
+    renew_part(table, heads, words, n, gates, a, e, state, mark);
     leads[b] = choice::lead(heads, table, a, e);
 }
 
@@ -124,18 +150,19 @@ pub fn renew(
     heads: &[u16],
     words: &[u16],
     n: usize,
+    gates: &[u16],
     unions: &[u16],
     state: &[u16],
     mark: u16,
 )
-    requires { ⌜ Laid (now heads) (now words) n × (length (now table) ≡ 9 * n) × (80 ≤ length (now state)) × United (now heads) (now unions) n × Led (now heads) (now table) n (now leads) ⌝ }
+    requires { ⌜ Laid (now heads) (now words) n × (length (now table) ≡ 9 * n) × (80 ≤ length (now state)) × United (now heads) (now unions) n × Led (now heads) (now table) n (now leads) × Gated (now gates) (now heads) (now words) n ⌝ }
     ensures { λ _. ⌜ ((clock : ℕ) → now (table .exit) ≡ refresh (rulesIn (now (heads .entry)) (now (words .entry)) n) (stateIn (now (state .entry)) clock) mark (now (table .entry))) ⌝ }
     ensures led { λ _. ⌜ Led (now (heads .entry)) (now (table .exit)) n (now (leads .exit)) ⌝ }
 {
     let mut b = 0;
     while 16 * b < n {
         if unions[b] & mark != 0 {
-            renew_block(table, leads, heads, words, n, b, state, mark);
+            renew_block(table, leads, heads, words, n, gates, b, state, mark);
         }
         b += 1;
     }

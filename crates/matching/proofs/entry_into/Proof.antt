@@ -20,29 +20,29 @@ slice-aggregate-match-tests c = search needs
 match-tests-requires : tie.Need-match-tests-requires
 match-tests-requires c κs = search needs
 
-array-read-t14 : tie.Need-array-read-t14
-array-read-t14 c = search needs
+array-read-t13 : tie.Need-array-read-t13
+array-read-t13 c = search needs
 
-array-read-t17 : tie.Need-array-read-t17
-array-read-t17 c = search needs
+array-read-t16 : tie.Need-array-read-t16
+array-read-t16 c = search needs
 
-array-read-t20 : tie.Need-array-read-t20
-array-read-t20 c = search needs
+array-read-t19 : tie.Need-array-read-t19
+array-read-t19 c = search needs
 
-array-read-t23 : tie.Need-array-read-t23
-array-read-t23 c = search needs
+array-read-t22 : tie.Need-array-read-t22
+array-read-t22 c = search needs
 
-array-read-t26 : tie.Need-array-read-t26
-array-read-t26 c = search needs
+array-read-t25 : tie.Need-array-read-t25
+array-read-t25 c = search needs
 
-array-read-t29 : tie.Need-array-read-t29
-array-read-t29 c = search needs
+array-read-t28 : tie.Need-array-read-t28
+array-read-t28 c = search needs
 
-array-read-t32 : tie.Need-array-read-t32
-array-read-t32 c = search needs
+array-read-t31 : tie.Need-array-read-t31
+array-read-t31 c = search needs
 
-array-read-t35 : tie.Need-array-read-t35
-array-read-t35 c = search needs
+array-read-t34 : tie.Need-array-read-t34
+array-read-t34 c = search needs
 
 slice-aggregate-copy-nine : tie.Need-slice-aggregate-copy-nine
 slice-aggregate-copy-nine c = search needs
@@ -50,11 +50,8 @@ slice-aggregate-copy-nine c = search needs
 copy-nine-requires : tie.Need-copy-nine-requires
 copy-nine-requires c κs = search needs
 
-slice-aggregate-copy-nine-2 : tie.Need-slice-aggregate-copy-nine-2
-slice-aggregate-copy-nine-2 c = search needs
-
-copy-nine-requires-2 : tie.Need-copy-nine-requires-2
-copy-nine-requires-2 c κs = search needs
+no-entry-requires : tie.Need-no-entry-requires
+no-entry-requires c κs = search needs
 
 same-length : tie.Need-same-length
 same-length c = search needs
@@ -73,9 +70,9 @@ same-length-2 c = search needs
 
 returns-2 : tie.Need-returns-2
 returns-2 c r clock e =
-    let a = c .before .before .before .before .before .before .before .before .before .before .before .before .args in
-    c .before .before .copy-nine2 .ensures
-    ∙ ap entryWords (sym (ap (λ (h : Bool). if h then on (varsIn (c .before .before .before .before .before .before .before .match-tests .last .1 .1 .1 .1 .0)) else stop) (c .before .before .before .before .before .if1 .left)) ∙ c .before .before .before .before .before .before .before .match-tests .ensures)
+    let a = c .before .before .before .before .before .before .before .before .before .before .before .args in
+    c .before .before .no-entry .ensures
+    ∙ ap entryWords (sym (ap (λ (h : Bool). if h then on (varsIn (c .before .before .before .before .before .before .match-tests .last .1 .1 .1 .1 .0)) else stop) (c .before .before .before .before .if1 .left)) ∙ c .before .before .before .before .before .before .match-tests .ensures)
     ∙ entry-words (a .words .now) (a .o) (a .n) r (stateIn (a .state .now) clock) e
 
 pub entry-into-spec : {M : Type 1} → statement M
@@ -84,18 +81,17 @@ entry-into-spec =
     (tie.spec
     slice-aggregate-match-tests
     match-tests-requires
-    array-read-t14
-    array-read-t17
-    array-read-t20
-    array-read-t23
-    array-read-t26
-    array-read-t29
-    array-read-t32
-    array-read-t35
+    array-read-t13
+    array-read-t16
+    array-read-t19
+    array-read-t22
+    array-read-t25
+    array-read-t28
+    array-read-t31
+    array-read-t34
     slice-aggregate-copy-nine
     copy-nine-requires
-    slice-aggregate-copy-nine-2
-    copy-nine-requires-2
+    no-entry-requires
     same-length
     returns
     same-length-2

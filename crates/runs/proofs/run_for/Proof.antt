@@ -30,17 +30,23 @@ slice-aggregate-chain c = search needs
 chain-requires : tie.Need-chain-requires
 chain-requires c κs = search needs
 
+slice-aggregate-lay-gates : tie.Need-slice-aggregate-lay-gates
+slice-aggregate-lay-gates c = search needs
+
+lay-gates-requires : tie.Need-lay-gates-requires
+lay-gates-requires c κs = let laid = c .before .before .before .before .before .before .before .before .before .before .before .before .before .before .before .before .pre .0 in (laid .at-most, omega (arith, laid .at-most), laid .words-room)
+
 slice-aggregate-unite : tie.Need-slice-aggregate-unite
 slice-aggregate-unite c = search needs
 
 unite-requires : tie.Need-unite-requires
-unite-requires c κs = let laid = c .before .before .before .before .before .before .before .before .before .before .before .before .before .before .before .before .pre .0 in (laid .at-most, omega (arith, laid .at-most), laid .heads-room)
+unite-requires c κs = let laid = c .before .before .before .before .before .before .before .before .before .before .before .before .before .before .before .before .before .before .before .pre .0 in (laid .at-most, omega (arith, laid .at-most), laid .heads-room)
 
 slice-aggregate-lay-leads : tie.Need-slice-aggregate-lay-leads
 slice-aggregate-lay-leads c = search needs
 
 lay-leads-requires : tie.Need-lay-leads-requires
-lay-leads-requires c κs = let p = c .before .before .before .before .before .before .before .before .before .before .before .before .before .before .before .before .before .before .before .before .pre in (p .0 .at-most, omega (arith, p .0 .at-most), p .0 .heads-room, omega (arith, p .1))
+lay-leads-requires c κs = let p = c .before .before .before .before .before .before .before .before .before .before .before .before .before .before .before .before .before .before .before .before .before .before .before .pre in (p .0 .at-most, omega (arith, p .0 .at-most), p .0 .heads-room, omega (arith, p .1))
 
 slice-aggregate-advance : tie.Need-slice-aggregate-advance
 slice-aggregate-advance c = search needs
@@ -54,8 +60,11 @@ slice-aggregate-advance-3 c = search needs
 slice-aggregate-advance-4 : tie.Need-slice-aggregate-advance-4
 slice-aggregate-advance-4 c = search needs
 
+slice-aggregate-advance-5 : tie.Need-slice-aggregate-advance-5
+slice-aggregate-advance-5 c = search needs
+
 advance-requires : tie.Need-advance-requires
-advance-requires c κs = let p = c .before .before .before .before .before .before .before .before .before .before .before .before .before .before .before .before .before .before .before .before .before .before .before .before .before .before .before .before .pre in (p .0, p .1, search needs, p .2, p .3, c .before .before .before .before .before .before .before .before .before .before .before .before .before .before .chain .ensures, c .before .before .before .before .before .before .before .before .before .before .before .unite .ensures, c .before .before .before .before .before .before .before .lay-leads .ensures)
+advance-requires c κs = let p = c .before .before .before .before .before .before .before .before .before .before .before .before .before .before .before .before .before .before .before .before .before .before .before .before .before .before .before .before .before .before .before .before .pre in (p .0, p .1, search needs, p .2, p .3, c .before .before .before .before .before .before .before .before .before .before .before .before .before .before .before .before .before .before .chain .ensures, c .before .before .before .before .before .before .before .before .before .before .before .before .unite .ensures, c .before .before .before .before .before .before .before .before .lay-leads .ensures, c .before .before .before .before .before .before .before .before .before .before .before .before .before .before .before .lay-gates .ensures (c .before .before .before .before .before .before .before .before .before .before .before .before .before .before .before .before .before .before .before .before .before .before .before .before .before .before .before .before .before .before .before .before .args .heads .now))
 
 slice-aggregate-read-state : tie.Need-slice-aggregate-read-state
 slice-aggregate-read-state c = search needs
@@ -70,7 +79,7 @@ same-length-2 : tie.Need-same-length-2
 same-length-2 c = search needs
 
 returns-2 : tie.Need-returns-2
-returns-2 c = let a = c .before .before .before .before .before .before .before .before .before .before .before .before .before .before .before .before .before .before .before .before .before .before .before .before .before .before .before .before .before .before .before .before .before .before .before .before .before .args in λ mo st. run-went (a .state) (a .table .now) (a .asked) mo (a .types .now) (a .buffers) (c .before .before .before .before .before .before .before .before .before .before .before .before .before .before .before .before .before .before .before .before .before .before .before .before .before .before .before .before .before .lay-state .last .1 .0) (c .before .before .before .before .before .before .before .before .before .before .before .before .before .before .before .before .before .before .before .before .before .before .before .before .before .before .well-formed .result) (c .before .before .before .before .before .before .before .before .before .before .before .before .before .before .before .before .before .before .before .before .before .before .before .before .before .before .well-formed .ensures) (c .before .before .before .before .before .before .before .before .before .before .before .before .before .before .before .before .before .before .before .before .before .before .before .before .before .before .before .before .before .lay-state .ensures) (st .its-buffers) (st .its-types) (not-false _ (c .before .before .before .before .before .before .before .before .before .before .before .before .before .before .before .before .before .before .before .before .before .before .before .before .before .if1 .left)) (c .before .before .before .before .before .before .before .before .advance .result) (c .read-state .result) (c .before .before .before .before .before .before .before .before .advance .last .0) _ (a .events .now) _ (c .read-state .ensures) (c .before .before .before .before .before .before .before .before .advance .ensures mo (st .its-rules) (st .its-facts) (st .its-failure))
+returns-2 c = let a = c .before .before .before .before .before .before .before .before .before .before .before .before .before .before .before .before .before .before .before .before .before .before .before .before .before .before .before .before .before .before .before .before .before .before .before .before .before .before .before .before .before .args in λ mo st. run-went (a .state) (a .table .now) (a .asked) mo (a .types .now) (a .buffers) (c .before .before .before .before .before .before .before .before .before .before .before .before .before .before .before .before .before .before .before .before .before .before .before .before .before .before .before .before .before .before .before .before .before .lay-state .last .1 .0) (c .before .before .before .before .before .before .before .before .before .before .before .before .before .before .before .before .before .before .before .before .before .before .before .before .before .before .before .before .before .before .well-formed .result) (c .before .before .before .before .before .before .before .before .before .before .before .before .before .before .before .before .before .before .before .before .before .before .before .before .before .before .before .before .before .before .well-formed .ensures) (c .before .before .before .before .before .before .before .before .before .before .before .before .before .before .before .before .before .before .before .before .before .before .before .before .before .before .before .before .before .before .before .before .before .lay-state .ensures) (st .its-buffers) (st .its-types) (not-false _ (c .before .before .before .before .before .before .before .before .before .before .before .before .before .before .before .before .before .before .before .before .before .before .before .before .before .before .before .before .before .if1 .left)) (c .before .before .before .before .before .before .before .before .advance .result) (c .read-state .result) (c .before .before .before .before .before .before .before .before .advance .last .0) _ (a .events .now) _ (c .read-state .ensures) (c .before .before .before .before .before .before .before .before .advance .ensures mo (st .its-rules) (st .its-facts) (st .its-failure))
 
 pub run-for-spec : {M : Type 1} → statement M
 run-for-spec =
@@ -84,6 +93,8 @@ run-for-spec =
     returns
     slice-aggregate-chain
     chain-requires
+    slice-aggregate-lay-gates
+    lay-gates-requires
     slice-aggregate-unite
     unite-requires
     slice-aggregate-lay-leads
@@ -92,6 +103,7 @@ run-for-spec =
     slice-aggregate-advance-2
     slice-aggregate-advance-3
     slice-aggregate-advance-4
+    slice-aggregate-advance-5
     advance-requires
     slice-aggregate-read-state
     read-state-requires

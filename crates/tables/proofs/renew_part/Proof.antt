@@ -11,34 +11,39 @@ use Rattle.laws.specs.EntryLaws.{entry-length}
 use Rattle.layout.specs.Rows.{ruleIn}
 use Rattle.layout.specs.StateWords.{stateIn}
 use Rattle.tables.specs.Entries.{doing}
-use Rattle.tables.proofs.TableLaws.{doing-marked, doing-other, mark-meets, mark-misses}
+use Rattle.tables.proofs.TableLaws.{doing-marked, doing-other, mark-meets, mark-misses, marked-some}
 use Rattle.tables.proofs.LeadLaws.{other-first}
 use Rattle.tables.proofs.renew_part.Statement.{statement}
 use Rattle.tables.proofs.renew_part.Tie as tie
 
 abbrev Inv-loop : tie.InvT-loop
-Inv-loop table₀ heads words n a e state mark k₀ table k = (a ≤ k) × (k ≤ e) × (length table ≡ 9 * n) × ((clock : ℕ) → doing (ruleIn heads words) (stateIn state clock) n mark k table ≡ doing (ruleIn heads words) (stateIn state clock) n mark a table₀) × ((j : ℕ) → (a ≤ j → j < e → ⊥) → getD table (9 * j) 0 ≡ getD table₀ (9 * j) 0)
+Inv-loop table₀ heads words n gates a e state mark k₀ table k = (a ≤ k) × (k ≤ e) × (length table ≡ 9 * n) × ((clock : ℕ) → doing (ruleIn heads words) (stateIn state clock) n mark k table ≡ doing (ruleIn heads words) (stateIn state clock) n mark a table₀) × ((j : ℕ) → (a ≤ j → j < e → ⊥) → getD table (9 * j) 0 ≡ getD table₀ (9 * j) 0)
 
 abbrev μ-loop : tie.MeasureT-loop
-μ-loop table₀ heads words n a e state mark k₀ table k = e - k
+μ-loop table₀ heads words n gates a e state mark k₀ table k = e - k
 
 loop-holds : tie.Need-loop-holds Inv-loop μ-loop
 loop-holds c = (search needs, search needs, search needs, λ clock. refl, λ j out. refl)
 
 mul-tested : tie.Need-mul-tested Inv-loop μ-loop
-mul-tested c = omega (arith, c .before .before .before .before .before .before .pre .0 .at-most)
+mul-tested c = omega (arith, c .before .before .before .before .before .before .before .pre .0 .at-most)
 
 add-tested : tie.Need-add-tested Inv-loop μ-loop
-add-tested c = omega (arith, c .before .before .before .before .before .before .pre .0 .at-most)
+add-tested c = omega (arith, c .before .before .before .before .before .before .before .pre .0 .at-most)
 
 mul-tested-2 : tie.Need-mul-tested-2 Inv-loop μ-loop
 mul-tested-2 c = search needs
 
 shared-slice-read-tested : tie.Need-shared-slice-read-tested Inv-loop μ-loop
-shared-slice-read-tested c = omega (arith, c .before .before .before .before .before .before .before .pre .0 .heads-room)
+shared-slice-read-tested c = omega (arith, c .before .before .before .before .before .before .before .before .pre .0 .heads-room)
 
-entry-at-requires : tie.Need-entry-at-requires Inv-loop μ-loop
-entry-at-requires c κs = (c .before .before .before .before .before .before .before .before .before .pre .0, search needs, c .before .before .before .before .loop .inv .2, search needs)
+gated-entry-requires : tie.Need-gated-entry-requires Inv-loop μ-loop
+gated-entry-requires c κs =
+    let a = c .before .before .before .before .before .before .before .before .before .before .args in
+    let p = c .before .before .before .before .before .before .before .before .before .before .pre in
+    let l = c .before .before .before .before .loop in
+    let h : l .k < a .n = omega arith in
+    (p .0, h, l .inv .2, p .2, p .5, marked-some (a .heads .now) (a .words .now) (l .k) (a .mark) (mark-meets (a .heads .now) (a .words .now) (a .n) (l .k) (a .mark) (p .0) h (c .before .if1 .taken)))
 
 add-k : tie.Need-add-k Inv-loop μ-loop
 add-k c = search needs
@@ -49,8 +54,8 @@ loop-less c = search needs
 loop-again : tie.Need-loop-again Inv-loop μ-loop
 loop-again c =
     let l = c .before .before .before .loop in
-    let a = c .before .before .before .before .before .before .before .before .args in
-    let laid = c .before .before .before .before .before .before .before .before .pre .0 in
+    let a = c .before .before .before .before .before .before .before .before .before .args in
+    let laid = c .before .before .before .before .before .before .before .before .before .pre .0 in
     let h : l .k < a .n = omega arith in
     ⊎-elim
     (λ w.
@@ -78,7 +83,7 @@ same-length c = search needs
 returns : tie.Need-returns Inv-loop μ-loop
 returns c =
     let l = c .before .loop in
-    let a = c .before .before .before .before .before .before .args in
+    let a = c .before .before .before .before .before .before .before .args in
     let e : l .k ≡ a .e = omega arith in
     (λ clock. ap (λ (i : ℕ). doing (ruleIn (a .heads .now) (a .words .now)) (stateIn (a .state .now) clock) (a .n) (a .mark) i (l .table)) (sym e) ∙ l .inv .3 clock, l .inv .4)
 
@@ -93,7 +98,7 @@ renew-part-spec =
     add-tested
     mul-tested-2
     shared-slice-read-tested
-    entry-at-requires
+    gated-entry-requires
     add-k
     loop-less
     loop-again

@@ -1,0 +1,2 @@
+-- Laws of the gates.
+pub mod GateLaws
