@@ -4,6 +4,7 @@ use mathlib.Core.Path.{_≡_, refl, sym, ap, _∙_}
 use mathlib.Core.List.{List}
 use native.Mathlib.Nat.{zero-min, min-zero, max-le}
 use native.Mathlib.Omega.{arith}
+use native.Mathlib.Decide.{ℕ-discrete}
 use lib.Bits.{bitAnd, bitOr, and-step, or-step, or-comm, and-zero-l}
 use lib.ListN.{length, getD, set}
 use lib.Seq.{getD-set-same, getD-set-other}
@@ -37,20 +38,18 @@ module _ (a b mark : ℕ) (e : bitAnd (bitOr a b) mark ≡ 0) where
   misses-right : bitAnd b mark ≡ 0
   misses-right = misses-by b b a mark (omega arith) (ap (λ (x : ℕ). bitAnd x mark) (or-comm b a) ∙ e)
 
-by-same : {C : Type 0} (a b : ℕ) → (a ≡ b → C) → ((a ≡ b → ⊥) → C) → C
-by-same a b f g = by-lt a b (λ h. g (λ e. omega arith)) (λ h. by-lt b a (λ k. g (λ e. omega arith)) (λ k. f (omega arith)))
-
 -- rule k with the block that it is in
 pub united-turn : (heads unions : List ℕ) (k : ℕ) → k / 16 < length unions → UnitedBelow heads unions k
     → UnitedBelow heads (set unions (k / 16) (bitOr (getD unions (k / 16) 0) (getD heads (4 * k + 3) 0))) (k + 1)
 united-turn heads unions k room united b j mark inside h e =
-    by-same b (k / 16)
-    (λ s.
-    let both : bitAnd (bitOr (getD unions (k / 16) 0) (getD heads (4 * k + 3) 0)) mark ≡ 0 =
-    ap (λ (x : ℕ). bitAnd x mark) (sym (getD-set-same unions (k / 16) _ 0 room)) ∙ (rw s at e) in
-    by-lt j k
-    (λ l. united b j mark inside l (ap (λ (i : ℕ). bitAnd (getD unions i 0) mark) s ∙ misses-left (getD unions (k / 16) 0) (getD heads (4 * k + 3) 0) mark both))
-    (λ l. let q : j ≡ k = omega arith in rw q (misses-right (getD unions (k / 16) 0) (getD heads (4 * k + 3) 0) mark both)))
-    (λ d. by-lt j k
-    (λ l. united b j mark inside l (ap (λ (x : ℕ). bitAnd x mark) (sym (getD-set-other unions (k / 16) b _ 0 d)) ∙ e))
-    (λ l. absurd (d (omega (arith, inside .from, inside .below)))))
+    elim (ℕ-discrete b (k / 16)) [
+      | yes s ↦
+          let both : bitAnd (bitOr (getD unions (k / 16) 0) (getD heads (4 * k + 3) 0)) mark ≡ 0 =
+          ap (λ (x : ℕ). bitAnd x mark) (sym (getD-set-same unions (k / 16) _ 0 room)) ∙ (rw s at e) in
+          by-lt j k
+          (λ l. united b j mark inside l (ap (λ (i : ℕ). bitAnd (getD unions i 0) mark) s ∙ misses-left (getD unions (k / 16) 0) (getD heads (4 * k + 3) 0) mark both))
+          (λ l. let q : j ≡ k = omega arith in rw q (misses-right (getD unions (k / 16) 0) (getD heads (4 * k + 3) 0) mark both))
+      | no d ↦ by-lt j k
+          (λ l. united b j mark inside l (ap (λ (x : ℕ). bitAnd x mark) (sym (getD-set-other unions (k / 16) b _ 0 d)) ∙ e))
+          (λ l. absurd (d (omega (arith, inside .from, inside .below))))
+    ]
