@@ -6,6 +6,7 @@ pub mod FieldLaws
 pub mod WindowLaws
 pub mod MaskLaws
 pub mod ReadLaws
+pub mod PartsLaws
 pub mod OpenLaws
 pub mod ChoiceLaws
 pub mod RetrievalLaws

@@ -13,13 +13,14 @@ use Rattle.meaning.specs.declared.State.{State}
 use Rattle.meaning.specs.Base.{if_then_else_, all}
 use Rattle.meaning.specs.Model.{Model, Chunk}
 use Rattle.meaning.specs.State.{nilAfter, slotCount, wellBuffer, isNil, wellFormed}
-use Rattle.meaning.specs.Read.{Read, Refused, Got, field, times}
-use Rattle.meaning.specs.Image.{header, Header, chunk, aType, anything, eight, between, fact, rule, ending, model, decode}
+use Rattle.meaning.specs.Read.{Got, field, times}
+use Rattle.meaning.specs.Image.{chunk, aType, anything, eight, decode}
 use Rattle.meaning.specs.Calls.{opens, openState}
 use Rattle.laws.specs.FieldLaws.{fieldAt-lt}
 use Rattle.laws.specs.BoolLaws.{and-left, and-right}
 use Rattle.laws.specs.ListLaws.{all-append, all-map, all-replicate}
-use Rattle.laws.specs.ReadLaws.{no-got, FieldRead, field-got, must-kept, split, times-all}
+use Rattle.laws.specs.ReadLaws.{FieldRead, field-got, must-kept, split, times-all}
+use Rattle.laws.specs.PartsLaws.{Parts, parts}
 
 all-zeros : (n : ℕ) → all (λ v. eqb v 0) (replicate n 0) ≡ true
 all-zeros zero = refl
@@ -68,40 +69,10 @@ open-made m counts k a l =
     drop-at (map opens (m .opening)) (replicate (8 - m .buffers) (nilAfter 0)) (m .buffers) (length-map (m .opening) opens ∙ l) in
     rw (t, d) (all-replicate isNil (8 - m .buffers) (nilAfter 0) refl)
 
--- what a decoded model's opening has, with the reading taken apart once
-pub record OpensWell (m : Model) : Type 0 where
-  pub counts : List ℕ
-  pub types-are : m .types ≡ 0 ∷ counts
-  pub all-well : all (λ c. wellBuffer (m .types) (opens c)) (m .opening) ≡ true
-  pub as-many : length (m .opening) ≡ m .buffers
-
-module _ (image : List ℕ) (m : Model) (end : ℕ) where
-  model-opens : model image 0 ≡ Got m end → OpensWell m
-  unfolding model
-  model-opens e =
-      split (header image 0) _ e λ h n₁ e₁ k₁.
-      split (times (h .declared) (field 4 (between 0 8)) image n₁) _ k₁ λ counts n₂ e₂ k₂.
-      split (times (h .buffers) (chunk (0 ∷ counts) 0) image n₂) _ k₂ λ opening n₃ e₃ k₃.
-      split (times (h .facts) (fact (0 ∷ counts)) image n₃) _ k₃ λ facts n₄ e₄ k₄.
-      split (times (h .rules) (rule (record { buffers = h .buffers; types = 0 ∷ counts })) image n₄) _ k₄ λ rules n₅ e₅ k₅.
-      split (ending image n₅) _ k₅ λ u n₆ e₆ k₆.
-      let m-is : m ≡ record { buffers = h .buffers; types = 0 ∷ counts; failure = h .failure; opening = opening; facts = facts; rules = rules } = made k₆ in
-      finish h counts opening n₂ n₃ e₃ (ap (λ (x : Model). x .types) m-is, ap (λ (x : Model). x .opening) m-is, ap (λ (x : Model). x .buffers) m-is)
-    where
-      finish : (h : Header) (counts : List ℕ) (opening : List Chunk) (at next : ℕ) → times (h .buffers) (chunk (0 ∷ counts) 0) image at ≡ Got opening next
-          → (m .types ≡ 0 ∷ counts) × (m .opening ≡ opening) × (m .buffers ≡ h .buffers) → OpensWell m
-      finish h counts opening at next e q =
-          let r : (all (λ c. wellBuffer (0 ∷ counts) (opens c)) opening ≡ true) × (length opening ≡ h .buffers) = times-all (chunk (0 ∷ counts) 0) (λ c. wellBuffer (0 ∷ counts) (opens c)) (chunk-well (0 ∷ counts) 0) (h .buffers) image at opening next e in
-          record { counts = counts; types-are = q .0; all-well = rw (q .0, q .1) (r .0); as-many = rw (q .1, q .2) (r .1) }
-
-      made : {x : Model} {n : ℕ} → Got x n ≡ Got m end → m ≡ x
-      made e = cc
-
 -- "Number 6 likewise": what open gives is well formed
 pub open-well : (image : List ℕ) (m : Model) (at : ℕ) → decode image ≡ Got m at → wellFormed m (openState m) ≡ true
-unfolding decode
 open-well image m at e =
-    (elim (ltb 65536 (length image)) as (λ t. (if t then Refused 1 0 else model image 0) ≡ Got m at → wellFormed m (openState m) ≡ true) [
-      | true ↦ λ h. absurd (no-got 1 0 m at h)
-      | false ↦ λ h. let o : OpensWell m = model-opens image m at h in open-made m (o .counts) (o .types-are) (o .all-well) (o .as-many)
-    ]) e
+    let p : Parts image m = parts image m at e in
+    let o : (all (λ c. wellBuffer (m .types) (opens c)) (m .opening) ≡ true) × (length (m .opening) ≡ m .buffers) =
+    times-all (chunk (m .types) 0) (λ c. wellBuffer (m .types) (opens c)) (chunk-well (m .types) 0) (m .buffers) image (p .opening-at) (m .opening) (p .facts-at) (p .opening-read) in
+    open-made m (p .counts) (p .types-are) (o .0) (o .1)

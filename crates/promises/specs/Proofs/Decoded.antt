@@ -8,11 +8,11 @@ use borrow.Author.Tests.{ltb-true, ltb-false, lt-ltb, le-leb, eqb-true, eq-eqb}
 use lib.Dec.{ltb, leb, eqb}
 use lib.ListN.{length}
 use Rattle.meaning.specs.Base.{if_then_else_, all, count}
-use Rattle.meaning.specs.Numbers.{too-long, bad-variable}
+use Rattle.meaning.specs.Numbers.{bad-variable}
 use Rattle.meaning.specs.Model.{Model, Sizes, Rule, Test, Action, Deed, Modify, Request, Clear, Named, Term, Symbol, Variable, Fact}
 use Rattle.meaning.specs.State.{slotCount, wellBuffer}
 use Rattle.meaning.specs.Read.{Refused, Got, Reader, field, require, times, rising}
-use Rattle.meaning.specs.Image.{anything, between, aType, aBuffer, aMask, aTerm, aKind, Header, header, chunk, fact, slotsIn, termOf, terms, masked, tests, standsIn, isTested, testedType, deed, action, actions, utilityOf, rule, ending, model, decode}
+use Rattle.meaning.specs.Image.{anything, between, aType, aBuffer, aMask, aTerm, aKind, Header, header, chunk, fact, slotsIn, termOf, terms, masked, tests, standsIn, isTested, testedType, deed, action, actions, utilityOf, rule, decode}
 use Rattle.meaning.specs.Calls.{opens}
 use Rattle.laws.specs.BoolLaws.{no-true, and-left, and-right}
 use Rattle.laws.specs.FieldLaws.{fieldAt-lt}
@@ -20,6 +20,7 @@ use Rattle.laws.specs.ListLaws.{every-count}
 use Rattle.laws.specs.ReadLaws.{no-got, FieldRead, field-got, must-kept, between-got, split, times-all}
 use Rattle.laws.specs.WindowLaws.{by-lt}
 use Rattle.laws.specs.OpenLaws.{chunk-well}
+use Rattle.laws.specs.PartsLaws.{Parts, parts}
 
 pub and-true : (a b : Bool) → a ≡ true → b ≡ true → (a && b) ≡ true
 and-true true b p q = q
@@ -223,29 +224,20 @@ pub record Decoded (m : Model) : Type 0 where
   pub facts-well : all (λ f. wellBuffer (m .types) (opens (f .chunk))) (m .facts) ≡ true
   pub rules-good : all (goodRule (m .buffers) (m .types)) (m .rules) ≡ true
 
-module _ (image : List ℕ) (m : Model) (end : ℕ) where
-  model-decoded : model image 0 ≡ Got m end → Decoded m
-  unfolding model
-  model-decoded e =
-      split (header image 0) _ e λ h n₁ e₁ k₁.
-      split (times (h .declared) (field 4 (between 0 8)) image n₁) _ k₁ λ counts n₂ e₂ k₂.
-      split (times (h .buffers) (chunk (0 ∷ counts) 0) image n₂) _ k₂ λ opening n₃ e₃ k₃.
-      split (times (h .facts) (fact (0 ∷ counts)) image n₃) _ k₃ λ facts n₄ e₄ k₄.
-      split (times (h .rules) (rule (record { buffers = h .buffers; types = 0 ∷ counts })) image n₄) _ k₄ λ rules n₅ e₅ k₅.
-      split (ending image n₅) _ k₅ λ u n₆ e₆ k₆.
-      let m-is : m ≡ record { buffers = h .buffers; types = 0 ∷ counts; failure = h .failure; opening = opening; facts = facts; rules = rules } = made k₆ in
-      let f : (all (λ f. wellBuffer (0 ∷ counts) (opens (f .chunk))) facts ≡ true) × (length facts ≡ h .facts) = times-all (fact (0 ∷ counts)) (λ f. wellBuffer (0 ∷ counts) (opens (f .chunk))) (fact-well (0 ∷ counts)) (h .facts) image n₃ facts n₄ e₄ in
-      let r : (all (goodRule (h .buffers) (0 ∷ counts)) rules ≡ true) × (length rules ≡ h .rules) =
-      times-all (rule (record { buffers = h .buffers; types = 0 ∷ counts })) (goodRule (h .buffers) (0 ∷ counts)) (rule-good (record { buffers = h .buffers; types = 0 ∷ counts })) (h .rules) image n₄ rules n₅ e₅ in
-      rw m-is (record { counts = counts; types-are = refl; few = few-buffers image 0 h n₁ e₁; opens-all = times-all (chunk (0 ∷ counts) 0) (λ c. true) (λ i a c n k. refl) (h .buffers) image n₂ opening n₃ e₃ .1; facts-well = f .0; rules-good = r .0 })
-    where
-      made : {x : Model} {n : ℕ} → Got x n ≡ Got m end → m ≡ x
-      made e = cc
-
 pub decoded : (image : List ℕ) (m : Model) (at : ℕ) → decode image ≡ Got m at → Decoded m
-unfolding decode
 decoded image m at e =
-    (elim (ltb 65536 (length image)) as (λ t. (if t then Refused too-long 0 else model image 0) ≡ Got m at → Decoded m) [
-      | true ↦ λ h. absurd (no-got too-long 0 m at h)
-      | false ↦ λ h. model-decoded image m at h
-    ]) e
+    let p : Parts image m = parts image m at e in
+    let z : Sizes = record { buffers = m .buffers; types = m .types } in
+    let few : m .buffers ≤ 8 = rw (p .buffers-are) (few-buffers image 0 (p .head) (p .types-at) (p .head-read)) in
+    let f : (all (λ f. wellBuffer (m .types) (opens (f .chunk))) (m .facts) ≡ true) × (length (m .facts) ≡ p .head .facts) =
+    times-all (fact (m .types)) (λ f. wellBuffer (m .types) (opens (f .chunk))) (fact-well (m .types)) (p .head .facts) image (p .facts-at) (m .facts) (p .rules-at) (p .facts-read) in
+    let r : (all (goodRule (m .buffers) (m .types)) (m .rules) ≡ true) × (length (m .rules) ≡ p .head .rules) =
+    times-all (rule z) (goodRule (m .buffers) (m .types)) (rule-good z) (p .head .rules) image (p .rules-at) (m .rules) (p .end) (p .rules-read) in
+    record {
+      counts = p .counts;
+      types-are = p .types-are;
+      few = few;
+      opens-all = times-all (chunk (m .types) 0) (λ c. true) (λ i a c n k. refl) (m .buffers) image (p .opening-at) (m .opening) (p .facts-at) (p .opening-read) .1;
+      facts-well = f .0;
+      rules-good = r .0;
+    }
