@@ -40,7 +40,7 @@ other-first table k nine l room j ne =
 -- ---- the leads
 
 -- a top stays where the first words of its rules do
-top-stays : (heads table table′ : List ℕ) (a e r : ℕ) → ((k : ℕ) → a ≤ k → k < e → getD table′ (9 * k) 0 ≡ getD table (9 * k) 0)
+pub top-stays : (heads table table′ : List ℕ) (a e r : ℕ) → ((k : ℕ) → a ≤ k → k < e → getD table′ (9 * k) 0 ≡ getD table (9 * k) 0)
     → Top heads table a e r → Top heads table′ a e r
 top-stays heads table table′ a e r same top =
     record {

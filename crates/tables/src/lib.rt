@@ -7,7 +7,7 @@ ghost use Rattle.meaning.specs.Refresh.{refresh, refreshCount};
 ghost use Rattle.layout.specs.Rows.{ruleIn, rulesIn, Laid};
 ghost use Rattle.layout.specs.StateWords.{stateIn};
 ghost use Rattle.gates.specs.Gates.{Gated};
-ghost use Rattle.choice.specs.Ranks.{Led};
+ghost use Rattle.choice.specs.Ranks.{Top, Led};
 ghost use Rattle.tables.specs.Entries.{withEntry, doing};
 ghost use Rattle.tables.specs.Unions.{United};
 
@@ -95,7 +95,7 @@ pub fn unite(unions: &mut [u16], heads: &[u16], n: usize)
     }
 }
 
-// The entries of the rules from a to e, without e, that test a marked buffer, made afresh.
+// The entries of the rules from a to e, without e, that test a marked buffer, made afresh, and the highest rank from a to e that this leaves.
 fn renew_part(
     table: &mut [u16],
     heads: &[u16],
@@ -106,19 +106,23 @@ fn renew_part(
     e: usize,
     state: &[u16],
     mark: u16,
-)
+) -> u32
     requires { ⌜ Laid (now heads) (now words) n × (length (now table) ≡ 9 * n) × (80 ≤ length (now state)) × (a ≤ e) × (e ≤ n) × Gated (now gates) (now heads) (now words) n ⌝ }
     ensures { λ _. ⌜ ((clock : ℕ) → doing (ruleIn (now (heads .entry)) (now (words .entry))) (stateIn (now (state .entry)) clock) n mark e (now (table .exit)) ≡ doing (ruleIn (now (heads .entry)) (now (words .entry))) (stateIn (now (state .entry)) clock) n mark a (now (table .entry))) ⌝ }
     ensures kept { λ _. ⌜ ((k : ℕ) → (a ≤ k → k < e → ⊥) → getD (now (table .exit)) (9 * k) 0 ≡ getD (now (table .entry)) (9 * k) 0) ⌝ }
+    ensures highest { λ r. ⌜ Top (now (heads .entry)) (now (table .exit)) a e r ⌝ }
 {
+    let mut top = 0;
     let mut k = a;
     while k < e {
         let tested = heads[4 * k + 3];
         if tested & mark != 0 {
             gated_entry(table, k, heads, words, n, gates, state);
         }
+        top = choice::raised(heads, table, k, top);
         k += 1;
     }
+    top
 }
 
 // Block b of the refresh of n rules, and its lead.
@@ -139,8 +143,7 @@ fn renew_block(
 {
     let a = 16 * b;
     let e = choice::block_end(b, n);
-    renew_part(table, heads, words, n, gates, a, e, state, mark);
-    leads[b] = choice::lead(heads, table, a, e);
+    leads[b] = renew_part(table, heads, words, n, gates, a, e, state, mark);
 }
 
 // The refresh of n rules, with the leads kept: a block whose rules test no marked buffer is passed at once.
