@@ -21,10 +21,10 @@ use Rattle.meaning.specs.Calls.{accepted, Ran, goOn, runFrom, ranBy, runOf}
 use Rattle.meaning.specs.Print as print
 use Rattle.meaning.specs.Print.{Line, Stepped, End, linesFrom}
 use Rattle.laws.specs.RunLaws.{made-most}
-use Rattle.running.specs.Events.{eventWords, eventsFrom, noted, inscribed}
-use Rattle.running.specs.Events as events
-use Rattle.runs.specs.Answers.{eventsOf, eventsBy}
-use Rattle.running.specs.Told.{eventBy}
+use Rattle.step_run.specs.Events.{eventWords, eventsFrom, noted, inscribed}
+use Rattle.step_run.specs.Events as events
+use Rattle.call_run.specs.Answers.{eventsOf, eventsBy}
+use Rattle.step_run.specs.Told.{eventBy}
 use Rattle.actr.specs.Written.{lineIn, linesIn}
 use Rattle.actr.specs.Lines.{linesBy, linesOf}
 

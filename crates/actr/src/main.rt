@@ -20,7 +20,7 @@ fn print_run(image: &[u8], state: State, table: &mut [u16], text: &mut [u8]) -> 
     ensures { λ r. ⌜ Written (now (text .entry)) 0 (now (text .exit)) r 27026 (Text·text (linesOf (now (image .entry)) state (now (table .entry)) 1000)) ⌝ }
 {
     let mut events = [0u32; 3000];
-    let done = engine::trace(image, state, table, 1000, &mut events);
+    let done = calls::trace(image, state, table, 1000, &mut events);
     let end = put_steps(text, 0, &events, done.made);
     put_end(text, end, done.number, done.made)
 }
@@ -30,7 +30,7 @@ fn print_model(image: &[u8], table: &mut [u16], text: &mut [u8]) -> usize
     requires { ⌜ (length (now table) ≡ tableLength (now image)) × (27026 ≤ length (now text)) ⌝ }
     ensures { λ r. ⌜ Written (now (text .entry)) 0 (now (text .exit)) r 27026 (Text·text (printed (now (image .entry)))) ⌝ }
 {
-    let opened = engine::open(image, table);
+    let opened = calls::open(image, table);
     if opened.number != 0 {
         return put_end(text, 0, opened.number, 0);
     }
@@ -44,7 +44,7 @@ pub fn print(image: &[u8], text: &mut [u8; 27026]) -> usize
     ensures { λ r. ⌜ take r (now (text .exit)) ≡ Text·text (printed (now (image .entry))) ⌝ }
 {
     let mut room = [0u16; 2304];
-    let length = engine::table_length(image) as usize;
+    let length = calls::table_length(image) as usize;
     print_model(image, &mut room[..length], text)
 }
 

@@ -12,8 +12,8 @@ use Rattle.meaning.specs.Model.{Model}
 use Rattle.meaning.specs.State.{wellFormed}
 use Rattle.meaning.specs.Read.{Read, Refused, Got}
 use Rattle.meaning.specs.Calls.{accepted, Opened, openOf, Ran, runOf, ranBy, Refreshed, refreshOf, refreshedBy}
-use Rattle.running.specs.Events.{inscribed}
-use Rattle.runs.specs.Answers.{eventsOf, eventsBy}
+use Rattle.step_run.specs.Events.{inscribed}
+use Rattle.call_run.specs.Answers.{eventsOf, eventsBy}
 use Rattle.jirvuntsag.specs.Words.{stateOf, wordsOf, fits, unfitState, givenBy}
 use Rattle.jirvuntsag.specs.Told.{answer, unfitBy, told, toldOpen, toldRun, toldRefresh, openIn, runIn, refreshIn, eventsIn}
 

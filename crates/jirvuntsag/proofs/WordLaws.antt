@@ -13,7 +13,7 @@ use Rattle.meaning.specs.declared.State.{State}
 use Rattle.meaning.specs.Base.{all}
 use Rattle.layout.specs.Rows.{rowsIn}
 use Rattle.layout.specs.StateWords.{buffersIn, stateIn}
-use Rattle.states.proofs.LayLaws.{rows-list}
+use Rattle.layout_state.proofs.LayLaws.{rows-list}
 use Rattle.jirvuntsag.specs.Words.{stateOf, buffersWords, wordsOf, fits, unfitState, givenBy}
 
 -- ---- a loop over the eighty words after the clock

@@ -6,7 +6,7 @@ use Rattle.meaning.specs.Numbers.{ill-formed}
 use Rattle.meaning.specs.Model.{Model}
 use Rattle.meaning.specs.Read.{Read, Refused, Got}
 use Rattle.meaning.specs.Calls.{accepted, Opened, openOf, Ran, runOf, Refreshed, refreshOf}
-use Rattle.runs.specs.Answers.{eventsOf}
+use Rattle.call_run.specs.Answers.{eventsOf}
 use Rattle.jirvuntsag.specs.Words.{stateOf, wordsOf, fits}
 
 abbrev pub answer : ℕ → ℕ → ℕ

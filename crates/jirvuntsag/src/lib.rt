@@ -6,7 +6,7 @@ ghost use mathlib.Core.List.{_∷_};
 ghost use lib.ListN.{length, getD, drop};
 ghost use Rattle.meaning.specs.Base.{if_then_else_};
 ghost use Rattle.meaning.specs.Calls.{tableLength};
-ghost use Rattle.running.specs.Events.{inscribed};
+ghost use Rattle.step_run.specs.Events.{inscribed};
 ghost use Rattle.jirvuntsag.specs.Words.{wordsOf, fits, unfitState, givenBy};
 ghost use Rattle.jirvuntsag.specs.Told.{told, openIn, runIn, refreshIn, eventsIn};
 ghost use Rattle.jirvuntsag.specs.Told.{answer as Told·answer};
@@ -83,7 +83,7 @@ fn given(words: &[u32]) -> Handed
             state: unfit,
         };
     }
-    let state = states::read_state(&buffers, words[0]);
+    let state = layout_state::read_state(&buffers, words[0]);
     Handed {
         fitting: true,
         state: state,
@@ -96,7 +96,7 @@ fn lay(state: State, words: &mut [u32])
     ensures { λ _. ⌜ now (words .exit) ≡ wordsOf state ⌝ }
 {
     let mut buffers = [0u16; 80];
-    states::lay_state(state, &mut buffers);
+    layout_state::lay_state(state, &mut buffers);
     widen(&buffers, words);
     words[0] = state.clock;
 }
@@ -116,7 +116,7 @@ fn lay_back(fitting: bool, state: State, words: &mut [u32])
 pub extern "C" fn jirvuntsag_table_len(image: &[u8]) -> u32
     ensures { λ r. ⌜ r ≡ tableLength (now (image .entry)) ⌝ }
 {
-    engine::table_length(image) as u32
+    calls::table_length(image) as u32
 }
 
 // Opens an image: writes the opening state (all zero if it is refused), and the fresh table if it is accepted.
@@ -124,7 +124,7 @@ pub extern "C" fn jirvuntsag_table_len(image: &[u8]) -> u32
 pub extern "C" fn jirvuntsag_open(image: &[u8], table: &mut [u16], state: &mut [u32; 81]) -> u32
     ensures { λ r. ⌜ told r (now (state .exit)) (now (table .exit)) ≡ openIn (now (image .entry)) (now (table .entry)) ⌝ }
 {
-    let done = engine::open(image, table);
+    let done = calls::open(image, table);
     let opened = done.state;
     lay(opened, state);
     answer(done.number, 0)
@@ -142,7 +142,7 @@ pub extern "C" fn jirvuntsag_run(
 {
     let before = given(state);
     let from = before.state;
-    let done = engine::run(image, from, table, steps);
+    let done = calls::run(image, from, table, steps);
     let after = done.state;
     lay_back(before.fitting, after, state);
     answer(done.number, done.made)
@@ -161,7 +161,7 @@ pub extern "C" fn jirvuntsag_trace(
 {
     let before = given(state);
     let from = before.state;
-    let done = engine::trace(image, from, table, steps, events);
+    let done = calls::trace(image, from, table, steps, events);
     let after = done.state;
     lay_back(before.fitting, after, state);
     answer(done.number, done.made)
@@ -179,6 +179,6 @@ pub extern "C" fn jirvuntsag_refresh(
 {
     let before = given(state);
     let from = before.state;
-    let done = engine::refresh(image, from, mark, table);
+    let done = calls::refresh(image, from, mark, table);
     answer(done.number, done.count)
 }

@@ -12,9 +12,9 @@ use Rattle.meaning.specs.Bits.{fieldAt}
 use Rattle.meaning.specs.Read.{Read, Refused, Got, field, must}
 use Rattle.meaning.specs.Image.{between, aTerm}
 use Rattle.laws.specs.ReadLaws.{field-short, field-broken, field-kept}
-use Rattle.fields.specs.Field.{fieldOf}
-use Rattle.fields.specs.declared.Field.{Field}
-use Rattle.fields.specs.declared.Field.the-variants.{Value, Short}
+use Rattle.read_fields.specs.Field.{fieldOf}
+use Rattle.read_fields.specs.declared.Field.{Field}
+use Rattle.read_fields.specs.declared.Field.the-variants.{Value, Short}
 
 -- ---- a fetch and its reader
 

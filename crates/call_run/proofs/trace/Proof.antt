@@ -1,0 +1,54 @@
+-- `call_run::trace` meets its contract: either way the arrays have room.
+use Rattle.meaning.specs.Calls.{runOf}
+use Rattle.call_accept.proofs.RoomLaws.{small-by}
+use Rattle.call_run.specs.Answers.{eventsOf}
+use borrow.Author.Needs.{needs}
+use Rattle.call_run.proofs.trace.Statement.{statement}
+use Rattle.call_run.proofs.trace.Tie as tie
+
+begin-requires : tie.Need-begin-requires
+begin-requires c κs = search needs
+
+is-small-requires : tie.Need-is-small-requires
+is-small-requires c κs = search needs
+
+run-small-requires : tie.Need-run-small-requires
+run-small-requires c κs = (c .before .before .before .before .begin .ensures, small-by (c .before .before .before .before .begin .result) (c .before .before .before .is-small .result) (c .before .before .before .is-small .ensures) (c .before .before .if1 .taken))
+
+run-large-requires : tie.Need-run-large-requires
+run-large-requires c κs = search needs
+
+same-length : tie.Need-same-length
+same-length c = search needs
+
+same-length-2 : tie.Need-same-length-2
+same-length-2 c = search needs
+
+returns : tie.Need-returns
+unfolding runOf eventsOf
+returns c = (c .before .before .before .before .run-small .ensures .is-run, c .before .before .before .before .run-small .ensures .events)
+
+same-length-3 : tie.Need-same-length-3
+same-length-3 c = search needs
+
+same-length-4 : tie.Need-same-length-4
+same-length-4 c = search needs
+
+returns-2 : tie.Need-returns-2
+unfolding runOf eventsOf
+returns-2 c = (c .before .before .before .before .run-large .ensures .is-run, c .before .before .before .before .run-large .ensures .events)
+
+pub trace-spec : {M : Type 1} → statement M
+trace-spec =
+    tie.close
+    (tie.spec
+    begin-requires
+    is-small-requires
+    run-small-requires
+    run-large-requires
+    same-length
+    same-length-2
+    returns
+    same-length-3
+    same-length-4
+    returns-2)

@@ -1,0 +1,43 @@
+-- A call's contract settles all that it gives back: two results that keep it are the same, each word of the table among them.
+use mathlib.Core.Path.{_≡_, sym, ap, _∙_}
+use mathlib.Core.List.{List}
+use Prim.Native.Nat.{ℕ}
+use Rattle.meaning.specs.declared.State.{State}
+use Rattle.meaning.specs.Calls.{Opened, openOf, Ran, runOf, Refreshed, refreshOf, tableLength}
+use Rattle.step_run.specs.Events.{inscribed}
+use Rattle.call_open.specs.declared.OpenDone.{OpenDone}
+use Rattle.call_open.specs.Answers.{openedIn}
+use Rattle.call_refresh.specs.declared.RefreshDone.{RefreshDone}
+use Rattle.call_refresh.specs.Answers.{refreshedIn}
+use Rattle.call_run.specs.declared.RunDone.{RunDone}
+use Rattle.call_run.specs.Answers.{ranBack, eventsOf}
+
+-- the words that a table needs
+pub length-once : (image : List ℕ) (r r′ : ℕ) → r ≡ tableLength image → r′ ≡ tableLength image → r ≡ r′
+length-once image r r′ p q = p ∙ sym q
+
+-- what open gives: number and state; and the table that it leaves
+pub open-once : (image table : List ℕ) (r r′ : OpenDone) (left left′ : List ℕ)
+    → openedIn r left ≡ openOf image table → openedIn r′ left′ ≡ openOf image table → (r ≡ r′) × (left ≡ left′)
+open-once image table r r′ left left′ p q =
+    let same : openedIn r left ≡ openedIn r′ left′ = p ∙ sym q in
+    (ap (λ (o : Opened). record { number = o .number; state = o .state }) same, ap (λ (o : Opened). o .table) same)
+
+-- what run gives: number, state and steps made; and the table that it leaves
+pub run-once : (image : List ℕ) (s : State) (table : List ℕ) (steps : ℕ) (r r′ : RunDone) (left left′ : List ℕ)
+    → ranBack r left ≡ runOf image s table steps → ranBack r′ left′ ≡ runOf image s table steps → (r ≡ r′) × (left ≡ left′)
+run-once image s table steps r r′ left left′ p q =
+    let same : ranBack r left ≡ ranBack r′ left′ = p ∙ sym q in
+    (ap (λ (o : Ran). record { number = o .number; state = o .state; made = o .made }) same, ap (λ (o : Ran). o .table) same)
+
+-- what trace notes besides: every word of the events, those past the steps made among them
+pub events-once : (image : List ℕ) (s : State) (table : List ℕ) (steps : ℕ) (events noted noted′ : List ℕ)
+    → noted ≡ inscribed events 0 (eventsOf image s table steps) → noted′ ≡ inscribed events 0 (eventsOf image s table steps) → noted ≡ noted′
+events-once image s table steps events noted noted′ p q = p ∙ sym q
+
+-- what refresh gives: number and count; and the table that it leaves
+pub refresh-once : (image : List ℕ) (s : State) (mark : ℕ) (table : List ℕ) (r r′ : RefreshDone) (left left′ : List ℕ)
+    → refreshedIn r left ≡ refreshOf image s mark table → refreshedIn r′ left′ ≡ refreshOf image s mark table → (r ≡ r′) × (left ≡ left′)
+refresh-once image s mark table r r′ left left′ p q =
+    let same : refreshedIn r left ≡ refreshedIn r′ left′ = p ∙ sym q in
+    (ap (λ (o : Refreshed). record { number = o .number; count = o .count }) same, ap (λ (o : Refreshed). o .table) same)

@@ -1,0 +1,59 @@
+// The calls: open, run and refresh, and the length of the table that they need. Each takes whatever it is handed,
+// and does its work or refuses by number; none has a `requires`.
+ghost use mathlib.Core.Path.{_≡_};
+ghost use Rattle.meaning.specs.Calls.{tableLength, openOf, runOf, refreshOf};
+ghost use Rattle.step_run.specs.Events.{inscribed};
+ghost use Rattle.call_open.specs.Answers.{openedIn};
+ghost use Rattle.call_refresh.specs.Answers.{refreshedIn};
+ghost use Rattle.call_run.specs.Answers.{ranBack, eventsOf};
+pub use call_open::OpenDone;
+pub use call_refresh::RefreshDone;
+pub use call_run::RunDone;
+use layout::Walk;
+use meaning::State;
+
+// The words that the table of an image needs: nine for each rule, 0 for an image that is refused.
+pub fn table_length(image: &[u8]) -> u16
+    ensures { λ r. ⌜ r ≡ tableLength (now (image .entry)) ⌝ }
+{
+    let begun = read_image::begin(image);
+    let walk = read_image::check(image, begun);
+    match walk {
+        Walk::Next(_) => 9 * begun.rules,
+        Walk::Bad(_, _) => 0,
+    }
+}
+
+// Opens an image: the number, and the opening state (all zero if it is refused); writes the fresh table if it is accepted.
+pub fn open(image: &[u8], table: &mut [u16]) -> OpenDone
+    ensures { λ r. ⌜ openedIn r (now (table .exit)) ≡ openOf (now (image .entry)) (now (table .entry)) ⌝ }
+{
+    call_open::open(image, table)
+}
+
+// Runs at most `steps` steps from a state: the number, the state and the steps made; the table is refreshed after each step.
+pub fn run(image: &[u8], state: State, table: &mut [u16], steps: u16) -> RunDone
+    ensures { λ r. ⌜ ranBack r (now (table .exit)) ≡ runOf (now (image .entry)) state (now (table .entry)) steps ⌝ }
+{
+    call_run::run(image, state, table, steps)
+}
+
+// Runs as `run` does, and notes each step in three lent words, as long as there is room: the clock after it, 0 and the rule that fired or 1 and the ms waited.
+pub fn trace(
+    image: &[u8],
+    state: State,
+    table: &mut [u16],
+    steps: u16,
+    events: &mut [u32],
+) -> RunDone
+    ensures { λ r. ⌜ (ranBack r (now (table .exit)) ≡ runOf (now (image .entry)) state (now (table .entry)) steps) × (now (events .exit) ≡ inscribed (now (events .entry)) 0 (eventsOf (now (image .entry)) state (now (table .entry)) steps)) ⌝ }
+{
+    call_run::trace(image, state, table, steps, events)
+}
+
+// Makes the entries of the rules that test a marked buffer afresh: the number, and how many these rules are.
+pub fn refresh(image: &[u8], state: State, mark: u16, table: &mut [u16]) -> RefreshDone
+    ensures { λ r. ⌜ refreshedIn r (now (table .exit)) ≡ refreshOf (now (image .entry)) state mark (now (table .entry)) ⌝ }
+{
+    call_refresh::refresh(image, state, mark, table)
+}

@@ -1,0 +1,110 @@
+-- The same laws with the state and the variables in words.
+use Prim.Native.Nat.{ℕ, zero, suc, _+_, _*_, _-_, _/_, _%_, _^_, _≤_, _<_}
+use mathlib.Core.Path.{_≡_, refl, sym, ap, ap₂, _∙_}
+use mathlib.Core.Bool.{Bool, true, false}
+use mathlib.Core.List.{List, [], _∷_}
+use native.Mathlib.Omega.{arith}
+use lib.ListN.{length, getD, take, drop, set, length-drop}
+use lib.Seq.{getD-take, getD-drop, take-set-le, take-set-lt, drop-set-lt, drop-set-add}
+use lib.Bits.{bitAnd}
+use lib.Dec.{eqb}
+use borrow.Author.Tests.{lt-ltb, le-ltb, ne-eqb}
+use Rattle.meaning.specs.declared.Buffer.{Buffer}
+use Rattle.meaning.specs.Base.{if_then_else_}
+use Rattle.meaning.specs.State.{nothing}
+use Rattle.layout.specs.Rows.{wordTerm}
+use Rattle.layout.specs.StateWords.{bufferIn, buffersIn}
+use Rattle.layout.proofs.StateLaws.{buffer-is, slot-is}
+use Rattle.layout.proofs.WordLaws.{tab, listed}
+use Rattle.match_rule.specs.Run.{Vars, Run, on, stop, thenOn, termRun, termsRun, testsRun}
+use Rattle.match_rule.specs.Words.{varsIn}
+use Rattle.match_rule.proofs.TestLaws.{left, testsFrom, slot-skip, slot-on, slot-over, test-pending, test-other, test-on}
+
+-- ---- a term
+
+module _ (l : List ℕ) (x t : ℕ) where
+  pub term-symbol : t < 4096 → (r : Bool) → r ≡ eqb x t → (if r then on (varsIn l) else stop) ≡ termRun x (wordTerm t) (varsIn l)
+  unfolding termRun
+  term-symbol h r e = rw (lt-ltb t 4096 h, e)
+
+  module _ (h : 4096 ≤ t) where
+    abbrev k : ℕ
+    k = t % 8
+
+    below : t % 8 < 8
+    below = omega arith
+
+    bound-is : getD (take 8 l) (t % 8) 0 ≡ getD l (t % 8) 0
+    bound-is = getD-take 8 l (t % 8) 0 below
+
+    value-is : getD (drop 8 l) (t % 8) 0 ≡ getD l (8 + t % 8) 0
+    value-is = getD-drop 8 l (t % 8) 0
+
+    pub term-new : getD l (t % 8) 0 ≡ 0 → on (varsIn (set (set l (t % 8) 1) (8 + t % 8) x)) ≡ termRun x (wordTerm t) (varsIn l)
+    unfolding termRun
+    term-new e =
+        let le : 8 ≤ 8 + t % 8 = omega arith in
+        rw (le-ltb t 4096 h, bound-is, e)
+        (ap₂ (λ (b v : List ℕ). on (record { bound = b; values = v }))
+        (take-set-le 8 (set l (t % 8) 1) (8 + t % 8) x le ∙ take-set-lt 8 l (t % 8) 1 below)
+        (drop-set-add 8 (set l (t % 8) 1) (t % 8) x ∙ ap (λ (r : List ℕ). set r (t % 8) x) (drop-set-lt 8 l (t % 8) 1 below)))
+
+    pub term-seen : (getD l (t % 8) 0 ≡ 0 → ⊥) → (r : Bool) → r ≡ eqb (getD l (8 + t % 8) 0) x → (if r then on (varsIn l) else stop) ≡ termRun x (wordTerm t) (varsIn l)
+    unfolding termRun
+    term-seen z r e = rw (le-ltb t 4096 h, bound-is, ne-eqb (getD l (t % 8) 0) 0 z, value-is, e)
+
+-- ---- the laws of rows, with the state and the variables in words
+
+module _ (w st : List ℕ) (o n i q : ℕ) (v : Vars) (at : q ≡ o + 11 * i) (h : i < n) where
+  abbrev kb : ℕ
+  kb = getD w q 0 % 8
+
+  small : getD w q 0 % 8 < 8
+  small = omega arith
+
+  pub flat-pending : (getD st (10 * kb + 9) 0 ≡ 0 → ⊥) → stop ≡ testsRun (buffersIn st) (testsFrom w o i (n - i)) v
+  flat-pending z = test-pending w (buffersIn st) o n i q v at h (λ e. z (sym (ap (λ (b : Buffer). b .delay) (buffer-is st kb small)) ∙ e))
+
+  module _ (d : getD st (10 * kb + 9) 0 ≡ 0) where
+    d′ : getD (buffersIn st) kb nothing .delay ≡ 0
+    d′ = ap (λ (b : Buffer). b .delay) (buffer-is st kb small) ∙ d
+
+    pub flat-other : (getD st (10 * kb) 0 ≡ getD w (q + 1) 0 → ⊥) → stop ≡ testsRun (buffersIn st) (testsFrom w o i (n - i)) v
+    flat-other z = test-other w (buffersIn st) o n i q v at h d′ (λ e. z (sym (ap (λ (b : Buffer). b .isa) (buffer-is st kb small)) ∙ e))
+
+    pub flat-on : getD st (10 * kb) 0 ≡ getD w (q + 1) 0
+        → thenOn (termsRun (getD (buffersIn st) kb nothing .slots) (left w q (getD w (q + 2) 0) 0) v) (λ u. testsRun (buffersIn st) (testsFrom w o (i + 1) (n - (i + 1))) u) ≡ testsRun (buffersIn st) (testsFrom w o i (n - i)) v
+    flat-on z = test-on w (buffersIn st) o n i q v at h d′ (ap (λ (b : Buffer). b .isa) (buffer-is st kb small) ∙ z)
+
+module _ (w st : List ℕ) (q m b : ℕ) (v : Vars) (k : Vars → Run) (h : b < 8) where
+  abbrev kq : ℕ
+  kq = getD w q 0 % 8
+
+  abbrev xs : List ℕ
+  xs = getD (buffersIn st) kq nothing .slots
+
+  less : getD w q 0 % 8 < 8
+  less = omega arith
+
+  pub flat-skip : (v′ : Vars) → v′ ≡ v → (bitAnd (m / 2 ^ (7 - b)) 1 ≡ 1 → ⊥) → thenOn (termsRun xs (left w q m (b + 1)) v′) k ≡ thenOn (termsRun xs (left w q m b) v) k
+  flat-skip v′ e z = slot-skip w xs q m b v k h v′ e z
+
+  module _ (z : bitAnd (m / 2 ^ (7 - b)) 1 ≡ 1) (r : Bool) (u : Vars)
+      (e : (if r then on u else stop) ≡ termRun (getD st (10 * kq + 1 + b) 0) (wordTerm (getD w (q + 3 + b) 0)) v) where
+    e′ : (if r then on u else stop) ≡ termRun (getD xs b 0) (wordTerm (getD w (q + 3 + b) 0)) v
+    e′ = e ∙ ap (λ (x : ℕ). termRun x (wordTerm (getD w (q + 3 + b) 0)) v) (sym (slot-is st kq b less h))
+
+    pub flat-slot : (v′ : Vars) → v′ ≡ u → r ≡ true → thenOn (termsRun xs (left w q m (b + 1)) v′) k ≡ thenOn (termsRun xs (left w q m b) v) k
+    flat-slot v′ g o = slot-on w xs q m b v k h z r u e′ v′ g o
+
+    pub flat-over : r ≡ false → stop ≡ thenOn (termsRun xs (left w q m b) v) k
+    flat-over o = slot-over w xs q m b v k h z r u e′ o
+
+-- ---- the last eight of sixteen words
+
+tab-same : (n : ℕ) (f g : ℕ → ℕ) → ((k : ℕ) → f k ≡ g k) → tab n f ≡ tab n g
+tab-same zero f g h = refl
+tab-same (suc n) f g h = ap₂ (λ (x : ℕ) (l : List ℕ). x ∷ l) (h zero) (tab-same n (λ k. f (suc k)) (λ k. g (suc k)) (λ k. h (suc k)))
+
+pub last-eight : (l : List ℕ) → length l ≡ 16 → tab 8 (λ k. getD l (8 + k) 0) ≡ drop 8 l
+last-eight l e = tab-same 8 (λ k. getD l (8 + k) 0) (λ k. getD (drop 8 l) k 0) (λ k. sym (getD-drop 8 l k 0)) ∙ listed 8 (drop 8 l) (omega (arith, length-drop 8 l))

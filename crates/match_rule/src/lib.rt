@@ -1,0 +1,124 @@
+// The match of one rule: from its rows of words, with the state in words too and the variables lent, so that nothing is copied.
+ghost use mathlib.Core.Path.{_≡_};
+ghost use Prim.Native.Nat.{ℕ, _+_, _*_, _≤_};
+ghost use lib.ListN.{length, replicate};
+ghost use Rattle.meaning.specs.Base.{if_then_else_, same};
+ghost use Rattle.meaning.specs.Model.{Rule};
+ghost use Rattle.meaning.specs.Match.{entryOf};
+ghost use Rattle.layout.specs.Rows.{wordTerm, testsIn};
+ghost use Rattle.match_rule.specs.Run.{termRun, testsRun, noVars, on, stop};
+ghost use Rattle.layout.specs.StateWords.{buffersIn, stateIn};
+ghost use Rattle.match_rule.specs.Words.{varsIn};
+
+// One term against a slot's value: a symbol is compared; a variable is bound at its first place and compared at every later one.
+// vars: which of the eight variables are bound, and then their values.
+fn match_term(vars: &mut [u16], value: u16, term: u16) -> bool
+    requires { ⌜ length (now vars) ≡ 16 ⌝ }
+    ensures { λ r. ⌜ (if r then on (varsIn (now (vars .exit))) else stop) ≡ termRun value (wordTerm term) (varsIn (now (vars .entry))) ⌝ }
+{
+    if term < 4096 {
+        return value == term;
+    }
+    let k = (term % 8) as usize;
+    if vars[k] == 0 {
+        vars[k] = 1;
+        vars[8 + k] = value;
+        return true;
+    }
+    vars[8 + k] == value
+}
+
+// Whether the n tests that stand in words from o on hold in a state, with the variables in vars;
+// at the first slot that differs the whole rule is given up.
+fn match_tests(words: &[u16], o: usize, n: usize, state: &[u16], vars: &mut [u16]) -> bool
+    requires { ⌜ (o + 11 * n ≤ length (now words)) × (80 ≤ length (now state)) × (length (now vars) ≡ 16) × (varsIn (now vars) ≡ noVars) ⌝ }
+    ensures { λ r. ⌜ (if r then on (varsIn (now (vars .exit))) else stop) ≡ testsRun (buffersIn (now (state .entry))) (testsIn (now (words .entry)) o n) noVars ⌝ }
+{
+    let mut q = o;
+    let mut i = 0;
+    let mut hit = true;
+    'tests: while i < n {
+        let k = 10 * ((words[q] % 8) as usize);
+        if state[k + 9] != 0 {
+            hit = false;
+            break;
+        }
+        if state[k] != words[q + 1] {
+            hit = false;
+            break;
+        }
+        let mask = words[q + 2];
+        let mut b = 0;
+        while b < 8 {
+            if (mask >> (7 - b)) & 1 == 1 {
+                if !match_term(vars, state[k + 1 + b], words[q + 3 + b]) {
+                    hit = false;
+                    break 'tests;
+                }
+            }
+            b += 1;
+        }
+        q += 11;
+        i += 1;
+    }
+    hit
+}
+
+// Nine words into nine words.
+fn copy_nine(nine: &mut [u16], from: &[u16])
+    requires { ⌜ (length (now nine) ≡ 9) × (length (now from) ≡ 9) ⌝ }
+    ensures { λ _. ⌜ now (nine .exit) ≡ now (from .entry) ⌝ }
+{
+    let mut i = 0;
+    while i < 9 {
+        nine[i] = from[i];
+        i += 1;
+    }
+}
+
+// The entry of a rule that does not match, into nine words.
+pub fn no_entry(nine: &mut [u16])
+    requires { ⌜ length (now nine) ≡ 9 ⌝ }
+    ensures { λ _. ⌜ now (nine .exit) ≡ replicate 9 0 ⌝ }
+{
+    copy_nine(nine, &[0u16; 9]);
+}
+
+// The fresh entry of the rule whose n tests stand in words from o on, into nine words.
+pub fn entry_into(nine: &mut [u16], words: &[u16], o: usize, n: usize, state: &[u16])
+    requires { ⌜ (length (now nine) ≡ 9) × (o + 11 * n ≤ length (now words)) × (80 ≤ length (now state)) ⌝ }
+    ensures { λ _. ⌜ ((r : Rule) (clock : ℕ) → r .tests ≡ testsIn (now (words .entry)) o n → now (nine .exit) ≡ entryOf r (stateIn (now (state .entry)) clock)) ⌝ }
+{
+    let mut vars = [0u16; 16];
+    if match_tests(words, o, n, state, &mut vars) {
+        let matched = [
+            1,
+            vars[8],
+            vars[9],
+            vars[10],
+            vars[11],
+            vars[12],
+            vars[13],
+            vars[14],
+            vars[15],
+        ];
+        copy_nine(nine, &matched);
+    } else {
+        no_entry(nine);
+    }
+}
+
+// Whether two entries are the same, word for word.
+pub fn same_entry(nine: &[u16], other: &[u16]) -> bool
+    requires { ⌜ (length (now nine) ≡ 9) × (length (now other) ≡ 9) ⌝ }
+    ensures { λ r. ⌜ r ≡ same (now (nine .entry)) (now (other .entry)) ⌝ }
+{
+    let mut i = 0;
+    while i < 9 {
+        if nine[i] != other[i] {
+            return false;
+        }
+        i += 1;
+    }
+    true
+}

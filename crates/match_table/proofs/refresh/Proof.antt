@@ -1,0 +1,99 @@
+-- `match_table::refresh` meets its contract: the entries below k are done, and counted where their rule tests a marked buffer.
+use Prim.Native.Nat.{ℕ, _≤_, _<_, _-_, _+_, _*_}
+use mathlib.Core.Path.{_≡_, refl, sym, ap, _∙_}
+use mathlib.Core.List.{List, _++_}
+use borrow.Author.Needs.{needs}
+use native.Mathlib.Omega.{arith}
+use lib.ListN.{length, getD, take, drop}
+use mathlib.Core.Logic.{⊎-elim}
+use Rattle.meaning.specs.Refresh.{refresh, refreshCount}
+use Rattle.layout.specs.Rows.{ruleIn, rulesIn}
+use Rattle.layout.specs.StateWords.{stateIn}
+use Rattle.match_table.specs.Entries.{doing}
+use Rattle.match_table.proofs.TableLaws.{doing-start, doing-marked, doing-other, doing-end, counting, counting-start, counting-marked, counting-other, counting-end, mark-meets, mark-misses}
+use Rattle.match_table.proofs.refresh.Statement.{statement}
+use Rattle.match_table.proofs.refresh.Tie as tie
+
+abbrev Inv-loop : tie.InvT-loop
+Inv-loop table₀ heads words n state mark count₀ k₀ table count k = (k ≤ n) × (length table ≡ 9 * n) × ((clock : ℕ) → doing (ruleIn heads words) (stateIn state clock) n mark k table ≡ refresh (rulesIn heads words n) (stateIn state clock) mark table₀) × (count ≤ k) × (counting (ruleIn heads words) mark n k count ≡ refreshCount (rulesIn heads words n) mark)
+
+abbrev μ-loop : tie.MeasureT-loop
+μ-loop table₀ heads words n state mark count₀ k₀ table count k = n - k
+
+loop-holds : tie.Need-loop-holds Inv-loop μ-loop
+loop-holds c = let a = c .before .before .before .before .args in (search needs, search needs, λ clock. doing-start (ruleIn (a .heads .now) (a .words .now)) (stateIn (a .state .now) clock) (a .n) (a .mark) _, search needs, counting-start (ruleIn (a .heads .now) (a .words .now)) (a .mark) (a .n))
+
+mul-if1 : tie.Need-mul-if1 Inv-loop μ-loop
+mul-if1 c = omega (arith, c .before .before .before .before .before .before .pre .0 .at-most)
+
+add-if1 : tie.Need-add-if1 Inv-loop μ-loop
+add-if1 c = omega (arith, c .before .before .before .before .before .before .pre .0 .at-most)
+
+mul-if1-2 : tie.Need-mul-if1-2 Inv-loop μ-loop
+mul-if1-2 c = search needs
+
+shared-slice-read-if1 : tie.Need-shared-slice-read-if1 Inv-loop μ-loop
+shared-slice-read-if1 c = omega (arith, c .before .before .before .before .before .before .before .pre .0 .heads-room)
+
+entry-at-requires : tie.Need-entry-at-requires Inv-loop μ-loop
+entry-at-requires c κs = (c .before .before .before .before .before .before .before .before .before .pre .0, search needs, c .before .before .before .before .loop .inv .1, search needs)
+
+add-count : tie.Need-add-count Inv-loop μ-loop
+add-count c = omega (arith, c .before .before .before .before .before .before .before .before .before .before .before .before .pre .0 .at-most, c .before .before .before .before .before .before .before .loop .inv .3, c .before .before .before .before .before .before .loop-test .taken)
+
+add-k : tie.Need-add-k Inv-loop μ-loop
+add-k c = search needs
+
+loop-less : tie.Need-loop-less Inv-loop μ-loop
+loop-less c = search needs
+
+loop-again : tie.Need-loop-again Inv-loop μ-loop
+loop-again c =
+    let l = c .before .before .before .loop in
+    let a = c .before .before .before .before .before .before .before .before .args in
+    let laid = c .before .before .before .before .before .before .before .before .pre .0 in
+    let h = c .before .before .loop-test .taken in
+    ⊎-elim
+    (λ w.
+    let m = mark-meets (a .heads .now) (a .words .now) (a .n) (l .k) (a .mark) laid h (w .0 .taken) in
+    let fits : length (c .if1 .table) ≡ 9 * a .n = ap length (w .5) ∙ w .2 .kept .0 ∙ l .inv .1 in (
+      search needs,
+      fits,
+      λ clock. doing-marked (ruleIn (a .heads .now) (a .words .now)) (stateIn (a .state .now) clock) (a .n) (l .k) h (l .table) (l .inv .1) (a .mark) (c .if1 .table) m (w .5 ∙ w .2 .ensures clock) ∙ l .inv .2 clock,
+      omega (arith, w .6, l .inv .3),
+      ap (counting (ruleIn (a .heads .now) (a .words .now)) (a .mark) (a .n) (l .k + 1)) (w .6) ∙ counting-marked (ruleIn (a .heads .now) (a .words .now)) (a .mark) (a .n) (l .k) (l .count) h m ∙ l .inv .4,
+    ))
+    (λ w.
+    let m = mark-misses (a .heads .now) (a .words .now) (a .n) (l .k) (a .mark) laid h (w .0 .left) in (
+      search needs,
+      ap length (w .1) ∙ l .inv .1,
+      λ clock. ap (doing (ruleIn (a .heads .now) (a .words .now)) (stateIn (a .state .now) clock) (a .n) (a .mark) (l .k + 1)) (w .1) ∙ doing-other (ruleIn (a .heads .now) (a .words .now)) (stateIn (a .state .now) clock) (a .n) (l .k) h (l .table) (l .inv .1) (a .mark) m ∙ l .inv .2 clock,
+      omega (arith, w .2, l .inv .3),
+      ap (counting (ruleIn (a .heads .now) (a .words .now)) (a .mark) (a .n) (l .k + 1)) (w .2) ∙ counting-other (ruleIn (a .heads .now) (a .words .now)) (a .mark) (a .n) (l .k) (l .count) h m ∙ l .inv .4,
+    ))
+    (c .if1 .came)
+
+same-length : tie.Need-same-length Inv-loop μ-loop
+same-length c = search needs
+
+returns : tie.Need-returns Inv-loop μ-loop
+returns c = let l = c .before .loop in let a = c .before .before .before .before .before .before .args in (λ clock. sym (doing-end (ruleIn (a .heads .now) (a .words .now)) (stateIn (a .state .now) clock) (a .n) (a .mark) (l .k) (l .table) (c .loop-test .left) (l .inv .1)) ∙ l .inv .2 clock, sym (counting-end (ruleIn (a .heads .now) (a .words .now)) (a .mark) (a .n) (l .k) (l .count) (c .loop-test .left)) ∙ l .inv .4)
+
+pub refresh-spec : {M : Type 1} → statement M
+refresh-spec =
+    tie.close
+    (tie.spec
+    Inv-loop
+    μ-loop
+    loop-holds
+    mul-if1
+    add-if1
+    mul-if1-2
+    shared-slice-read-if1
+    entry-at-requires
+    add-count
+    add-k
+    loop-less
+    loop-again
+    same-length
+    returns)

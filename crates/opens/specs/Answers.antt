@@ -1,9 +1,0 @@
--- What open answers.
-use Prim.Native.Nat.{ℕ}
-use mathlib.Core.List.{List}
-use Rattle.meaning.specs.Calls.{Opened}
-use Rattle.opens.specs.declared.OpenDone.{OpenDone}
-
--- the answer, with the table as it is left
-abbrev pub openedIn : OpenDone → List ℕ → Opened
-openedIn r table = record { number = r .number; state = r .state; table = table }

@@ -1,0 +1,31 @@
+-- What the code's answers about an action say: the type that the tests name for a buffer, and the deed.
+use Prim.Native.Nat.{ℕ}
+use mathlib.Core.List.{List}
+use Rattle.meaning.specs.Base.{if_then_else_}
+use Rattle.meaning.specs.Model.{Test, Deed, Action, Sizes}
+use Rattle.meaning.specs.Read.{Read, Reader, _>>=_, field}
+use Rattle.meaning.specs.Image.{isTested, testedType, aKind, deed}
+use Rattle.layout.specs.Walks.{answer}
+use Rattle.layout.specs.Rows.{namedBy, deedOf}
+use Rattle.read_deeds.specs.declared.Tested.{Tested}
+use Rattle.read_deeds.specs.declared.Tested.the-variants.{Isa, Untested}
+use Rattle.read_deeds.specs.declared.DeedRead.{DeedRead}
+
+-- the type that the first test of buffer b names, or that none does
+abbrev pub testedOf : List Test → ℕ → Tested
+testedOf ts b = if isTested ts b then Isa (testedType ts b) else Untested
+
+-- the deed that stands in what was read, and the answer with it
+abbrev pub deedIn : DeedRead → Deed
+deedIn r = deedOf (r .deed) (namedBy (r .mask) (r .slots))
+
+abbrev pub says : DeedRead → Read Deed
+says r = answer (r .walk) (deedIn r)
+
+-- what an action has after its buffer: "kind 2 bits", and what the kind asks
+abbrev pub kindAndDeed : Sizes → ℕ → List Test → ℕ → Reader Deed
+kindAndDeed z variables ts b = field 2 (aKind ts b) >>= deed z variables ts b
+
+-- a deed on a buffer
+abbrev pub acts : ℕ → Deed → Action
+acts b d = record { buffer = b; deed = d }

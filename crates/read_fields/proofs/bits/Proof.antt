@@ -1,0 +1,82 @@
+-- `read_fields::bits` meets its contract: what is cut out of the three bytes is the field, and so it fits 16 bits.
+use native.Mathlib.Omega.{arith}
+use lib.Pow.{pow-pos, pow-mono}
+use Rattle.meaning.specs.Bits.{fieldAt}
+use Rattle.laws.specs.FieldLaws.{fieldAt-lt}
+use Rattle.read_fields.proofs.Laws.{cut, cutOf}
+use mathlib.Core.Path.{_≡_}
+use borrow.Author.Needs.{needs}
+use Rattle.read_fields.proofs.bits.Statement.{statement}
+use Rattle.read_fields.proofs.bits.Tie as tie
+
+byte-or-zero-requires : tie.Need-byte-or-zero-requires
+byte-or-zero-requires c κs = search needs
+
+add-byte-or-zero : tie.Need-add-byte-or-zero
+add-byte-or-zero c = search needs
+
+byte-or-zero-requires-2 : tie.Need-byte-or-zero-requires-2
+byte-or-zero-requires-2 c κs = search needs
+
+add-byte-or-zero-2 : tie.Need-add-byte-or-zero-2
+add-byte-or-zero-2 c = search needs
+
+byte-or-zero-requires-3 : tie.Need-byte-or-zero-requires-3
+byte-or-zero-requires-3 c κs = search needs
+
+sub-result : tie.Need-sub-result
+sub-result c = search needs
+
+sub-result-2 : tie.Need-sub-result-2
+sub-result-2 c = search needs
+
+cast-result : tie.Need-cast-result
+cast-result c = search needs
+
+shr-result : tie.Need-shr-result
+shr-result c = search needs
+
+cast-result-2 : tie.Need-cast-result-2
+cast-result-2 c = search needs
+
+shl-result : tie.Need-shl-result
+shl-result c = search needs
+
+sub-result-3 : tie.Need-sub-result-3
+sub-result-3 c = let a = c .before .before .before .before .args in omega (arith, pow-pos (a .width), pow-mono {i = a .width} {j = 16} (c .before .before .before .before .pre .0))
+
+-- what is cut out is the field
+is-field : (c : tie.After-byte-or-zero3)
+    → cutOf (c .before .before .before .before .args .at) (c .before .before .before .before .args .width) (c .before .before .byte-or-zero .result) (c .before .byte-or-zero2 .result) (c .byte-or-zero3 .result)
+    ≡ fieldAt (c .before .before .before .before .args .image .now) (c .before .before .before .before .args .at) (c .before .before .before .before .args .width)
+is-field c =
+    let a = c .before .before .before .before .args in
+    cut (a .image .now) (a .at) (a .width) (c .before .before .byte-or-zero .result) (c .before .byte-or-zero2 .result) (c .byte-or-zero3 .result) (c .before .before .before .before .pre .0)
+    (c .before .before .byte-or-zero .ensures) (c .before .byte-or-zero2 .ensures) (c .byte-or-zero3 .ensures)
+
+cast-result-3 : tie.Need-cast-result-3
+cast-result-3 c =
+    let a = c .before .before .before .before .args in
+    record { fits = omega (arith, is-field c, fieldAt-lt (a .image .now) (a .at) (a .width), pow-mono {i = a .width} {j = 16} (c .before .before .before .before .pre .0)) }
+
+returns : tie.Need-returns
+returns c = is-field c
+
+pub bits-spec : {M : Type 1} → statement M
+bits-spec =
+    tie.close
+    (tie.spec
+    byte-or-zero-requires
+    add-byte-or-zero
+    byte-or-zero-requires-2
+    add-byte-or-zero-2
+    byte-or-zero-requires-3
+    sub-result
+    sub-result-2
+    cast-result
+    shr-result
+    cast-result-2
+    shl-result
+    sub-result-3
+    cast-result-3
+    returns)

@@ -1,0 +1,45 @@
+// Packed fields: 1 to 16 bits, most significant bit first, at any bit position of an image.
+ghost use mathlib.Core.Path.{_≡_};
+ghost use Prim.Native.Nat.{_+_, _*_, _^_, _≤_, _<_};
+ghost use lib.ListN.{length, getD};
+ghost use Rattle.meaning.specs.Bits.{fieldAt};
+ghost use Rattle.read_fields.specs.Field.{fieldOf};
+
+// A field, or that it is not wholly there.
+pub enum Field {
+    Value(u16),
+    Short,
+}
+
+// The byte at i, and 0 past the end.
+fn byte_or_zero(image: &[u8], i: usize) -> u32
+    ensures { λ r. ⌜ (r ≡ getD (now (image .entry)) i 0) × (r < 256) ⌝ }
+{
+    if i < image.len() { image[i] as u32 } else { 0 }
+}
+
+// The bits from `at` on, out of the three bytes that hold them: fetched, shifted and cut. Bytes past the end count as zeros.
+pub fn bits(image: &[u8], at: usize, width: usize) -> u16
+    requires { ⌜ (width ≤ 16) × (at ≤ 2 ^ 32) ⌝ }
+    ensures { λ r. ⌜ r ≡ fieldAt (now (image .entry)) at width ⌝ }
+{
+    let i = at / 8;
+    let skipped = at % 8;
+    let first = byte_or_zero(image, i);
+    let second = byte_or_zero(image, i + 1);
+    let third = byte_or_zero(image, i + 2);
+    let window = (first << 16) | (second << 8) | third;
+    ((window >> (24 - skipped - width)) & ((1u32 << width) - 1)) as u16
+}
+
+// The field of `width` bits at bit `at`, or that it is not wholly there.
+pub fn field_at(image: &[u8], at: usize, width: usize) -> Field
+    requires { ⌜ (width ≤ 16) × (at ≤ 2 ^ 32) × (length (now image) ≤ 65536) ⌝ }
+    ensures { λ r. ⌜ r ≡ fieldOf (now (image .entry)) at width ⌝ }
+{
+    if at + width <= 8 * image.len() {
+        Field::Value(bits(image, at, width))
+    } else {
+        Field::Short
+    }
+}

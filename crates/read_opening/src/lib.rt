@@ -1,0 +1,144 @@
+// The beginning of an image: the header, the slot counts of the types, and the state that it opens with.
+ghost use mathlib.Core.Path.{_≡_};
+ghost use mathlib.Core.List.{_∷_};
+ghost use Prim.Native.Nat.{_+_, _*_, _≤_, _<_};
+ghost use lib.ListN.{length, take};
+ghost use Rattle.meaning.specs.Read.{times};
+ghost use Rattle.meaning.specs.Image.{header, slotCounts, chunk};
+ghost use Rattle.meaning.specs.Calls.{opens};
+ghost use Rattle.layout.specs.Walks.{answer, mapped, Within, Small};
+ghost use Rattle.read_facts.specs.Made.{aChunk};
+ghost use Rattle.read_opening.specs.Parts.{aHeader, Bounded, openingState};
+use layout::Walk;
+use meaning::Buffer;
+use meaning::State;
+use read_facts::ChunkRead;
+
+// What the header says: counts of buffers, declared types, rules and facts, and the failure latency; or a refusal.
+pub struct HeaderRead {
+    pub walk: Walk,
+    pub buffers: u16,
+    pub declared: u16,
+    pub rules: u16,
+    pub facts: u16,
+    pub failure: u16,
+}
+
+// The slot count of each type, by its number; or a refusal.
+pub struct TypesRead {
+    pub walk: Walk,
+    pub types: [u16; 64],
+}
+
+// The opening state, or a refusal.
+pub struct OpeningRead {
+    pub walk: Walk,
+    pub state: State,
+}
+
+// The six fields of the header, the version (which is 1) first.
+pub fn header(image: &[u8]) -> HeaderRead
+    requires { ⌜ length (now image) ≤ 65536 ⌝ }
+    ensures { λ r. ⌜ answer (r .walk) (aHeader (r .buffers) (r .declared) (r .rules) (r .facts) (r .failure)) ≡ header (now (image .entry)) 0 ⌝ }
+    ensures within { λ r. ⌜ Within (r .walk) (8 * length (now (image .entry))) ⌝ }
+    ensures bounds { λ r. ⌜ Bounded (r .walk) (r .buffers) (r .declared) (r .rules) (r .facts) ⌝ }
+{
+    let version = read_ranges::ranged(image, 0, 8, 1, 2, 3);
+    let first = version.walk;
+    let buffers = read_ranges::ranged_after(image, first, 4, 1, 9, 3);
+    let second = buffers.walk;
+    let declared = read_ranges::ranged_after(image, second, 6, 0, 64, 3);
+    let third = declared.walk;
+    let rules = read_ranges::ranged_after(image, third, 9, 0, 257, 3);
+    let fourth = rules.walk;
+    let facts = read_ranges::ranged_after(image, fourth, 10, 0, 513, 3);
+    let fifth = facts.walk;
+    let failure = read_ranges::any_after(image, fifth, 16);
+    let sixth = failure.walk;
+    HeaderRead {
+        walk: sixth,
+        buffers: buffers.value,
+        declared: declared.value,
+        rules: rules.value,
+        facts: facts.value,
+        failure: failure.value,
+    }
+}
+
+// The slot counts, 0 for type 0 and a field (0 to 8) for each declared type, and zeros up to 64.
+pub fn slot_counts(image: &[u8], p: usize, declared: u16) -> TypesRead
+    requires { ⌜ (length (now image) ≤ 65536) × (p ≤ 8 * length (now image)) × (declared ≤ 63) ⌝ }
+    ensures { λ r. ⌜ answer (r .walk) (take (declared + 1) (r .types)) ≡ mapped (λ counts. 0 ∷ counts) (slotCounts declared (now (image .entry)) p) ⌝ }
+    ensures within { λ r. ⌜ Within (r .walk) (8 * length (now (image .entry))) ⌝ }
+    ensures small { λ r. ⌜ Small (r .types) ⌝ }
+{
+    let mut types = [0u16; 64];
+    let mut at = p;
+    let mut i = 0;
+    while i < declared {
+        let count = read_ranges::ranged(image, at, 4, 0, 9, 3);
+        let w = count.walk;
+        match w {
+            Walk::Next(q) => {
+                at = q;
+            }
+            Walk::Bad(a, b) => {
+                return TypesRead {
+                    walk: Walk::Bad(a, b),
+                    types: types,
+                };
+            }
+        }
+        i += 1;
+        types[i as usize] = count.value;
+    }
+    TypesRead {
+        walk: Walk::Next(at),
+        types: types,
+    }
+}
+
+// A buffer that holds a chunk, visible at once.
+fn opens(c: ChunkRead) -> Buffer
+    ensures { λ r. ⌜ r ≡ opens (aChunk (c .isa) (c .slots)) ⌝ }
+{
+    let xs = c.slots;
+    Buffer {
+        isa: c.isa,
+        slots: xs,
+        delay: 0,
+    }
+}
+
+// n opening chunks in the first n buffers, nil in the others, and clock 0.
+pub fn opening(image: &[u8], p: usize, types: &[u16], n: u16) -> OpeningRead
+    requires { ⌜ (length (now image) ≤ 65536) × (p ≤ 8 * length (now image)) × Small (now types) × (0 < length (now types)) × (n ≤ 8) ⌝ }
+    ensures { λ r. ⌜ answer (r .walk) (r .state) ≡ mapped (openingState n) (times n (chunk (now (types .entry)) 0) (now (image .entry)) p) ⌝ }
+    ensures within { λ r. ⌜ Within (r .walk) (8 * length (now (image .entry))) ⌝ }
+{
+    let mut st = meaning::zero_state();
+    let mut at = p;
+    let mut i = 0;
+    while i < n {
+        let c = read_facts::chunk(image, at, types, 0);
+        let w = c.walk;
+        match w {
+            Walk::Next(q) => {
+                at = q;
+            }
+            Walk::Bad(a, b) => {
+                return OpeningRead {
+                    walk: Walk::Bad(a, b),
+                    state: st,
+                };
+            }
+        }
+        let b = opens(c);
+        st.buffers[i as usize] = b;
+        i += 1;
+    }
+    OpeningRead {
+        walk: Walk::Next(at),
+        state: st,
+    }
+}

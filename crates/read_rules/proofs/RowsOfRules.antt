@@ -1,0 +1,85 @@
+-- One rule more: the rules below it say what they said, and it says what was read.
+use Prim.Native.Nat.{ℕ, _+_, _*_, _≤_, _<_}
+use mathlib.Core.Path.{_≡_, refl, sym, ap, ap₂, _∙_}
+use mathlib.Core.List.{List, [], _∷_, _++_}
+use native.Mathlib.Omega.{arith}
+use native.Mathlib.Decide.{ℕ-discrete}
+use lib.ListN.{length, getD, take}
+use lib.Seq.{sets, length-sets}
+use Rattle.meaning.specs.Model.{Test, Action, Rule}
+use Rattle.meaning.specs.Image.{utilityOf}
+use Rattle.layout.specs.Rows.{rowsIn, testIn, actionIn, testsIn, actionsIn, ruleIn, rulesIn, testedMask, Laid}
+use Rattle.layout.proofs.WordLaws.{below-get, sets-below, sets-at}
+use Rattle.layout.proofs.RowLaws.{rows-more, rows-same, in-same, test-like, action-like}
+use Rattle.read_rules.specs.Heads.{ruleBy, RuleFits}
+
+module _ (heads heads′ words words′ four : List ℕ) (k : ℕ) (laid : Laid heads words k) (room : 4 * k + 4 ≤ length heads)
+    (eh : heads′ ≡ sets heads (4 * k) four) (lf : length four ≡ 4) (kept : take (176 * k) words′ ≡ take (176 * k) words) where
+  -- the heads below k, and the words below 176 k, are as they were
+  old-head : (j i : ℕ) → j < k → i < 4 → getD heads′ (4 * j + i) 0 ≡ getD heads (4 * j + i) 0
+  old-head j i h g = ap (λ (l : List ℕ). getD l (4 * j + i) 0) eh ∙ sets-below heads (4 * k) four (4 * j + i) (omega arith)
+
+  new-head : (i : ℕ) → i < 4 → getD heads′ (4 * k + i) 0 ≡ getD four i 0
+  new-head i g = ap (λ (l : List ℕ). getD l (4 * k + i) 0) eh ∙ sets-at heads (4 * k) four i (omega arith) (omega arith)
+
+  first-head : (l : List ℕ) (j : ℕ) → getD l (4 * j) 0 ≡ getD l (4 * j + 0) 0
+  first-head l j = let e : 4 * j ≡ 4 * j + 0 = omega arith in ap (λ (n : ℕ). getD l n 0) e
+
+  old-tests : (j : ℕ) → j < k → testsIn words′ (176 * j) (getD heads′ (4 * j) 0) ≡ testsIn words (176 * j) (getD heads (4 * j) 0)
+  old-tests j h =
+      let n : getD heads′ (4 * j) 0 ≡ getD heads (4 * j) 0 = first-head heads′ j ∙ old-head j 0 h (omega arith) ∙ sym (first-head heads j) in
+      ap (testsIn words′ (176 * j)) n ∙ in-same testIn test-like words′ words (176 * j) (getD heads (4 * j) 0) (λ i l. below-get (176 * k) words words′ kept i (omega (arith, laid .tests-few j h)))
+
+  old-actions : (j : ℕ) → j < k → actionsIn words′ (176 * j + 88) (getD heads′ (4 * j + 1) 0) ≡ actionsIn words (176 * j + 88) (getD heads (4 * j + 1) 0)
+  old-actions j h =
+      ap (actionsIn words′ (176 * j + 88)) (old-head j 1 h (omega arith))
+      ∙ in-same actionIn action-like words′ words (176 * j + 88) (getD heads (4 * j + 1) 0) (λ i l. below-get (176 * k) words words′ kept i (omega (arith, laid .actions-few j h)))
+
+  old-rule : (j : ℕ) → j < k → ruleIn heads′ words′ j ≡ ruleIn heads words j
+  old-rule j h =
+      ap (λ (u : ℕ). record { utility = utilityOf u; tests = testsIn words′ (176 * j) (getD heads′ (4 * j) 0); actions = actionsIn words′ (176 * j + 88) (getD heads′ (4 * j + 1) 0) }) (old-head j 2 h (omega arith))
+      ∙ ap₂ (λ (ts : List Test) (as′ : List Action). record { utility = utilityOf (getD heads (4 * j + 2) 0); tests = ts; actions = as′ }) (old-tests j h) (old-actions j h)
+
+  new-rule : ruleIn heads′ words′ k ≡ ruleBy four words′ (176 * k)
+  new-rule = rw (first-head heads′ k ∙ new-head 0 (omega arith), new-head 1 (omega arith), new-head 2 (omega arith))
+
+  pub rules-more : rulesIn heads′ words′ (k + 1) ≡ rulesIn heads words k ++ (ruleBy four words′ (176 * k) ∷ [])
+  rules-more =
+      let z : 0 + k ≡ k = omega arith in
+      rows-more (ruleIn heads′ words′) 0 k
+      ∙ ap₂ (λ (l : List Rule) (r : Rule). l ++ (r ∷ [])) (rows-same (ruleIn heads′ words′) (ruleIn heads words) 0 k (λ j a b. old-rule j (omega arith))) (ap (ruleIn heads′ words′) z ∙ new-rule)
+
+  module _ (n : ℕ) (h : k < n) (few : n ≤ 256) (hr : 4 * n ≤ length heads) (wr : 176 * n ≤ length words′) (f : RuleFits four words′ (176 * k)) where
+    by : {C : Type 0} (j : ℕ) → j < k + 1 → (j < k → C) → (j ≡ k → C) → C
+    by j l old new = elim (ℕ-discrete j k) [ yes e ↦ new e | no e ↦ old (omega arith) ]
+
+    first-new : getD heads′ (4 * k) 0 ≡ getD four 0 0
+    first-new = first-head heads′ k ∙ new-head 0 (omega arith)
+
+    first-old : (j : ℕ) → j < k → getD heads′ (4 * j) 0 ≡ getD heads (4 * j) 0
+    first-old j l = first-head heads′ j ∙ old-head j 0 l (omega arith) ∙ sym (first-head heads j)
+
+    pub laid-more : Laid heads′ words′ (k + 1)
+    laid-more =
+        record {
+          at-most = omega arith;
+          heads-room = omega (arith, ap length eh, length-sets heads (4 * k) four);
+          words-room = omega arith;
+          tests-few = λ j l. by j l (λ g. omega (arith, first-old j g, laid .tests-few j g)) (λ e. rw e (omega (arith, first-new, f .tests-few)));
+          actions-few = λ j l. by j l (λ g. omega (arith, old-head j 1 g (omega arith), laid .actions-few j g)) (λ e. rw e (omega (arith, new-head 1 (omega arith), f .actions-few)));
+          masks = λ j l.
+              by j l (λ g. old-head j 3 g (omega arith) ∙ laid .masks j g ∙ ap testedMask (sym (old-tests j g)))
+              (λ e. rw e (new-head 3 (omega arith) ∙ f .mask-is ∙ ap (λ (m : ℕ). testedMask (testsIn words′ (176 * k) m)) (sym first-new)));
+        }
+
+-- no rule yet
+pub laid-none : (heads words : List ℕ) → Laid heads words 0
+laid-none heads words =
+    record {
+      at-most = omega arith;
+      heads-room = omega arith;
+      words-room = omega arith;
+      tests-few = λ j l. absurd (omega arith);
+      actions-few = λ j l. absurd (omega arith);
+      masks = λ j l. absurd (omega arith);
+    }

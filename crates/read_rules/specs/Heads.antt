@@ -1,0 +1,70 @@
+-- The first four fields of a rule, and a rule by its four words.
+use Prim.Native.Nat.{ℕ, _+_, _*_, _≤_, _<_}
+use mathlib.Core.Path.{_≡_}
+use mathlib.Core.List.{List}
+use lib.ListN.{length, getD, take}
+use Rattle.meaning.specs.Base.{all, count}
+use Rattle.meaning.specs.Model.{Sizes, Rule}
+use Rattle.meaning.specs.Read.{Reader, _>>=_, _>>_, give, field, require}
+use Rattle.meaning.specs.Numbers.{bad-variable}
+use Rattle.meaning.specs.Image.{anything, between, utilityOf, tests, standsIn, actions, rule}
+use Rattle.layout.specs.declared.Walk.{Walk}
+use Rattle.layout.specs.declared.Walk.the-variants.{Next}
+use Rattle.layout.specs.Walks.{answer, Within}
+use Rattle.layout.specs.Rows.{sizes, testsIn, actionsIn, testedMask, Laid}
+use Rattle.read_rules.specs.declared.HeadRead.{HeadRead}
+use Rattle.read_rules.specs.declared.RuleRead.{RuleRead}
+
+pub record Head : Type 0 where
+  pub utility : ℕ
+  pub tests : ℕ
+  pub actions : ℕ
+  pub variables : ℕ
+
+-- the four fields
+unfoldable pub head : ℕ → Reader Head
+head buffers = do
+  utility ← field 16 anything
+  n ← field 4 (between 1 buffers)
+  m ← field 4 (between 0 buffers)
+  variables ← field 4 (between 0 8)
+  give (record { utility = utility; tests = n; actions = m; variables = variables })
+
+-- and what follows them
+unfoldable pub body : Sizes → Head → Reader Rule
+body z h = do
+  ts ← tests z (h .variables) (h .tests)
+  require bad-variable (all (standsIn ts) (count 0 (h .variables)))
+  as′ ← actions z (h .variables) ts (h .actions)
+  give (record { utility = utilityOf (h .utility); tests = ts; actions = as′ })
+
+abbrev pub headIn : HeadRead → Head
+headIn r = record { utility = r .utility; tests = r .tests; actions = r .actions; variables = r .variables }
+
+-- a rule by its four words and the rows from o on
+abbrev pub ruleBy : List ℕ → List ℕ → ℕ → Rule
+ruleBy four w o = record { utility = utilityOf (getD four 2 0); tests = testsIn w o (getD four 0 0); actions = actionsIn w (o + 88) (getD four 1 0) }
+
+-- what holds of a head that was read
+pub record HeadFits (h : Head) (buffers : ℕ) : Type 0 where
+  pub tests-few : h .tests ≤ buffers
+  pub actions-few : h .actions ≤ buffers
+  pub variables-few : h .variables ≤ 8
+
+-- what holds of the four words of a rule that was read
+pub record RuleFits (four w : List ℕ) (o : ℕ) : Type 0 where
+  pub tests-few : getD four 0 0 ≤ 8
+  pub actions-few : getD four 1 0 ≤ 8
+  pub mask-is : getD four 3 0 ≡ testedMask (testsIn w o (getD four 0 0))
+
+-- what the reading of one rule gives: the definition's rule or refusal; a place within the image; the words below o as they were;
+-- and of a rule that was read, that its four words fit
+pub record RuleMet (r : RuleRead) (image : List ℕ) (p buffers : ℕ) (types before after : List ℕ) (o : ℕ) : Type 0 where
+  pub reads : answer (r .walk) (ruleBy (r .words) after o) ≡ rule (sizes buffers types) image p
+  pub within : Within (r .walk) (8 * length image)
+  pub kept : take o after ≡ take o before
+  pub fits : (q : ℕ) → r .walk ≡ Next q → RuleFits (r .words) after o
+
+-- what holds of the rules where all were read
+abbrev pub LaidIf : Walk → List ℕ → List ℕ → ℕ → Type 0
+LaidIf walk heads words n = (q : ℕ) → walk ≡ Next q → Laid heads words n

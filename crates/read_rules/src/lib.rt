@@ -1,0 +1,133 @@
+// Rules, read from the packed image: each one's head into four words (tests, actions, utility, mask of tested buffers),
+// its tests and actions into 176 words (eight rows each).
+ghost use mathlib.Core.Path.{_≡_};
+ghost use Prim.Native.Nat.{_+_, _*_, _≤_, _<_};
+ghost use lib.ListN.{length, take};
+ghost use Rattle.meaning.specs.Read.{times};
+ghost use Rattle.meaning.specs.Image.{rule};
+ghost use Rattle.layout.specs.Walks.{answer, Within};
+ghost use Rattle.layout.specs.Rows.{sizes, rulesIn};
+ghost use Rattle.read_rules.specs.Heads.{head, headIn, RuleMet, LaidIf};
+use layout::Walk;
+
+// The first four fields of a rule, or a refusal.
+pub struct HeadRead {
+    pub walk: Walk,
+    pub utility: u16,
+    pub tests: u16,
+    pub actions: u16,
+    pub variables: u16,
+}
+
+// A rule's four words, or a refusal.
+pub struct RuleRead {
+    pub walk: Walk,
+    pub words: [u16; 4],
+}
+
+fn no_rule(number: u8, at: usize) -> RuleRead
+    ensures { λ r. ⌜ r .walk ≡ Walk.Bad number at ⌝ }
+{
+    RuleRead {
+        walk: Walk::Bad(number, at),
+        words: [0; 4],
+    }
+}
+
+// Utility, and how many tests, actions and variables follow.
+fn head(image: &[u8], p: usize, buffers: u16) -> HeadRead
+    requires { ⌜ (length (now image) ≤ 65536) × (p ≤ 8 * length (now image)) × (buffers ≤ 8) ⌝ }
+    ensures { λ r. ⌜ answer (r .walk) (headIn r) ≡ head buffers (now (image .entry)) p ⌝ }
+    ensures within { λ r. ⌜ Within (r .walk) (8 * length (now (image .entry))) ⌝ }
+{
+    let utility = read_ranges::any_after(image, Walk::Next(p), 16);
+    let first = utility.walk;
+    let tests = read_ranges::ranged_after(image, first, 4, 1, buffers + 1, 3);
+    let second = tests.walk;
+    let actions = read_ranges::ranged_after(image, second, 4, 0, buffers + 1, 3);
+    let third = actions.walk;
+    let variables = read_ranges::ranged_after(image, third, 4, 0, 9, 3);
+    let walk = variables.walk;
+    HeadRead {
+        walk: walk,
+        utility: utility.value,
+        tests: tests.value,
+        actions: actions.value,
+        variables: variables.value,
+    }
+}
+
+// One rule: its tests into words from o on, its actions from o + 88 on, and its four words.
+fn rule(
+    image: &[u8],
+    p: usize,
+    buffers: u16,
+    types: &[u16],
+    words: &mut [u16],
+    o: usize,
+) -> RuleRead
+    requires { ⌜ (length (now image) ≤ 65536) × (p ≤ 8 * length (now image)) × (buffers ≤ 8) × (0 < length (now types)) × (o + 176 ≤ length (now words)) ⌝ }
+    ensures { λ r. ⌜ RuleMet r (now (image .entry)) p buffers (now (types .entry)) (now (words .entry)) (now (words .exit)) o ⌝ }
+{
+    let h = head(image, p, buffers);
+    let after_head = h.walk;
+    let q = match after_head {
+        Walk::Next(q) => q,
+        Walk::Bad(number, at) => {
+            return no_rule(number, at);
+        }
+    };
+    let n = h.tests as usize;
+    let after_tests = read_tests::tests(image, q, n, buffers, types, h.variables, words, o);
+    let e = match after_tests {
+        Walk::Next(e) => e,
+        Walk::Bad(number, at) => {
+            return no_rule(number, at);
+        }
+    };
+    if !read_named::stood(words, o, n, h.variables) {
+        return no_rule(3, e);
+    }
+    let m = h.actions as usize;
+    let mask = read_named::tested(words, o, n);
+    let walk = read_actions::actions(image, e, m, buffers, types, h.variables, words, o, n);
+    RuleRead {
+        walk: walk,
+        words: [h.tests, h.actions, h.utility, mask],
+    }
+}
+
+// n rules: rule k's four words into heads from 4 k on, its rows into words from 176 k on.
+pub fn rules(
+    image: &[u8],
+    p: usize,
+    n: usize,
+    buffers: u16,
+    types: &[u16],
+    heads: &mut [u16],
+    words: &mut [u16],
+) -> Walk
+    requires { ⌜ (length (now image) ≤ 65536) × (p ≤ 8 * length (now image)) × (buffers ≤ 8) × (0 < length (now types)) × (n ≤ 256) × (4 * n ≤ length (now heads)) × (176 * n ≤ length (now words)) ⌝ }
+    ensures { λ r. ⌜ answer r (rulesIn (now (heads .exit)) (now (words .exit)) n) ≡ times n (rule (sizes buffers (now (types .entry)))) (now (image .entry)) p ⌝ }
+    ensures within { λ r. ⌜ Within r (8 * length (now (image .entry))) ⌝ }
+    ensures laid { λ r. ⌜ LaidIf r (now (heads .exit)) (now (words .exit)) n ⌝ }
+{
+    let mut at = p;
+    let mut k = 0;
+    while k < n {
+        let r = rule(image, at, buffers, types, words, 176 * k);
+        let walk = r.walk;
+        match walk {
+            Walk::Next(q) => {
+                at = q;
+            }
+            Walk::Bad(number, place) => {
+                return Walk::Bad(number, place);
+            }
+        }
+        let four = r.words;
+        layout::copy_into(heads, 4 * k, &four);
+        k += 1;
+    }
+    Walk::Next(at)
+}

@@ -1,0 +1,98 @@
+// A mask and the terms of the slots that it names: what tests, modifications and requests have in common.
+ghost use mathlib.Core.Path.{_≡_};
+ghost use mathlib.Core.Bool.{not};
+ghost use Prim.Native.Nat.{_*_, _-_, _%_, _^_, _≤_, _<_};
+ghost use lib.Dec.{eqb};
+ghost use lib.ListN.{length};
+ghost use Rattle.meaning.specs.Image.{terms, masked, slotsIn};
+ghost use Rattle.layout.specs.Walks.{answer, Within};
+ghost use Rattle.layout.specs.Rows.{namedBy};
+use layout::Eight;
+use layout::Walk;
+use read_fields::Field;
+
+// A mask with its terms, each at its slot; or a refusal.
+pub struct MaskRead {
+    pub walk: Walk,
+    pub mask: u16,
+    pub slots: [u16; 8],
+}
+
+// Whether the mask has a bit past so many slots.
+fn past(mask: u16, slots: u16) -> bool
+    ensures { λ r. ⌜ r ≡ not (eqb (mask % 2 ^ (8 - slots)) 0) ⌝ }
+{
+    if slots < 8 {
+        let low = mask & ((1u16 << (8 - slots)) - 1);
+        return low != 0;
+    }
+    false
+}
+
+// The terms of the slots that the mask names, as many as it has ones, each at its slot; 0 at the other slots.
+fn terms(image: &[u8], p: usize, mask: u16, variables: u16) -> Eight
+    requires { ⌜ (length (now image) ≤ 65536) × (p ≤ 8 * length (now image)) × (mask < 256) × (variables ≤ 8) ⌝ }
+    ensures { λ r. ⌜ answer (r .walk) (namedBy mask (r .slots)) ≡ terms variables (slotsIn mask) (now (image .entry)) p ⌝ }
+    ensures within { λ r. ⌜ Within (r .walk) (8 * length (now (image .entry))) ⌝ }
+{
+    let mut xs = [0u16; 8];
+    let mut at = p;
+    let mut b = 0;
+    let mut left = u32::count_ones(mask as u32);
+    while 0 < left {
+        if (mask >> (7 - b)) & 1 == 1 {
+            let Field::Value(t) = read_fields::field_at(image, at, 13) else {
+                return Eight {
+                    walk: Walk::Bad(2, at),
+                    slots: xs,
+                };
+            };
+            if 4096 + variables <= t {
+                return Eight {
+                    walk: Walk::Bad(3, at),
+                    slots: xs,
+                };
+            }
+            xs[b] = t;
+            at += 13;
+            left -= 1;
+        }
+        b += 1;
+    }
+    Eight {
+        walk: Walk::Next(at),
+        slots: xs,
+    }
+}
+
+fn no_terms(number: u8, at: usize) -> MaskRead
+    ensures { λ r. ⌜ r .walk ≡ Walk.Bad number at ⌝ }
+{
+    MaskRead {
+        walk: Walk::Bad(number, at),
+        mask: 0,
+        slots: [0; 8],
+    }
+}
+
+// A mask within so many slots, and its terms.
+pub fn masked(image: &[u8], p: usize, slots: u16, variables: u16) -> MaskRead
+    requires { ⌜ (length (now image) ≤ 65536) × (p ≤ 8 * length (now image)) × (variables ≤ 8) ⌝ }
+    ensures { λ r. ⌜ answer (r .walk) (namedBy (r .mask) (r .slots)) ≡ masked variables slots (now (image .entry)) p ⌝ }
+    ensures within { λ r. ⌜ Within (r .walk) (8 * length (now (image .entry))) ⌝ }
+{
+    let Field::Value(m) = read_fields::field_at(image, p, 8) else {
+        return no_terms(2, p);
+    };
+    if past(m, slots) {
+        return no_terms(3, p);
+    }
+    let e = terms(image, p + 8, m, variables);
+    let w = e.walk;
+    let xs = e.slots;
+    MaskRead {
+        walk: w,
+        mask: m,
+        slots: xs,
+    }
+}

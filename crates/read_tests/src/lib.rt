@@ -1,0 +1,76 @@
+// A rule's tests: read from the packed image, and laid out in rows of eleven words (buffer, type, mask, eight terms at their slots).
+ghost use mathlib.Core.Path.{_≡_};
+ghost use Prim.Native.Nat.{_+_, _*_, _≤_, _<_};
+ghost use lib.ListN.{length, take};
+ghost use Rattle.meaning.specs.Image.{test, tests};
+ghost use Rattle.layout.specs.Walks.{answer, Within};
+ghost use Rattle.layout.specs.Rows.{sizes, testIn, testsIn};
+use layout::RowRead;
+use layout::Walk;
+
+// One test: a buffer from `least` to below `buffers`, a type, a mask within the type's slots and its terms.
+fn test(image: &[u8], p: usize, buffers: u16, types: &[u16], variables: u16, least: u16) -> RowRead
+    requires { ⌜ (length (now image) ≤ 65536) × (p ≤ 8 * length (now image)) × (buffers ≤ 8) × (variables ≤ 8) × (0 < length (now types)) ⌝ }
+    ensures { λ r. ⌜ answer (r .walk) (testIn (r .words) 0) ≡ test (sizes buffers (now (types .entry))) variables least (now (image .entry)) p ⌝ }
+    ensures within { λ r. ⌜ Within (r .walk) (8 * length (now (image .entry))) ⌝ }
+{
+    let buffer = read_ranges::ranged(image, p, 3, least, buffers, 3);
+    let after_buffer = buffer.walk;
+    let q = match after_buffer {
+        Walk::Next(q) => q,
+        Walk::Bad(number, at) => {
+            return layout::no_row(number, at);
+        }
+    };
+    let isa = read_ranges::type_at(image, q, types, 0);
+    let after_type = isa.walk;
+    let o = match after_type {
+        Walk::Next(o) => o,
+        Walk::Bad(number, at) => {
+            return layout::no_row(number, at);
+        }
+    };
+    let k = isa.value as usize;
+    let named = read_terms::masked(image, o, types[k], variables);
+    let w = named.walk;
+    let xs = named.slots;
+    layout::row(w, buffer.value, isa.value, named.mask, xs)
+}
+
+// n tests into words, a row each, from o on; the buffers rise.
+pub fn tests(
+    image: &[u8],
+    p: usize,
+    n: usize,
+    buffers: u16,
+    types: &[u16],
+    variables: u16,
+    words: &mut [u16],
+    o: usize,
+) -> Walk
+    requires { ⌜ (length (now image) ≤ 65536) × (p ≤ 8 * length (now image)) × (buffers ≤ 8) × (variables ≤ 8) × (0 < length (now types)) × (o + 11 * n ≤ length (now words)) ⌝ }
+    ensures { λ r. ⌜ answer r (testsIn (now (words .exit)) o n) ≡ tests (sizes buffers (now (types .entry))) variables n (now (image .entry)) p ⌝ }
+    ensures within { λ r. ⌜ Within r (8 * length (now (image .entry))) ⌝ }
+    ensures kept { λ r. ⌜ take o (now (words .exit)) ≡ take o (now (words .entry)) ⌝ }
+{
+    let mut at = p;
+    let mut least = 0;
+    let mut i = 0;
+    while i < n {
+        let row = test(image, at, buffers, types, variables, least);
+        let walk = row.walk;
+        match walk {
+            Walk::Next(q) => {
+                at = q;
+            }
+            Walk::Bad(number, place) => {
+                return Walk::Bad(number, place);
+            }
+        }
+        layout::lay(words, o + 11 * i, row);
+        let ws = row.words;
+        least = ws[0] % 8 + 1;
+        i += 1;
+    }
+    Walk::Next(at)
+}

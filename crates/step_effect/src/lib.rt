@@ -1,0 +1,76 @@
+// What one action makes of its buffer, in place on the buffer's ten words.
+ghost use Prim.Native.Nat.{_+_, _*_, _≤_, _<_};
+ghost use lib.ListN.{length, getD};
+ghost use Rattle.meaning.specs.State.{nilAfter};
+ghost use Rattle.meaning.specs.Retrieval.{retrieve, retrieved};
+ghost use Rattle.layout.specs.Rows.{maskedIn, factsIn};
+ghost use Rattle.layout.specs.StateWords.{bufferIn};
+ghost use Rattle.step_retrieve.specs.Chains.{Chained};
+ghost use Rattle.step_wait.specs.Remade.{Remade};
+ghost use Rattle.step_effect.specs.Deeds.{chunkIn, modified};
+use step_retrieve::Found;
+
+// Writes a chunk over buffer k: its type, eight words of `from` that start at `at`, and its delay.
+fn fill(state: &mut [u16], k: usize, isa: u16, from: &[u16], at: usize, delay: u16)
+    requires { ⌜ (80 ≤ length (now state)) × (k < 8) × (at + 8 ≤ length (now from)) ⌝ }
+    ensures { λ _. ⌜ Remade (now (state .entry)) (now (state .exit)) k (chunkIn isa (now (from .entry)) at delay) ⌝ }
+{
+    let mut b = 0;
+    while b < 8 {
+        state[10 * k + 1 + b] = from[at + b];
+        b += 1;
+    }
+    state[10 * k] = isa;
+    state[10 * k + 9] = delay;
+}
+
+// Writes nil over buffer k, visible after some ms.
+pub fn nil(state: &mut [u16], k: usize, delay: u16)
+    requires { ⌜ (80 ≤ length (now state)) × (k < 8) ⌝ }
+    ensures { λ _. ⌜ Remade (now (state .entry)) (now (state .exit)) k (nilAfter delay) ⌝ }
+{
+    let zeros = [0u16; 8];
+    fill(state, k, 0, &zeros, 0, delay);
+}
+
+// Writes the values of the terms of the action at q into the slots of buffer k that it names, and makes it visible.
+pub fn modify(state: &mut [u16], k: usize, words: &[u16], q: usize, nine: &[u16])
+    requires { ⌜ (80 ≤ length (now state)) × (k < 8) × (q + 11 ≤ length (now words)) × (9 ≤ length (now nine)) ⌝ }
+    ensures { λ _. ⌜ Remade (now (state .entry)) (now (state .exit)) k (modified (maskedIn (now (words .entry)) q) (now (nine .entry)) (bufferIn (now (state .entry)) k)) ⌝ }
+{
+    let mask = words[q + 2];
+    let mut b = 0;
+    while b < 8 {
+        if (mask >> (7 - b)) & 1 == 1 {
+            state[10 * k + 1 + b] = step_retrieve::value_of(nine, words[q + 3 + b]);
+        }
+        b += 1;
+    }
+    state[10 * k + 9] = 0;
+}
+
+// Writes over buffer k the fact that the request at q finds, with its latency as the delay; or nil with the failure latency.
+pub fn request(
+    state: &mut [u16],
+    k: usize,
+    words: &[u16],
+    q: usize,
+    nine: &[u16],
+    facts: &[u16],
+    index: &[u16],
+    n: usize,
+    failure: u16,
+)
+    requires { ⌜ (80 ≤ length (now state)) × (k < 8) × (q + 11 ≤ length (now words)) × (9 ≤ length (now nine)) × (n ≤ 512) × (11 * n ≤ length (now facts)) × Chained (now index) (now facts) n ⌝ }
+    ensures { λ _. ⌜ Remade (now (state .entry)) (now (state .exit)) k (retrieved failure (retrieve (factsIn (now (facts .entry)) n) (getD (now (words .entry)) (q + 1) 0) (maskedIn (now (words .entry)) q) (now (nine .entry)))) ⌝ }
+{
+    match step_retrieve::retrieve(facts, index, n, words, q, nine) {
+        Found::Fact(i) => {
+            let f = 11 * i;
+            fill(state, k, facts[f], facts, f + 3, facts[f + 2]);
+        }
+        Found::Nothing => {
+            nil(state, k, failure);
+        }
+    }
+}

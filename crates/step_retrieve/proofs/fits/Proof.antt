@@ -1,0 +1,142 @@
+-- `step_retrieve::fits` meets its contract: once the type is right, the slots that are left decide.
+use Prim.Native.Nat.{_≤_, _-_}
+use mathlib.Core.Path.{_≡_, _∙_}
+use mathlib.Core.Logic.{⊎-elim}
+use borrow.Author.Needs.{needs}
+use Rattle.step_retrieve.proofs.FitLaws.{fitsWhole, fitsFrom, fits-other, fits-start, fits-skip, fits-turn, fits-not, fits-end}
+use Rattle.step_retrieve.proofs.fits.Statement.{statement}
+use Rattle.step_retrieve.proofs.fits.Tie as tie
+
+abbrev Inv-loop : tie.InvT-loop
+Inv-loop facts f words q nine mask b₀ b = (b ≤ 8) × (fitsFrom facts f words q nine mask b ≡ fitsWhole facts f words q nine)
+
+abbrev μ-loop : tie.MeasureT-loop
+μ-loop facts f words q nine mask b₀ b = 8 - b
+
+mul-if1 : tie.Need-mul-if1 Inv-loop μ-loop
+mul-if1 c = search needs
+
+shared-slice-read-if1 : tie.Need-shared-slice-read-if1 Inv-loop μ-loop
+shared-slice-read-if1 c = search needs
+
+add-if1 : tie.Need-add-if1 Inv-loop μ-loop
+add-if1 c = search needs
+
+mul-if1-2 : tie.Need-mul-if1-2 Inv-loop μ-loop
+mul-if1-2 c = search needs
+
+shared-slice-read-if1-2 : tie.Need-shared-slice-read-if1-2 Inv-loop μ-loop
+shared-slice-read-if1-2 c = search needs
+
+returns : tie.Need-returns Inv-loop μ-loop
+returns c = let a = c .before .before .before .before .before .before .args in fits-other (a .facts .now) (a .f) (a .words .now) (a .q) (a .nine .now) (c .if1 .taken)
+
+add-mask : tie.Need-add-mask Inv-loop μ-loop
+add-mask c = search needs
+
+mul-mask : tie.Need-mul-mask Inv-loop μ-loop
+mul-mask c = search needs
+
+shared-slice-read-mask : tie.Need-shared-slice-read-mask Inv-loop μ-loop
+shared-slice-read-mask c = search needs
+
+loop-holds : tie.Need-loop-holds Inv-loop μ-loop
+loop-holds c = let a = c .before .before .before .before .before .before .before .args in (search needs, fits-start (a .facts .now) (a .f) (a .words .now) (a .q) (a .nine .now) (c .before .if1 .left))
+
+sub-if2 : tie.Need-sub-if2 Inv-loop μ-loop
+sub-if2 c = search needs
+
+cast-if2 : tie.Need-cast-if2 Inv-loop μ-loop
+cast-if2 c = search needs
+
+shr-if2 : tie.Need-shr-if2 Inv-loop μ-loop
+shr-if2 c = search needs
+
+add-if3 : tie.Need-add-if3 Inv-loop μ-loop
+add-if3 c = search needs
+
+add-if3-2 : tie.Need-add-if3-2 Inv-loop μ-loop
+add-if3-2 c = search needs
+
+mul-if3 : tie.Need-mul-if3 Inv-loop μ-loop
+mul-if3 c = search needs
+
+shared-slice-read-if3 : tie.Need-shared-slice-read-if3 Inv-loop μ-loop
+shared-slice-read-if3 c = search needs
+
+add-value-of : tie.Need-add-value-of Inv-loop μ-loop
+add-value-of c = search needs
+
+add-value-of-2 : tie.Need-add-value-of-2 Inv-loop μ-loop
+add-value-of-2 c = search needs
+
+mul-value-of : tie.Need-mul-value-of Inv-loop μ-loop
+mul-value-of c = search needs
+
+shared-slice-read-value-of : tie.Need-shared-slice-read-value-of Inv-loop μ-loop
+shared-slice-read-value-of c = search needs
+
+value-of-requires : tie.Need-value-of-requires Inv-loop μ-loop
+value-of-requires c κs = search needs
+
+returns-2 : tie.Need-returns-2 Inv-loop μ-loop
+returns-2 c =
+    let l = c .before .before .before .before .before .before .loop in
+    let a = c .before .before .before .before .before .before .before .before .before .before .before .before .before .before .args in
+    fits-not (a .facts .now) (a .f) (a .words .now) (a .q) (a .nine .now) _ (l .b) (c .before .before .before .before .before .loop-test .taken) (c .before .before .before .before .if2 .taken) _ (c .before .value-of .ensures) (c .if3 .taken) ∙ l .inv .1
+
+add-b : tie.Need-add-b Inv-loop μ-loop
+add-b c = search needs
+
+loop-less : tie.Need-loop-less Inv-loop μ-loop
+loop-less c = search needs
+
+loop-again : tie.Need-loop-again Inv-loop μ-loop
+loop-again c =
+    let l = c .before .before .loop in
+    let a = c .before .before .before .before .before .before .before .before .before .before .args in
+    let h = c .before .loop-test .taken in
+    ⊎-elim
+    (λ w. (search needs, fits-turn (a .facts .now) (a .f) (a .words .now) (a .q) (a .nine .now) _ (l .b) h (w .0 .taken) _ (w .3 .ensures) (w .4 .left) ∙ l .inv .1))
+    (λ w. (search needs, fits-skip (a .facts .now) (a .f) (a .words .now) (a .q) (a .nine .now) _ (l .b) h (w .left) ∙ l .inv .1))
+    (c .if2 .came)
+
+returns-3 : tie.Need-returns-3 Inv-loop μ-loop
+returns-3 c =
+    let l = c .before .loop in
+    let a = c .before .before .before .before .before .before .before .before .before .args in
+    fits-end (a .facts .now) (a .f) (a .words .now) (a .q) (a .nine .now) _ (l .b) (c .loop-test .left) ∙ l .inv .1
+
+pub fits-spec : {M : Type 1} → statement M
+fits-spec =
+    tie.close
+    (tie.spec
+    Inv-loop
+    μ-loop
+    mul-if1
+    shared-slice-read-if1
+    add-if1
+    mul-if1-2
+    shared-slice-read-if1-2
+    returns
+    add-mask
+    mul-mask
+    shared-slice-read-mask
+    loop-holds
+    sub-if2
+    cast-if2
+    shr-if2
+    add-if3
+    add-if3-2
+    mul-if3
+    shared-slice-read-if3
+    add-value-of
+    add-value-of-2
+    mul-value-of
+    shared-slice-read-value-of
+    value-of-requires
+    returns-2
+    add-b
+    loop-less
+    loop-again
+    returns-3)

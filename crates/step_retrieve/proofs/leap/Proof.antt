@@ -1,0 +1,23 @@
+-- `step_retrieve::leap` meets its contract.
+use native.Mathlib.Omega.{arith}
+use borrow.Author.Needs.{needs}
+use Rattle.step_retrieve.proofs.leap.Statement.{statement}
+use Rattle.step_retrieve.proofs.leap.Tie as tie
+
+mul-result : tie.Need-mul-result
+mul-result c = search needs
+
+shared-slice-read-result : tie.Need-shared-slice-read-result
+shared-slice-read-result c = search needs
+
+cast-result : tie.Need-cast-result
+cast-result c = omega (arith, c .shared-slice-known .given (c .before .before .args .at))
+
+returns : tie.Need-returns
+returns c = rw (c .before .if1 .taken)
+
+returns-2 : tie.Need-returns-2
+returns-2 c = rw (c .if1 .left)
+
+pub leap-spec : {M : Type 1} → statement M
+leap-spec = tie.close (tie.spec mul-result shared-slice-read-result cast-result returns returns-2)

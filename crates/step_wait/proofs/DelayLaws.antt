@@ -1,0 +1,82 @@
+-- Delays: the sooner of two, the soonest of a state, and the delay of one buffer lowered.
+use Prim.Native.Nat.{ℕ, zero, suc, _+_, _-_, _*_, _≤_, _<_}
+use mathlib.Core.Path.{_≡_, refl, sym, ap}
+use mathlib.Core.Bool.{false, not, _&&_}
+use mathlib.Core.List.{List}
+use native.Mathlib.Omega.{arith}
+use borrow.Author.Tests.{lt-ltb, le-ltb, ne-eqb}
+use lib.Dec.{ltb, eqb}
+use lib.ListN.{length, getD, set}
+use lib.Seq.{getD-set-same, getD-set-other}
+use Rattle.meaning.specs.declared.Buffer.{Buffer}
+use Rattle.meaning.specs.Base.{if_then_else_}
+use Rattle.meaning.specs.Fire.{later}
+use Rattle.meaning.specs.Wait.{sooner, soonest}
+use Rattle.layout.specs.Rows.{rowsIn}
+use Rattle.layout.specs.StateWords.{bufferIn}
+use Rattle.layout.proofs.RowLaws.{rows-left, rows-same}
+use Rattle.step_wait.specs.Remade.{Remade, arrives}
+
+-- ---- the sooner of two delays
+
+pub sooner-visible : (ms delay : ℕ) → delay ≡ 0 → ms ≡ sooner ms delay
+sooner-visible zero delay e = sym e
+sooner-visible (suc ms) delay e = rw e
+
+pub sooner-first : (ms delay : ℕ) → (ms ≡ 0 → ⊥) → ms < delay → ms ≡ sooner ms delay
+sooner-first zero delay n h = absurd (n refl)
+sooner-first (suc ms) zero n h = absurd (omega arith)
+sooner-first (suc ms) (suc delay) n h = rw (lt-ltb ms delay (omega arith))
+
+pub sooner-second : (ms delay : ℕ) → (delay ≡ 0 → ⊥) → delay ≤ ms → delay ≡ sooner ms delay
+sooner-second zero delay n h = refl
+sooner-second (suc ms) zero n h = absurd (n refl)
+sooner-second (suc ms) (suc delay) n h = rw (le-ltb ms delay (omega arith))
+
+-- ---- the soonest of a state, in a loop over its buffers
+
+module _ (w : List ℕ) (k ms : ℕ) where
+  pub soonest-turn : k < 8 → soonest (sooner ms (getD w (10 * k + 9) 0)) (rowsIn (bufferIn w) (k + 1) (8 - (k + 1))) ≡ soonest ms (rowsIn (bufferIn w) k (8 - k))
+  unfolding soonest
+  soonest-turn h =
+      let n : 8 - k + k ≡ 8 = omega arith in
+      rw (rows-left (bufferIn w) k 8 h (8 - k) n)
+
+  pub soonest-end : 8 ≤ k → ms ≡ soonest ms (rowsIn (bufferIn w) k (8 - k))
+  unfolding soonest rowsIn
+  soonest-end h = let e : 8 - k ≡ 0 = omega arith in rw e
+
+-- ---- the delay of one buffer
+
+-- another delay, and the rest of the buffer as it was
+pub delay-set : (w : List ℕ) (k d : ℕ) → 10 * k + 10 ≤ length w → Remade w (set w (10 * k + 9) d) k (record { isa = bufferIn w k .isa; slots = bufferIn w k .slots; delay = d })
+delay-set w k d h =
+    record {
+      made =
+          rw (other (10 * k) (λ e. omega arith), getD-set-same w (10 * k + 9) d 0 (omega arith))
+          (ap (λ (l : List ℕ). record { isa = getD w (10 * k) 0; slots = l; delay = d })
+          (rows-same (λ b. getD (set w (10 * k + 9) d) (10 * k + 1 + b) 0) (λ b. getD w (10 * k + 1 + b) 0) 0 8 (λ b x y. other (10 * k + 1 + b) (λ e. omega arith))));
+      below = λ j l. other j (λ e. omega arith);
+      above = λ j l. other j (λ e. omega arith);
+    }
+  where
+    other : (j : ℕ) → (j ≡ 10 * k + 9 → ⊥) → getD (set w (10 * k + 9) d) j 0 ≡ getD w j 0
+    other j n = getD-set-other w (10 * k + 9) j d 0 n
+
+pub delay-lowered : (w : List ℕ) (k ms d : ℕ) → 10 * k + 10 ≤ length w → d ≡ getD w (10 * k + 9) 0 - ms → Remade w (set w (10 * k + 9) d) k (later ms (bufferIn w k))
+delay-lowered w k ms d h e = rw e (delay-set w k (getD w (10 * k + 9) 0 - ms) h)
+
+-- a lowered delay that was above 0 and is not any more
+pub arrives-if : (b : Buffer) (ms : ℕ) → b .delay ≤ ms → ltb 0 (b .delay) ≡ arrives b (later ms b)
+arrives-if b ms h = go (b .delay) h
+  where
+    go : (d : ℕ) → d ≤ ms → ltb 0 d ≡ (not (eqb d 0) && eqb (d - ms) 0)
+    go zero l = refl
+    go (suc d) l = let e : suc d - ms ≡ 0 = omega arith in rw (lt-ltb 0 (suc d) (omega arith), ne-eqb (suc d) 0 (λ z. omega arith), e)
+
+pub stays-if : (b : Buffer) (ms : ℕ) → ms < b .delay → false ≡ arrives b (later ms b)
+stays-if b ms h = go (b .delay) h
+  where
+    go : (d : ℕ) → ms < d → false ≡ (not (eqb d 0) && eqb (d - ms) 0)
+    go zero l = absurd (omega arith)
+    go (suc d) l = rw (ne-eqb (suc d) 0 (λ e. omega arith), ne-eqb (suc d - ms) 0 (λ e. omega arith))

@@ -1,0 +1,72 @@
+-- `step_wait::wait` meets its contract: each buffer in its turn, with its weight in the mark.
+use borrow.Author.Needs.{needs}
+use Prim.Native.Nat.{_+_, _-_}
+use mathlib.Core.Path.{refl, ap}
+use mathlib.Core.List.{[]}
+use mathlib.Core.Logic.{⊎-elim}
+use native.Mathlib.Omega.{arith}
+use Rattle.meaning.specs.Fire.{later, deedOn}
+use Rattle.meaning.specs.Wait.{wait}
+use Rattle.meaning.specs.Mark.{actedOn}
+use Rattle.step_wait.proofs.StepLaws.{Going, going-start, going-weight, going-fits, going-on, going-off, going-made, going-marked}
+use Rattle.step_wait.proofs.wait.Statement.{statement}
+use Rattle.step_wait.proofs.wait.Tie as tie
+
+abbrev Inv-loop : tie.InvT-loop
+Inv-loop state₀ ms mark₀ weight₀ k₀ state mark weight k = Going (λ i b. later ms b) (actedOn []) state₀ state k mark weight
+
+abbrev μ-loop : tie.MeasureT-loop
+μ-loop state₀ ms mark₀ weight₀ k₀ state mark weight k = 8 - k
+
+loop-holds : tie.Need-loop-holds Inv-loop μ-loop
+loop-holds c = going-start _ _ _
+
+lower-requires : tie.Need-lower-requires Inv-loop μ-loop
+lower-requires c κs = let g = c .before .before .loop .inv in (omega (arith, g .size, c .before .before .before .before .pre), search needs)
+
+add-mark : tie.Need-add-mark Inv-loop μ-loop
+unfolding deedOn
+add-mark c = let h = going-fits (c .before .before .before .before .before .before .loop .inv) (omega arith) (c .before .before .before .lower .ensures .1) (c .if1 .taken) in omega arith
+
+mul-weight : tie.Need-mul-weight Inv-loop μ-loop
+mul-weight c = let h = going-weight (c .before .before .before .before .before .before .loop .inv) (omega arith) in omega arith
+
+add-k : tie.Need-add-k Inv-loop μ-loop
+add-k c = search needs
+
+loop-less : tie.Need-loop-less Inv-loop μ-loop
+loop-less c = search needs
+
+loop-again : tie.Need-loop-again Inv-loop μ-loop
+unfolding deedOn
+loop-again c =
+    let g = c .before .before .before .before .before .before .loop .inv in
+    let r = c .before .before .before .lower in
+    ⊎-elim (λ w. rw (w .1) (going-on g (omega arith) (r .ensures .1) (r .kept .0) (r .ensures .0) (w .0 .taken)))
+    (λ w. rw (w .1) (going-off g (omega arith) (r .ensures .1) (r .kept .0) (r .ensures .0) (w .0 .left))) (c .if1 .came)
+
+same-length : tie.Need-same-length Inv-loop μ-loop
+same-length c = c .before .loop .inv .size
+
+returns : tie.Need-returns Inv-loop μ-loop
+unfolding wait
+returns c =
+    let g = c .before .loop .inv in
+    let a = c .before .before .before .args in
+    (λ clock. ap (λ bs. record { buffers = bs; clock = clock + a .ms }) (going-made g (omega arith)), λ clock clock′. going-marked g (omega arith) [] refl clock clock′)
+
+pub wait-spec : {M : Type 1} → statement M
+wait-spec =
+    tie.close
+    (tie.spec
+    Inv-loop
+    μ-loop
+    loop-holds
+    lower-requires
+    add-mark
+    mul-weight
+    add-k
+    loop-less
+    loop-again
+    same-length
+    returns)
