@@ -10,7 +10,7 @@ use lib.ListN.{length, getD, set, take, drop, length-drop}
 use lib.Seq.{drop-cons, getD-drop, take-suc, take-suc-set, take-all, drop-length}
 use borrow.Author.Tests.{le-leb, lt-leb}
 use Rattle.meaning.specs.declared.State.{State}
-use Rattle.meaning.specs.Base.{all}
+use Rattle.meaning.specs.Base.{every}
 use Rattle.layout.specs.Rows.{rowsIn}
 use Rattle.layout.specs.StateWords.{buffersIn, stateIn}
 use Rattle.layout_state.proofs.LayLaws.{rows-list}
@@ -20,7 +20,7 @@ use Rattle.jirvuntsag.specs.Words.{stateOf, buffersWords, wordsOf, fits,
 
 -- what is left of the test is the whole of it
 abbrev pub fitsFrom : List ℕ → ℕ → Type 0
-fitsFrom w i = all (λ v. leb v 65535) (drop i (drop 1 w)) ≡ fits w
+fitsFrom w i = every (λ v. leb v 65535) (drop i (drop 1 w)) ≡ fits w
 
 module _ (w : List ℕ) (i : ℕ) (e : length w ≡ 81) where
   eighty : length (drop 1 w) ≡ 80
@@ -38,7 +38,7 @@ module _ (w : List ℕ) (i : ℕ) (e : length w ≡ 81) where
   fits-not h s f = sym (rw (next h, lt-leb (getD w (1 + i) 0) 65535 s) refl) ∙ f
 
   pub fits-end : i ≡ 80 → fitsFrom w i → true ≡ fits w
-  fits-end h f = sym (ap (λ (n : ℕ). all (λ v. leb v 65535) (drop n (drop 1 w))) (h ∙ sym eighty) ∙ ap (all (λ v. leb v 65535)) (drop-length (drop 1 w))) ∙ f
+  fits-end h f = sym (ap (λ (n : ℕ). every (λ v. leb v 65535) (drop n (drop 1 w))) (h ∙ sym eighty) ∙ ap (every (λ v. leb v 65535)) (drop-length (drop 1 w))) ∙ f
 
   pub narrow-on : (b : List ℕ) → i < 80 → length b ≡ 80 → take i b ≡ take i (drop 1 w) → take (i + 1) (set b i (getD w (1 + i) 0)) ≡ take (i + 1) (drop 1 w)
   narrow-on b h l t =

@@ -6,7 +6,7 @@ use lib.Dec.{leb}
 use lib.ListN.{getD, drop, replicate}
 use Rattle.meaning.specs.declared.Buffer.{Buffer}
 use Rattle.meaning.specs.declared.State.{State}
-use Rattle.meaning.specs.Base.{if_then_else_, all}
+use Rattle.meaning.specs.Base.{if_then_else_, every}
 use Rattle.layout.specs.StateWords.{stateIn}
 
 -- the state that 81 words hold
@@ -26,7 +26,7 @@ wordsOf s = s .clock ∷ buffersWords (s .buffers)
 
 -- a type, a slot and a delay have 16 bits: no word but the clock is larger
 unfoldable pub fits : List ℕ → Bool
-fits w = all (λ v. leb v 65535) (drop 1 w)
+fits w = every (λ v. leb v 65535) (drop 1 w)
 
 -- a state that is well formed in no model, since values are at most 4,095
 abbrev pub unfitBuffer : Buffer

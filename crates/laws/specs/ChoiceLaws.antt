@@ -10,7 +10,7 @@ use borrow.Author.Tests.{ltb-true, ltb-false, lt-ltb, le-ltb, not-true}
 use lib.ListN.{take, drop}
 use lib.IntN.{ℤ, pos, negsuc}
 use lib.Signed.{ltZ}
-use Rattle.meaning.specs.Base.{all, admit, keep}
+use Rattle.meaning.specs.Base.{every, admit, keep}
 use Rattle.meaning.specs.Model.{Rule}
 use Rattle.meaning.specs.Choice.{Candidate, candidates, counts, lower, choose}
 use Rattle.laws.specs.ListLaws.{keep-none, none-keep, keep-member, member-keep, all-member}
@@ -108,7 +108,7 @@ choose-best rules us table c e =
     }
 
 -- "No entry matches": nothing is chosen exactly then
-pub choose-none : (rules : List Rule) (us : List ℤ) (table : List ℕ) → (choose rules us table ≡ none) ↔ (all (λ c. not (counts c)) (candidates 0 rules us table) ≡ true)
+pub choose-none : (rules : List Rule) (us : List ℤ) (table : List ℕ) → (choose rules us table ≡ none) ↔ (every (λ c. not (counts c)) (candidates 0 rules us table) ≡ true)
 unfolding choose
 choose-none rules us table = (
   λ e. keep-none counts (candidates 0 rules us table) (highest-none lower (keep counts (candidates 0 rules us table)) e),

@@ -8,7 +8,7 @@ use native.Mathlib.Omega.{arith}
 use lib.ListN.{length, replicate, length-append}
 use Rattle.meaning.specs.declared.Buffer.{Buffer}
 use Rattle.meaning.specs.declared.State.{State}
-use Rattle.meaning.specs.Base.{if_then_else_, all, count}
+use Rattle.meaning.specs.Base.{if_then_else_, every, upFrom}
 use Rattle.meaning.specs.Model.{Rule, Test}
 use Rattle.meaning.specs.State.{bufferOf, visible}
 use Rattle.meaning.specs.Match.{places, valueIn, shows, matches, entryOf, freshTable}
@@ -22,7 +22,7 @@ AlikeOn s s′ [] = Unit {0}
 AlikeOn s s′ (t ∷ ts) = Alike (bufferOf s (t .buffer)) (bufferOf s′ (t .buffer)) × AlikeOn s s′ ts
 
 abbrev allShow : List Test → State → Bool
-allShow ts s = all (λ t. shows t (bufferOf s (t .buffer))) ts
+allShow ts s = every (λ t. shows t (bufferOf s (t .buffer))) ts
 
 -- both see the same, or both fail
 abbrev SeeAlike : State → State → List Test → Type 0
@@ -52,7 +52,7 @@ entry-same r s s′ h = seen r s s′ (see s s′ (r .tests) h)
 pub entry-length : (r : Rule) (s : State) → length (entryOf r s) ≡ 9
 unfolding entryOf
 entry-length r s =
-    elim (matches r s) as (λ t. length (if t then 1 ∷ map (valueIn (places (r .tests) s)) (count 0 8) else replicate 9 0) ≡ 9) [
+    elim (matches r s) as (λ t. length (if t then 1 ∷ map (valueIn (places (r .tests) s)) (upFrom 0 8) else replicate 9 0) ≡ 9) [
       | true ↦ refl
       | false ↦ refl
     ]

@@ -6,7 +6,7 @@ use mathlib.Core.List.{List, [], _∷_, _++_}
 use mathlib.Core.Option.{Option, none, some}
 use Prim.Native.Nat.{ℕ}
 use native.Mathlib.Omega.{arith}
-use Rattle.meaning.specs.Base.{if_then_else_, all}
+use Rattle.meaning.specs.Base.{if_then_else_, every}
 use Rattle.meaning.specs.Highest.{better, highest}
 
 no-none : {A : Type 0} (x : A) → none ≡ some x → ⊥
@@ -18,8 +18,8 @@ module _ {A : Type 0} (below : A → A → Bool) where
     pub before : List A
     pub after : List A
     pub split : xs ≡ before ++ (x ∷ after)
-    pub lower : all (λ y. below y x) before ≡ true
-    pub none-higher : all (λ y. not (below x y)) after ≡ true
+    pub lower : every (λ y. below y x) before ≡ true
+    pub none-higher : every (λ y. not (below x y)) after ≡ true
 
   -- what is above the best so far, and then the best of the rest
   pub record Beats (best : A) (xs : List A) (x : A) : Type 0 where
@@ -29,7 +29,7 @@ module _ {A : Type 0} (below : A → A → Bool) where
   module _ (up : (a b c : A) → below a b ≡ true → below b c ≡ true → below a c ≡ true)
       (over : (a b c : A) → below b a ≡ false → below b c ≡ true → below a c ≡ true) where
     abbrev Answer : A → List A → A → Type 0
-    Answer best xs x = ((x ≡ best) × (all (λ y. not (below best y)) xs ≡ true)) ⊎ Beats best xs x
+    Answer best xs x = ((x ≡ best) × (every (λ y. not (below best y)) xs ≡ true)) ⊎ Beats best xs x
 
     more : (best y : A) (ys : List A) (x : A) → below y x ≡ true → below best x ≡ true → Best ys x → Beats best (y ∷ ys) x
     more best y ys x h k b =

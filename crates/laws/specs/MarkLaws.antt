@@ -10,7 +10,7 @@ use borrow.Author.Tests.{eqb-true, eq-eqb, ne-eqb}
 use lib.Bits.{bitAnd, and-step}
 use lib.Dec.{eqb}
 use lib.ListN.{length, getD, length-map, List·getD-eq-default}
-use Rattle.meaning.specs.Base.{any, count, weigh, bit}
+use Rattle.meaning.specs.Base.{anyOf, upFrom, weigh, bit}
 use Rattle.meaning.specs.Model.{Test}
 use Rattle.meaning.specs.Image.{isTested}
 use Rattle.laws.specs.BoolLaws.{no-true, and-left, and-right}
@@ -77,7 +77,7 @@ record Met (mark : ℕ) (ts : List Test) : Type 0 where
   is-marked : bit mark at ≡ true
 
 abbrev onMarked : ℕ → List Test → Bool
-onMarked mark ts = any (λ t. bit mark (t .buffer)) ts
+onMarked mark ts = anyOf (λ t. bit mark (t .buffer)) ts
 
 met : (mark : ℕ) (ts : List Test) → LowBuffers ts → onMarked mark ts ≡ true → Met mark ts
 met mark [] l e = absurd (no-true (sym e))
@@ -98,27 +98,27 @@ marked mark b (t ∷ ts) e m =
     ]) refl e
 
 abbrev mask : List Test → ℕ
-mask ts = weigh (map (isTested ts) (count 0 8))
+mask ts = weigh (map (isTested ts) (upFrom 0 8))
 
 mask-bit : (ts : List Test) (b : ℕ) → b < 8 → bit (mask ts) b ≡ isTested ts b
-mask-bit ts b h = let z : 0 + b ≡ b = omega arith in bit-weigh (map (isTested ts) (count 0 8)) b ∙ getD-count (isTested ts) 0 8 b h ∙ ap (isTested ts) z
+mask-bit ts b h = let z : 0 + b ≡ b = omega arith in bit-weigh (map (isTested ts) (upFrom 0 8)) b ∙ getD-count (isTested ts) 0 8 b h ∙ ap (isTested ts) z
 
 bit-tested : (ts : List Test) (b : ℕ) → bit (mask ts) b ≡ true → isTested ts b ≡ true
 bit-tested ts b e =
     elim (decLt b 8) [
       | yes h ↦ sym (mask-bit ts b h) ∙ e
       | no h ↦
-          let l : length (map (isTested ts) (count 0 8)) ≤ b = omega (arith, length-map (count 0 8) (isTested ts)) in
-          absurd (no-true (sym e ∙ bit-weigh (map (isTested ts) (count 0 8)) b ∙ List·getD-eq-default (map (isTested ts) (count 0 8)) false l))
+          let l : length (map (isTested ts) (upFrom 0 8)) ≤ b = omega (arith, length-map (upFrom 0 8) (isTested ts)) in
+          absurd (no-true (sym e ∙ bit-weigh (map (isTested ts) (upFrom 0 8)) b ∙ List·getD-eq-default (map (isTested ts) (upFrom 0 8)) false l))
     ]
 
-pub meets : (mark : ℕ) (ts : List Test) → LowBuffers ts → (bitAnd (weigh (map (isTested ts) (count 0 8))) mark ≡ 0 → ⊥) → any (λ t. bit mark (t .buffer)) ts ≡ true
+pub meets : (mark : ℕ) (ts : List Test) → LowBuffers ts → (bitAnd (weigh (map (isTested ts) (upFrom 0 8))) mark ≡ 0 → ⊥) → anyOf (λ t. bit mark (t .buffer)) ts ≡ true
 meets mark ts l z =
     let p : Place (bitAnd (mask ts) mark) = some-place (bitAnd (mask ts) mark) (bitAnd (mask ts) mark) (omega arith) z in
     let both : (bit (mask ts) (p .at) && bit mark (p .at)) ≡ true = sym (bit-and (mask ts) mark (p .at)) ∙ p .is-set in
     marked mark (p .at) ts (bit-tested ts (p .at) (and-left (bit (mask ts) (p .at)) (bit mark (p .at)) both)) (and-right (bit (mask ts) (p .at)) (bit mark (p .at)) both)
 
-pub misses : (mark : ℕ) (ts : List Test) → LowBuffers ts → bitAnd (weigh (map (isTested ts) (count 0 8))) mark ≡ 0 → any (λ t. bit mark (t .buffer)) ts ≡ false
+pub misses : (mark : ℕ) (ts : List Test) → LowBuffers ts → bitAnd (weigh (map (isTested ts) (upFrom 0 8))) mark ≡ 0 → anyOf (λ t. bit mark (t .buffer)) ts ≡ false
 misses mark ts l e =
     (elim (onMarked mark ts) as (λ t. onMarked mark ts ≡ t → t ≡ false) [
       | true ↦ λ t.

@@ -7,14 +7,14 @@ use borrow.Author.Tests.{eqb-true}
 use lib.Dec.{eqb}
 use lib.ListN.{length}
 use lib.Count.{ones}
-use Rattle.meaning.specs.Base.{all, count}
+use Rattle.meaning.specs.Base.{every, upFrom}
 use Rattle.meaning.specs.Image.{slotsIn}
 use Rattle.laws.specs.ListLaws.{every-count}
 
 abbrev right : ℕ → Bool
 right mask = eqb (length (slotsIn mask)) (ones mask)
 
-all-right : all right (count 0 256) ≡ true
+all-right : every right (upFrom 0 256) ≡ true
 unfolding ones slotsIn
 all-right = refl
 

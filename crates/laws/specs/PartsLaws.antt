@@ -6,9 +6,9 @@ use Prim.Native.Nat.{ℕ}
 use lib.Dec.{ltb}
 use lib.ListN.{length}
 use Rattle.meaning.specs.Base.{if_then_else_}
-use Rattle.meaning.specs.Numbers.{too-long}
+use Rattle.meaning.specs.Numbers.{too-long, bad-number}
 use Rattle.meaning.specs.Model.{Model}
-use Rattle.meaning.specs.Read.{Refused, Got, field, times}
+use Rattle.meaning.specs.Read.{Refused, Got, field, times, must}
 use Rattle.meaning.specs.Image.{Header, header, between, chunk, fact, rule, ending, model, decode}
 use Rattle.laws.specs.ReadLaws.{no-got, split}
 
@@ -33,7 +33,7 @@ module _ (image : List ℕ) (m : Model) (at : ℕ) where
   unfolding model
   model-parts e =
       split (header image 0) _ e λ h n₁ e₁ k₁.
-      split (times (h .declared) (field 4 (between 0 8)) image n₁) _ k₁ λ counts n₂ e₂ k₂.
+      split (times (h .declared) (field 4 (must bad-number (between 0 8))) image n₁) _ k₁ λ counts n₂ e₂ k₂.
       split (times (h .buffers) (chunk (0 ∷ counts) 0) image n₂) _ k₂ λ opening n₃ e₃ k₃.
       split (times (h .facts) (fact (0 ∷ counts)) image n₃) _ k₃ λ facts n₄ e₄ k₄.
       split (times (h .rules) (rule (record { buffers = h .buffers; types = 0 ∷ counts })) image n₄) _ k₄ λ rules n₅ e₅ k₅.

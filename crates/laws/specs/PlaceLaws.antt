@@ -5,14 +5,14 @@ use mathlib.Core.List.{List, [], _∷_, _++_, append-assoc}
 use Prim.Native.Nat.{ℕ}
 use borrow.Author.Tests.{eq-eqb}
 use lib.Dec.{eqb}
-use Rattle.meaning.specs.Base.{if_then_else_, all, any}
+use Rattle.meaning.specs.Base.{if_then_else_, every, anyOf}
 use Rattle.meaning.specs.Model.{Term, Symbol, Variable}
 use Rattle.meaning.specs.Image.{isVariable}
 use Rattle.meaning.specs.Match.{Place, valueIn, termIn, agrees, agreed}
 
 -- variable v has a place among these
 unfoldable pub stands : List Place → ℕ → Bool
-stands ps v = any (λ p. isVariable v (p .term)) ps
+stands ps v = anyOf (λ p. isVariable v (p .term)) ps
 
 unfoldable pub agreedFrom : List Place → List Place → Bool
 agreedFrom before [] = true
@@ -23,7 +23,7 @@ unfolding stands valueIn
 value-stands [] ys v e = cc
 value-stands (x ∷ xs) ys v e =
     (elim (isVariable v (x .term)) as
-    (λ t. (t || any (λ p. isVariable v (p .term)) xs) ≡ true → (if t then x .value else valueIn (xs ++ ys) v) ≡ (if t then x .value else valueIn xs v)) [
+    (λ t. (t || anyOf (λ p. isVariable v (p .term)) xs) ≡ true → (if t then x .value else valueIn (xs ++ ys) v) ≡ (if t then x .value else valueIn xs v)) [
       | true ↦ λ h. refl
       | false ↦ λ h. value-stands xs ys v h
     ]) e
@@ -33,7 +33,7 @@ stands-last : (xs : List Place) (p : Place) (v : ℕ) → isVariable v (p .term)
 unfolding stands
 stands-last [] p v e = rw e refl
 stands-last (x ∷ xs) p v e =
-    elim (isVariable v (x .term)) as (λ t. (t || any (λ p. isVariable v (p .term)) (xs ++ (p ∷ []))) ≡ true) [ true ↦ refl | false ↦ stands-last xs p v e ]
+    elim (isVariable v (x .term)) as (λ t. (t || anyOf (λ p. isVariable v (p .term)) (xs ++ (p ∷ []))) ≡ true) [ true ↦ refl | false ↦ stands-last xs p v e ]
 
 self : (v : ℕ) → eqb v v ≡ true
 self v = eq-eqb v v refl
@@ -42,7 +42,7 @@ term-last : (before : List Place) (p : Place) (ps : List Place) (t : Term) → p
 term-last before p ps (Symbol x) e = refl
 term-last before p ps (Variable v) e = value-stands (before ++ (p ∷ [])) ps v (stands-last before p v (rw e (self v)))
 
-agreed-from : (before ps : List Place) → all (agrees (before ++ ps)) ps ≡ agreedFrom before ps
+agreed-from : (before ps : List Place) → every (agrees (before ++ ps)) ps ≡ agreedFrom before ps
 unfolding agreedFrom
 agreed-from before [] = refl
 agreed-from before (p ∷ ps) =
@@ -58,7 +58,7 @@ pub stands-more : (before : List Place) (p : Place) (w : ℕ) → stands (before
 unfolding stands
 stands-more [] p w = or-false (isVariable w (p .term))
 stands-more (x ∷ xs) p w =
-    elim (isVariable w (x .term)) as (λ t. (t || any (λ p. isVariable w (p .term)) (xs ++ (p ∷ []))) ≡ (t || any (λ p. isVariable w (p .term)) xs || isVariable w (p .term))) [
+    elim (isVariable w (x .term)) as (λ t. (t || anyOf (λ p. isVariable w (p .term)) (xs ++ (p ∷ []))) ≡ (t || anyOf (λ p. isVariable w (p .term)) xs || isVariable w (p .term))) [
       | true ↦ refl
       | false ↦ stands-more xs p w
     ]
@@ -68,7 +68,7 @@ unfolding stands valueIn
 value-absent [] ys w e = refl
 value-absent (x ∷ xs) ys w e =
     (elim (isVariable w (x .term)) as
-    (λ t. (t || any (λ p. isVariable w (p .term)) xs) ≡ false → (if t then x .value else valueIn (xs ++ ys) w) ≡ valueIn ys w) [
+    (λ t. (t || anyOf (λ p. isVariable w (p .term)) xs) ≡ false → (if t then x .value else valueIn (xs ++ ys) w) ≡ valueIn ys w) [
       | true ↦ λ h. cc
       | false ↦ λ h. value-absent xs ys w h
     ]) e

@@ -7,7 +7,8 @@ use native.Mathlib.Omega.{arith}
 use borrow.Author.Tests.{ltb-false, lt-ltb, le-ltb, leb-true}
 use lib.Dec.{ltb, leb}
 use lib.ListN.{length}
-use Rattle.meaning.specs.Base.{if_then_else_, all}
+use Rattle.meaning.specs.Numbers.{bad-number}
+use Rattle.meaning.specs.Base.{if_then_else_, every}
 use Rattle.meaning.specs.Bits.{fieldAt}
 use Rattle.meaning.specs.Read.{Read, Refused, Got, Reader, follow, must, judged, field, times}
 use Rattle.meaning.specs.Image.{between}
@@ -57,14 +58,14 @@ field-got width rule image at value next e =
     ]) refl e
 
 -- a rule that is kept holds
-pub must-kept : (n : ℕ) (t : Bool) → must (suc n) t ≡ 0 → t ≡ true
+pub must-kept : (n : ℕ) (t : Bool) → (if t then 0 else suc n) ≡ 0 → t ≡ true
 must-kept n true e = refl
 must-kept n false e = absurd (omega arith)
 
 -- a count that was read lies between its bounds
-pub between-got : (width low high : ℕ) (s : List ℕ) (at n next : ℕ) → field width (between low high) s at ≡ Got n next → (low ≤ n) × (n ≤ high)
+pub between-got : (width low high : ℕ) (s : List ℕ) (at n next : ℕ) → field width (must bad-number (between low high)) s at ≡ Got n next → (low ≤ n) × (n ≤ high)
 between-got width low high s at n next e =
-    let k = must-kept 2 (leb low n && leb n high) (field-got width (between low high) s at n next e .kept) in
+    let k = must-kept 2 (leb low n && leb n high) (field-got width (must bad-number (between low high)) s at n next e .kept) in
     (leb-true low n (and-left (leb low n) (leb n high) k), leb-true n high (and-right (leb low n) (leb n high) k))
 
 -- ---- a reading taken apart
@@ -82,14 +83,14 @@ split (Got a next) k e go = go a next refl e
 
 -- what holds of each thing that a reader gives holds of all that `times` gives, and they are as many as were asked
 module _ {A : Type 0} (p : Reader A) (test : A → Bool) (each : (image : List ℕ) (at : ℕ) (a : A) (next : ℕ) → p image at ≡ Got a next → test a ≡ true) where
-  pub times-all : (n : ℕ) (image : List ℕ) (at : ℕ) (xs : List A) (end : ℕ) → times n p image at ≡ Got xs end → (all test xs ≡ true) × (length xs ≡ n)
+  pub times-all : (n : ℕ) (image : List ℕ) (at : ℕ) (xs : List A) (end : ℕ) → times n p image at ≡ Got xs end → (every test xs ≡ true) × (length xs ≡ n)
   unfolding times
   times-all zero image at xs end e = let q : [] ≡ xs = cc in rw (← q) (refl, refl)
   times-all (suc n) image at xs end e =
       split (p image at) _ e λ a n₁ e₁ k₁.
       split (times n p image n₁) _ k₁ λ as′ n₂ e₂ k₂.
       let q : a ∷ as′ ≡ xs = cc in
-      let ih : (all test as′ ≡ true) × (length as′ ≡ n) = times-all n image n₁ as′ n₂ e₂ in
+      let ih : (every test as′ ≡ true) × (length as′ ≡ n) = times-all n image n₁ as′ n₂ e₂ in
       rw (← q) (rw (each image at a n₁ e₁) (ih .0), ap suc (ih .1))
 
 -- n + 1 things were read: the first, and then the rest from where it ends. What a loop over the rules goes by

@@ -7,7 +7,7 @@ use mathlib.Core.Option.{Option, none, some}
 use Prim.Native.Nat.{ℕ}
 use native.Mathlib.Omega.{arith}
 use borrow.Author.Tests.{ltb-true, ltb-false, lt-ltb}
-use Rattle.meaning.specs.Base.{all, keep}
+use Rattle.meaning.specs.Base.{every, keep}
 use Rattle.meaning.specs.Model.{Fact, Named}
 use Rattle.meaning.specs.Retrieval.{fits, weaker, retrieve}
 use Rattle.laws.specs.ListLaws.{keep-none, none-keep}
@@ -15,7 +15,7 @@ use Rattle.laws.specs.HighestLaws.{Best, highest-best, highest-none}
 
 module _ (memory : List Fact) (isa : ℕ) (ns : List Named) (entry : List ℕ) where
   -- nothing is found exactly if no fact fits
-  pub retrieve-none : (retrieve memory isa ns entry ≡ none) ↔ (all (λ f. not (fits isa ns entry f)) memory ≡ true)
+  pub retrieve-none : (retrieve memory isa ns entry ≡ none) ↔ (every (λ f. not (fits isa ns entry f)) memory ≡ true)
   unfolding retrieve
   retrieve-none = (
     λ e. keep-none (fits isa ns entry) memory (highest-none weaker (keep (fits isa ns entry) memory) e),

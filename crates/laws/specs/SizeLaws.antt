@@ -5,8 +5,9 @@ use mathlib.Core.List.{List}
 use Prim.Native.Nat.{ℕ, _≤_}
 use native.Mathlib.Omega.{arith}
 use lib.ListN.{length}
+use Rattle.meaning.specs.Numbers.{bad-number}
 use Rattle.meaning.specs.Model.{Model}
-use Rattle.meaning.specs.Read.{Read, Refused, Got, field}
+use Rattle.meaning.specs.Read.{Read, Refused, Got, field, must}
 use Rattle.meaning.specs.Image.{Header, header, anything, between, rule, decode}
 use Rattle.meaning.specs.Calls.{wordsFor, tableLength}
 use Rattle.laws.specs.ReadLaws.{between-got, split, times-all}
@@ -15,11 +16,11 @@ use Rattle.laws.specs.PartsLaws.{Parts, parts}
 header-rules : (image : List ℕ) (h : Header) (next : ℕ) → header image 0 ≡ Got h next → h .rules ≤ 256
 unfolding header
 header-rules image h next e =
-    split (field 8 (between 1 1) image 0) _ e λ v n₁ e₁ k₁.
-    split (field 4 (between 1 8) image n₁) _ k₁ λ buffers n₂ e₂ k₂.
-    split (field 6 (between 0 63) image n₂) _ k₂ λ declared n₃ e₃ k₃.
-    split (field 9 (between 0 256) image n₃) _ k₃ λ rules n₄ e₄ k₄.
-    split (field 10 (between 0 512) image n₄) _ k₄ λ facts n₅ e₅ k₅.
+    split (field 8 (must bad-number (between 1 1)) image 0) _ e λ v n₁ e₁ k₁.
+    split (field 4 (must bad-number (between 1 8)) image n₁) _ k₁ λ buffers n₂ e₂ k₂.
+    split (field 6 (must bad-number (between 0 63)) image n₂) _ k₂ λ declared n₃ e₃ k₃.
+    split (field 9 (must bad-number (between 0 256)) image n₃) _ k₃ λ rules n₄ e₄ k₄.
+    split (field 10 (must bad-number (between 0 512)) image n₄) _ k₄ λ facts n₅ e₅ k₅.
     split (field 16 anything image n₅) _ k₅ λ failure n₆ e₆ k₆.
     let q : rules ≡ h .rules = is k₆ in
     omega (arith, between-got 9 0 256 image n₃ rules n₄ e₄ .1)

@@ -7,11 +7,13 @@ use native.Mathlib.Omega.{arith}
 use lib.ListN.{length}
 use lib.Dec.{leb, ltb}
 use borrow.Author.Tests.{leb-true, leb-false, lt-leb, le-leb, le-ltb, lt-ltb}
+use Rattle.meaning.specs.Numbers.{bad-number, bad-variable}
 use Rattle.meaning.specs.Base.{if_then_else_}
 use Rattle.meaning.specs.Bits.{fieldAt}
 use Rattle.meaning.specs.Read.{Read, Refused, Got, field, must}
 use Rattle.meaning.specs.Image.{between, aTerm}
 use Rattle.laws.specs.ReadLaws.{field-short, field-broken, field-kept}
+use Rattle.layout.specs.Walks.{inRange}
 use Rattle.read_fields.specs.Field.{fieldOf}
 use Rattle.read_fields.specs.declared.Field.{Field}
 use Rattle.read_fields.specs.declared.Field.the-variants.{Value, Short}
@@ -52,13 +54,13 @@ module _ (s : List ℕ) (w p : ℕ) where
 
 -- a value from low to below end (a type and a buffer are judged so, and a count is, see `field-between`)
 module _ (number low end n : ℕ) where
-  pub range-low : n < low → must number (leb low n && ltb n end) ≡ number
+  pub range-low : n < low → must number (inRange low end) n ≡ number
   range-low h = rw (lt-leb low n h)
 
-  pub range-high : low ≤ n → end ≤ n → must number (leb low n && ltb n end) ≡ number
+  pub range-high : low ≤ n → end ≤ n → must number (inRange low end) n ≡ number
   range-high h g = rw (le-leb low n h, le-ltb n end g)
 
-  pub range-kept : low ≤ n → n < end → must number (leb low n && ltb n end) ≡ 0
+  pub range-kept : low ≤ n → n < end → must number (inRange low end) n ≡ 0
   range-kept h g = rw (le-leb low n h, lt-ltb n end g)
 
 -- two rules that judge each value alike make the same reader
@@ -73,12 +75,12 @@ leb-below n high =
       | false ↦ λ e. sym (le-ltb n (high + 1) (omega (arith, leb-false n high e)))
     ]) refl
 
-pub field-between : (w low high : ℕ) (s : List ℕ) (p : ℕ) → field w (λ n. must 3 (leb low n && ltb n (high + 1))) s p ≡ field w (between low high) s p
+pub field-between : (w low high : ℕ) (s : List ℕ) (p : ℕ) → field w (must bad-number (inRange low (high + 1))) s p ≡ field w (must bad-number (between low high)) s p
 field-between w low high s p =
-    field-same w (λ n. must 3 (leb low n && ltb n (high + 1))) (between low high) s p (λ n. ap (λ (t : Bool). must 3 (leb low n && t)) (sym (leb-below n high)))
+    field-same w (must bad-number (inRange low (high + 1))) (must bad-number (between low high)) s p (λ n. ap (λ (t : Bool). if leb low n && t then 0 else 3) (sym (leb-below n high)))
 
-pub term-kept : (variables t : ℕ) → t < 4096 + variables → aTerm variables t ≡ 0
+pub term-kept : (variables t : ℕ) → t < 4096 + variables → must bad-variable (aTerm variables) t ≡ 0
 term-kept variables t h = rw (lt-ltb t (4096 + variables) h)
 
-pub term-big : (variables t : ℕ) → 4096 + variables ≤ t → aTerm variables t ≡ 3
+pub term-big : (variables t : ℕ) → 4096 + variables ≤ t → must bad-variable (aTerm variables) t ≡ 3
 term-big variables t h = rw (le-ltb t (4096 + variables) h)

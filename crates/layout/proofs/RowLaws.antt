@@ -6,7 +6,7 @@ use mathlib.Core.List.{List, [], _∷_, _++_, map}
 use native.Mathlib.Omega.{arith}
 use lib.ListN.{length, getD, take}
 use lib.Seq.{sets}
-use Rattle.meaning.specs.Base.{keep, admit, count}
+use Rattle.meaning.specs.Base.{keep, admit, upFrom}
 use Rattle.meaning.specs.Model.{Named, Test, Deed, Action, Fact, Chunk, Rule}
 use Rattle.meaning.specs.Image.{names, slotsIn}
 use Rattle.layout.specs.Rows.{rowsIn, wordTerm, namedAt, namedBy, namedIn, maskedIn, factIn, testIn, deedOf, actionIn, testsIn, actionsIn, ruleIn, rulesIn}
@@ -50,15 +50,15 @@ module _ {A : Type 0} where
 abbrev pub Alike : List ℕ → ℕ → List ℕ → ℕ → Type 0
 Alike w o w′ o′ = (j : ℕ) → j < 11 → getD w (o + j) 0 ≡ getD w′ (o′ + j) 0
 
-map-below : {A : Type 0} (f g : ℕ → A) (p : ℕ → Bool) (i n : ℕ) → ((j : ℕ) → j < i + n → f j ≡ g j) → map f (keep p (count i n)) ≡ map g (keep p (count i n))
+map-below : {A : Type 0} (f g : ℕ → A) (p : ℕ → Bool) (i n : ℕ) → ((j : ℕ) → j < i + n → f j ≡ g j) → map f (keep p (upFrom i n)) ≡ map g (keep p (upFrom i n))
 map-below f g p i zero h = refl
 map-below {A} f g p i (suc n) h =
-    elim (p i) as (λ u. map f (admit u i (keep p (count (i + 1) n))) ≡ map g (admit u i (keep p (count (i + 1) n)))) [
+    elim (p i) as (λ u. map f (admit u i (keep p (upFrom (i + 1) n))) ≡ map g (admit u i (keep p (upFrom (i + 1) n)))) [
       | true ↦ ap₂ (λ (y : A) (r : List A). y ∷ r) (h i (omega arith)) (map-below f g p (i + 1) n (λ j l. h j (omega arith)))
       | false ↦ map-below f g p (i + 1) n (λ j l. h j (omega arith))
     ]
 
-pub map-count : {A : Type 0} (f g : ℕ → A) (i n : ℕ) → ((j : ℕ) → j < i + n → f j ≡ g j) → map f (count i n) ≡ map g (count i n)
+pub map-count : {A : Type 0} (f g : ℕ → A) (i n : ℕ) → ((j : ℕ) → j < i + n → f j ≡ g j) → map f (upFrom i n) ≡ map g (upFrom i n)
 map-count f g i zero h = refl
 map-count {A} f g i (suc n) h = ap₂ (λ (y : A) (r : List A). y ∷ r) (h i (omega arith)) (map-count f g (i + 1) n (λ j l. h j (omega arith)))
 

@@ -5,7 +5,7 @@ use mathlib.Core.Path.{_≡_}
 use mathlib.Core.List.{List, [], _∷_, map}
 use lib.Dec.{ltb, eqb}
 use lib.ListN.{length, getD}
-use Rattle.meaning.specs.Base.{if_then_else_, count, weigh}
+use Rattle.meaning.specs.Base.{if_then_else_, upFrom, weigh}
 use Rattle.meaning.specs.Model.{Term, Symbol, Variable, Named, Test, Deed, Modify, Request, Clear, Action, Fact, Rule, Sizes}
 use Rattle.meaning.specs.Image.{slotsIn, utilityOf, isTested}
 
@@ -41,7 +41,7 @@ maskedIn w q = map (namedIn w q) (slotsIn (getD w (q + 2) 0))
 
 abbrev pub factIn : List ℕ → ℕ → Fact
 factIn w q =
-    record { chunk = record { isa = getD w q 0; slots = map (λ b. getD w (q + 3 + b) 0) (count 0 8) }; activation = getD w (q + 1) 0; latency = getD w (q + 2) 0 }
+    record { chunk = record { isa = getD w q 0; slots = map (λ b. getD w (q + 3 + b) 0) (upFrom 0 8) }; activation = getD w (q + 1) 0; latency = getD w (q + 2) 0 }
 
 abbrev pub testIn : List ℕ → ℕ → Test
 testIn w q = record { buffer = getD w q 0 % 8; isa = getD w (q + 1) 0; named = maskedIn w q }
@@ -78,7 +78,7 @@ rulesIn heads words n = rowsIn (ruleIn heads words) 0 n
 
 -- the number in which each tested buffer b has weight 2 to the power b
 abbrev pub testedMask : List Test → ℕ
-testedMask ts = weigh (map (isTested ts) (count 0 8))
+testedMask ts = weigh (map (isTested ts) (upFrom 0 8))
 
 -- what holds of n rules that were laid out: there is room, no rule has more than eight tests or actions, and the masks are those of the tests
 pub record Laid (heads words : List ℕ) (n : ℕ) : Type 0 where

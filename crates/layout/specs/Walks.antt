@@ -1,7 +1,9 @@
 -- What the code's answers say of a reading.
 use Prim.Native.Nat.{ℕ, _≤_}
 use mathlib.Core.Path.{_≡_}
+use mathlib.Core.Bool.{Bool, _&&_}
 use mathlib.Core.List.{List}
+use lib.Dec.{leb, ltb}
 use lib.ListN.{getD}
 use Rattle.meaning.specs.Read.{Read, Refused, Got}
 use Rattle.layout.specs.declared.Walk.{Walk}
@@ -24,3 +26,7 @@ Within w m = (q : ℕ) → w ≡ Next q → q ≤ m
 -- every type has at most eight slots
 abbrev pub Small : List ℕ → Type 0
 Small types = (k : ℕ) → getD types k 0 ≤ 8
+
+-- a value from low to below end, as the code judges counts, buffers and types
+abbrev pub inRange : ℕ → ℕ → ℕ → Bool
+inRange low end n = leb low n && ltb n end

@@ -5,7 +5,7 @@ use mathlib.Core.Bool.{Bool, true, false, _&&_}
 use mathlib.Core.List.{List, [], _∷_, _++_}
 use native.Mathlib.Omega.{arith}
 use lib.ListN.{drop}
-use Rattle.meaning.specs.Base.{all}
+use Rattle.meaning.specs.Base.{every}
 use Rattle.layout.specs.Rows.{rowsIn}
 use Rattle.layout.proofs.RowLaws.{rows-left}
 
@@ -48,22 +48,22 @@ module _ {A : Type 0} (p : A → Bool) (f : ℕ → A) (i end : ℕ) where
   left : i < end → rowsIn f i (end - i) ≡ f i ∷ rowsIn f (i + 1) (end - (i + 1))
   left h = rows-left f i end h (end - i) (omega arith)
 
-  pub all-kept : i < end → p (f i) ≡ true → all p (rowsIn f (i + 1) (end - (i + 1))) ≡ all p (rowsIn f i (end - i))
+  pub all-kept : i < end → p (f i) ≡ true → every p (rowsIn f (i + 1) (end - (i + 1))) ≡ every p (rowsIn f i (end - i))
   all-kept h e = rw (left h, e)
 
-  pub all-broken : i < end → p (f i) ≡ false → false ≡ all p (rowsIn f i (end - i))
+  pub all-broken : i < end → p (f i) ≡ false → false ≡ every p (rowsIn f i (end - i))
   all-broken h e = rw (left h, e)
 
-  pub all-done : end ≤ i → true ≡ all p (rowsIn f i (end - i))
+  pub all-done : end ≤ i → true ≡ every p (rowsIn f i (end - i))
   unfolding rowsIn
   all-done h = let g : end - i ≡ 0 = omega arith in rw g
 
 -- ---- lists one after the other
 
-pub all-join : {A : Type 0} (p : A → Bool) (xs ys : List A) → all p (xs ++ ys) ≡ (all p xs && all p ys)
+pub all-join : {A : Type 0} (p : A → Bool) (xs ys : List A) → every p (xs ++ ys) ≡ (every p xs && every p ys)
 all-join p [] ys = refl
 all-join p (x ∷ xs) ys =
-    elim (p x) as (λ t. (t && all p (xs ++ ys)) ≡ ((t && all p xs) && all p ys)) [
+    elim (p x) as (λ t. (t && every p (xs ++ ys)) ≡ ((t && every p xs) && every p ys)) [
       | true ↦ all-join p xs ys
       | false ↦ refl
     ]

@@ -7,7 +7,7 @@ use native.Mathlib.Omega.{arith}
 use lib.Dec.{leb, eqb}
 use lib.ListN.{length, getD, drop}
 use borrow.Author.Tests.{le-ltb, lt-ltb, lt-leb, ne-eqb}
-use Rattle.meaning.specs.Base.{all}
+use Rattle.meaning.specs.Base.{every}
 use Rattle.meaning.specs.State.{slotCount, wellBuffer, isNil}
 use Rattle.layout.specs.Rows.{rowsIn}
 use Rattle.layout.specs.StateWords.{bufferIn, buffersIn}
@@ -44,12 +44,12 @@ module _ (w : List ℕ) (k : ℕ) where
     well-type h = rw (le-ltb (getD w (10 * k) 0) (length types) h)
 
     module _ (h : getD w (10 * k) 0 < length types) where
-      pub well-values : all (λ v. leb v 4095) (stretch w (10 * k + 1) (10 * k + 9)) ≡ false → false ≡ wellBuffer types (bufferIn w k)
-      well-values e = rw (lt-ltb (getD w (10 * k) 0) (length types) h, sym (ap (all (λ v. leb v 4095)) slots-all) ∙ e)
+      pub well-values : every (λ v. leb v 4095) (stretch w (10 * k + 1) (10 * k + 9)) ≡ false → false ≡ wellBuffer types (bufferIn w k)
+      well-values e = rw (lt-ltb (getD w (10 * k) 0) (length types) h, sym (ap (every (λ v. leb v 4095)) slots-all) ∙ e)
 
-      pub well-past : all (λ v. leb v 4095) (stretch w (10 * k + 1) (10 * k + 9)) ≡ true
-          → all (λ v. leb v 0) (stretch w (10 * k + 1 + slotCount types (getD w (10 * k) 0)) (10 * k + 9)) ≡ wellBuffer types (bufferIn w k)
-      well-past e = rw (lt-ltb (getD w (10 * k) 0) (length types) h, sym (ap (all (λ v. leb v 4095)) slots-all) ∙ e) (simp most-zero (ap (all (λ v. eqb v 0)) (slots-from (slotCount types (getD w (10 * k) 0)))))
+      pub well-past : every (λ v. leb v 4095) (stretch w (10 * k + 1) (10 * k + 9)) ≡ true
+          → every (λ v. leb v 0) (stretch w (10 * k + 1 + slotCount types (getD w (10 * k) 0)) (10 * k + 9)) ≡ wellBuffer types (bufferIn w k)
+      well-past e = rw (lt-ltb (getD w (10 * k) 0) (length types) h, sym (ap (every (λ v. leb v 4095)) slots-all) ∙ e) (simp most-zero (ap (every (λ v. eqb v 0)) (slots-from (slotCount types (getD w (10 * k) 0)))))
 
   -- a buffer is nil with delay 0 where its ten words are 0
   ten-words : rowsIn (λ j. getD w j 0) (10 * k) 10 ≡ getD w (10 * k) 0 ∷ (bufferIn w k .slots ++ (getD w (10 * k + 9) 0 ∷ []))
@@ -61,37 +61,37 @@ module _ (w : List ℕ) (k : ℕ) where
       (rows-more (λ j. getD w j 0) (10 * k + 1) 8
       ∙ ap₂ (λ (l : List ℕ) (j : ℕ). l ++ (getD w j 0 ∷ [])) (sym (ap (rowsIn (λ j. getD w j 0) (10 * k + 1)) n) ∙ slots-all) z)
 
-  nil-words : all (λ v. eqb v 0) (rowsIn (λ j. getD w j 0) (10 * k) 10) ≡ isNil (bufferIn w k)
+  nil-words : every (λ v. eqb v 0) (rowsIn (λ j. getD w j 0) (10 * k) 10) ≡ isNil (bufferIn w k)
   nil-words =
-      ap (all (λ v. eqb v 0)) ten-words
+      ap (every (λ v. eqb v 0)) ten-words
       ∙ ap (λ (t : Bool). eqb (getD w (10 * k) 0) 0 && t) (all-join (λ v. eqb v 0) (bufferIn w k .slots) (getD w (10 * k + 9) 0 ∷ []))
-      ∙ and-three (eqb (getD w (10 * k) 0) 0) (all (λ v. eqb v 0) (bufferIn w k .slots)) (eqb (getD w (10 * k + 9) 0) 0)
+      ∙ and-three (eqb (getD w (10 * k) 0) 0) (every (λ v. eqb v 0) (bufferIn w k .slots)) (eqb (getD w (10 * k + 9) 0) 0)
 
 -- ---- all the buffers in words
 
-nils : (w : List ℕ) (k n : ℕ) → all (λ v. eqb v 0) (rowsIn (λ j. getD w j 0) (10 * k) (10 * n)) ≡ all isNil (rowsIn (bufferIn w) k n)
+nils : (w : List ℕ) (k n : ℕ) → every (λ v. eqb v 0) (rowsIn (λ j. getD w j 0) (10 * k) (10 * n)) ≡ every isNil (rowsIn (bufferIn w) k n)
 unfolding rowsIn
 nils w k zero = refl
 nils w k (suc n) =
     let e : 10 * suc n ≡ 10 + 10 * n = omega arith in
     let g : 10 * k + 10 ≡ 10 * (k + 1) = omega arith in
-    ap (λ (m : ℕ). all (λ v. eqb v 0) (rowsIn (λ j. getD w j 0) (10 * k) m)) e
-    ∙ ap (all (λ v. eqb v 0)) (rows-split (λ j. getD w j 0) (10 * k) 10 (10 * n))
+    ap (λ (m : ℕ). every (λ v. eqb v 0) (rowsIn (λ j. getD w j 0) (10 * k) m)) e
+    ∙ ap (every (λ v. eqb v 0)) (rows-split (λ j. getD w j 0) (10 * k) 10 (10 * n))
     ∙ all-join (λ v. eqb v 0) (rowsIn (λ j. getD w j 0) (10 * k) 10) (rowsIn (λ j. getD w j 0) (10 * k + 10) (10 * n))
-    ∙ ap₂ (λ (a b : Bool). a && b) (nil-words w k) (ap (λ (j : ℕ). all (λ v. eqb v 0) (rowsIn (λ j. getD w j 0) j (10 * n))) g ∙ nils w (k + 1) n)
+    ∙ ap₂ (λ (a b : Bool). a && b) (nil-words w k) (ap (λ (j : ℕ). every (λ v. eqb v 0) (rowsIn (λ j. getD w j 0) j (10 * n))) g ∙ nils w (k + 1) n)
 
 module _ (w types : List ℕ) (buffers : ℕ) where
   -- some buffer is not well formed
-  pub well-broken : false ≡ all (wellBuffer types) (buffersIn w) → false ≡ wellIn types buffers w
+  pub well-broken : false ≡ every (wellBuffer types) (buffersIn w) → false ≡ wellIn types buffers w
   well-broken e = rw (← e)
 
   -- each is, and what is left to judge are the words past the model's buffers
-  pub well-rest : true ≡ all (wellBuffer types) (buffersIn w) → all (λ v. leb v 0) (stretch w (10 * buffers) 80) ≡ wellIn types buffers w
+  pub well-rest : true ≡ every (wellBuffer types) (buffersIn w) → every (λ v. leb v 0) (stretch w (10 * buffers) 80) ≡ wellIn types buffers w
   well-rest e =
       let n : 80 - 10 * buffers ≡ 10 * (8 - buffers) = omega arith in
       let z : 0 + buffers ≡ buffers = omega arith in
       rw (← e)
       (simp most-zero
-      (ap (λ (m : ℕ). all (λ v. eqb v 0) (rowsIn (λ j. getD w j 0) (10 * buffers) m)) n
+      (ap (λ (m : ℕ). every (λ v. eqb v 0) (rowsIn (λ j. getD w j 0) (10 * buffers) m)) n
       ∙ nils w buffers (8 - buffers)
-      ∙ ap (all isNil) (ap (λ (j : ℕ). rowsIn (bufferIn w) j (8 - buffers)) (sym z) ∙ sym (rows-drop (bufferIn w) 0 8 buffers))))
+      ∙ ap (every isNil) (ap (λ (j : ℕ). rowsIn (bufferIn w) j (8 - buffers)) (sym z) ∙ sym (rows-drop (bufferIn w) 0 8 buffers))))

@@ -5,7 +5,7 @@ use mathlib.Core.Bool.{Bool, _&&_}
 use mathlib.Core.List.{List, map}
 use lib.ListN.{getD, drop}
 use Rattle.meaning.specs.declared.Buffer.{Buffer}
-use Rattle.meaning.specs.Base.{all, count}
+use Rattle.meaning.specs.Base.{every, upFrom}
 use Rattle.meaning.specs.Model.{Model}
 use Rattle.meaning.specs.State.{wellBuffer, isNil, wellFormed}
 use Rattle.layout.specs.Rows.{rowsIn}
@@ -13,7 +13,7 @@ use Rattle.layout.specs.StateWords.{buffersIn, stateIn}
 
 -- the buffer that ten words from o on hold: type, eight slots, delay
 abbrev pub bufferAt : List ℕ → ℕ → Buffer
-bufferAt w o = record { isa = getD w o 0; slots = map (λ b. getD w (o + b) 0) (count 1 8); delay = getD w (o + 9) 0 }
+bufferAt w o = record { isa = getD w o 0; slots = map (λ b. getD w (o + b) 0) (upFrom 1 8); delay = getD w (o + 9) 0 }
 
 -- the words from one place to below another
 abbrev pub stretch : List ℕ → ℕ → ℕ → List ℕ
@@ -21,7 +21,7 @@ stretch w from end = rowsIn (λ j. getD w j 0) from (end - from)
 
 -- `wellFormed` of the state in words, by what of the model it is judged by
 abbrev pub wellIn : List ℕ → ℕ → List ℕ → Bool
-wellIn types buffers w = all (wellBuffer types) (buffersIn w) && all isNil (drop buffers (buffersIn w))
+wellIn types buffers w = every (wellBuffer types) (buffersIn w) && every isNil (drop buffers (buffersIn w))
 
 pub well-in : (m : Model) (w : List ℕ) (clock : ℕ) → wellFormed m (stateIn w clock) ≡ wellIn (m .types) (m .buffers) w
 unfolding wellFormed

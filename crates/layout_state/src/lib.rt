@@ -3,7 +3,7 @@ ghost use mathlib.Core.Path.{_≡_};
 ghost use Prim.Native.Nat.{_+_, _*_, _≤_};
 ghost use lib.Dec.{leb};
 ghost use lib.ListN.{length, take};
-ghost use Rattle.meaning.specs.Base.{all};
+ghost use Rattle.meaning.specs.Base.{every};
 ghost use Rattle.meaning.specs.State.{wellBuffer};
 ghost use Rattle.layout.specs.StateWords.{bufferIn, buffersIn, stateIn};
 ghost use Rattle.layout_state.specs.Words.{bufferAt, stretch, wellIn};
@@ -83,7 +83,7 @@ pub fn read_state(words: &[u16], clock: u32) -> State
 // Whether the words from one place to below another are at most so much.
 fn at_most(words: &[u16], from: usize, end: usize, most: u16) -> bool
     requires { ⌜ end ≤ length (now words) ⌝ }
-    ensures { λ r. ⌜ r ≡ all (λ v. leb v most) (stretch (now (words .entry)) from end) ⌝ }
+    ensures { λ r. ⌜ r ≡ every (λ v. leb v most) (stretch (now (words .entry)) from end) ⌝ }
 {
     let mut i = from;
     while i < end {

@@ -11,7 +11,7 @@ use lib.ListN.{length, getD, set, replicate, length-set}
 use lib.Seq.{getD-set-same, getD-set-other}
 use Rattle.meaning.specs.declared.Buffer.{Buffer}
 use Rattle.meaning.specs.declared.State.{State}
-use Rattle.meaning.specs.Base.{if_then_else_, all, count}
+use Rattle.meaning.specs.Base.{if_then_else_, every, upFrom}
 use Rattle.meaning.specs.Model.{Term, Symbol, Variable, Named, Test, Rule}
 use Rattle.meaning.specs.State.{bufferOf}
 use Rattle.meaning.specs.Image.{isVariable, slotsIn}
@@ -162,7 +162,7 @@ TestsLow [] = Unit {0}
 TestsLow (t ∷ ts) = AllLow (t .named) × TestsLow ts
 
 abbrev shown : State → List Test → Bool
-shown s ts = all (λ t. shows t (bufferOf s (t .buffer))) ts
+shown s ts = every (λ t. shows t (bufferOf s (t .buffer))) ts
 
 -- all that the tests from here on ask: that each shows, and that the places agree
 tests-come : (s : State) (ts : List Test) (v : Vars) (before : List Place) → TestsLow ts → Keeps v before
@@ -207,7 +207,7 @@ none-kept = record { eight-b = refl; eight-v = refl; which = λ k h. ap (λ (n :
     zeros (suc n) (suc k) = zeros n k
 
 -- eight words are those of a function, if each is
-eight-of : (l : List ℕ) (f : ℕ → ℕ) (i n : ℕ) → length l ≡ n → ((k : ℕ) → k < n → getD l k 0 ≡ f (i + k)) → l ≡ map f (count i n)
+eight-of : (l : List ℕ) (f : ℕ → ℕ) (i n : ℕ) → length l ≡ n → ((k : ℕ) → k < n → getD l k 0 ≡ f (i + k)) → l ≡ map f (upFrom i n)
 eight-of [] f i zero e h = refl
 eight-of (x ∷ l) f i zero e h = absurd (omega arith)
 eight-of [] f i (suc n) e h = absurd (omega arith)
@@ -222,7 +222,7 @@ unfolding entryOf matches
 entry-run r s l = go (testsRun (s .buffers) (r .tests) noVars) (tests-come s (r .tests) noVars [] l none-kept)
   where
     go : (u : Run) → Comes u (shown s (r .tests) && agreedFrom [] (places (r .tests) s)) (places (r .tests) s)
-        → entryWords u ≡ (if shown s (r .tests) && agreed (places (r .tests) s) then 1 ∷ map (valueIn (places (r .tests) s)) (count 0 8) else replicate 9 0)
+        → entryWords u ≡ (if shown s (r .tests) && agreed (places (r .tests) s) then 1 ∷ map (valueIn (places (r .tests) s)) (upFrom 0 8) else replicate 9 0)
     go stop c = rw (agreed-walk (places (r .tests) s), c)
     go (on w) c =
         rw (agreed-walk (places (r .tests) s), c .0)

@@ -8,7 +8,7 @@ use lib.Bits.{bitAnd}
 use lib.ListN.{length, getD, take, drop, length-append}
 use lib.Seq.{length-take-le, take-at, drop-at, drop-drop, take-add, take-all}
 use Rattle.meaning.specs.declared.State.{State}
-use Rattle.meaning.specs.Base.{if_then_else_, any, keep, admit, bit, count}
+use Rattle.meaning.specs.Base.{if_then_else_, anyOf, keep, admit, bit, upFrom}
 use Rattle.meaning.specs.Model.{Rule, Test}
 use Rattle.meaning.specs.Match.{entryOf, freshTable}
 use Rattle.meaning.specs.Refresh.{testsMarked, refresh, refreshCount}

@@ -11,14 +11,14 @@ if false then a else b = b
 
 module _ {A : Type 0} where
   -- every element passes
-  abbrev pub all : (A → Bool) → List A → Bool
-  all p [] = true
-  all p (x ∷ xs) = p x && all p xs
+  abbrev pub every : (A → Bool) → List A → Bool
+  every p [] = true
+  every p (x ∷ xs) = p x && every p xs
 
   -- some element passes
-  abbrev pub any : (A → Bool) → List A → Bool
-  any p [] = false
-  any p (x ∷ xs) = p x || any p xs
+  abbrev pub anyOf : (A → Bool) → List A → Bool
+  anyOf p [] = false
+  anyOf p (x ∷ xs) = p x || anyOf p xs
 
   -- an element before a list, if it passed (named apart, so that `keep` names its tail once)
   abbrev pub admit : Bool → A → List A → List A
@@ -31,9 +31,9 @@ module _ {A : Type 0} where
   keep p (x ∷ xs) = admit (p x) x (keep p xs)
 
 -- i, i + 1 .. , n numbers in all
-abbrev pub count : ℕ → ℕ → List ℕ
-count i zero = []
-count i (suc n) = i ∷ count (i + 1) n
+abbrev pub upFrom : ℕ → ℕ → List ℕ
+upFrom i zero = []
+upFrom i (suc n) = i ∷ upFrom (i + 1) n
 
 -- two lists of words are the same
 abbrev pub same : List ℕ → List ℕ → Bool

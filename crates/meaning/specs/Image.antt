@@ -5,38 +5,38 @@ use Prim.Native.Nat.{ℕ, zero, suc, _+_, _-_, _*_, _%_, _^_}
 use lib.Dec.{ltb, leb, eqb}
 use lib.ListN.{length, replicate}
 use lib.IntN.{ℤ, pos, subℕ}
-use Rattle.meaning.specs.Base.{if_then_else_, all, any, keep, count, bit}
+use Rattle.meaning.specs.Base.{if_then_else_, every, anyOf, keep, upFrom, bit}
 use Rattle.meaning.specs.Numbers.{too-long, bad-number, bad-mask, bad-variable, bad-buffer, bad-end}
 use Rattle.meaning.specs.Model.{Model, Sizes, Rule, Action, Deed, Modify, Request, Clear, Test, Named, Term, Symbol, Variable, Chunk, Fact}
 use Rattle.meaning.specs.State.{slotCount}
 use Rattle.meaning.specs.Bits.{fieldAt}
-use Rattle.meaning.specs.Read.{Read, Refused, Got, Reader, _>>=_, _>>_, give, must, _also_, field, require, times, rising}
+use Rattle.meaning.specs.Read.{Read, Refused, Got, Reader, andThen as _>>=_, next as _>>_, give, Judgement, must, _also_, field, require, times, rising}
 
--- ---- the rules of single fields
+-- ---- the rules of single fields, as conditions on the value
 
 -- "1 to 8 buffers", "T from 0 to 63" and the like
-abbrev pub between : ℕ → ℕ → ℕ → ℕ
-between low high n = must bad-number (leb low n && leb n high)
-
--- every value will do
-abbrev pub anything : ℕ → ℕ
-anything n = 0
+abbrev pub between : ℕ → ℕ → ℕ → Bool
+between low high n = leb low n && leb n high
 
 -- "type .. (0 to T)" with least 0, "type .. (1 to T)" with least 1
-abbrev pub aType : List ℕ → ℕ → ℕ → ℕ
-aType types least k = must bad-number (leb least k && ltb k (length types))
+abbrev pub aType : List ℕ → ℕ → ℕ → Bool
+aType types least k = leb least k && ltb k (length types)
 
 -- "Each buffer is below the buffer count; buffers rise strictly": `least` is the lowest that may stand here
-abbrev pub aBuffer : ℕ → ℕ → ℕ → ℕ
-aBuffer buffers least b = must bad-buffer (leb least b && ltb b buffers)
+abbrev pub aBuffer : ℕ → ℕ → ℕ → Bool
+aBuffer buffers least b = leb least b && ltb b buffers
 
 -- "In every mask, bits past the type's slots are 0": the last 8 - slots bits
-abbrev pub aMask : ℕ → ℕ → ℕ
-aMask slots mask = must bad-mask (eqb (mask % 2 ^ (8 - slots)) 0)
+abbrev pub aMask : ℕ → ℕ → Bool
+aMask slots mask = eqb (mask % 2 ^ (8 - slots)) 0
 
 -- "kind 0 a symbol, kind 1 a variable number below the rule's count"
-abbrev pub aTerm : ℕ → ℕ → ℕ
-aTerm variables t = must bad-variable (ltb t (4096 + variables))
+abbrev pub aTerm : ℕ → ℕ → Bool
+aTerm variables t = ltb t (4096 + variables)
+
+-- every value will do
+abbrev pub anything : Judgement
+anything value = 0
 
 -- ---- 1. "Version, 8 bits, 1. Buffers, 4. T, 6. Rules, 9. Facts, 10. Failure latency in ms, 16."
 
@@ -49,18 +49,18 @@ pub record Header : Type 0 where
 
 unfoldable pub header : Reader Header
 header = do
-  version ← field 8 (between 1 1)
-  buffers ← field 4 (between 1 8)
-  declared ← field 6 (between 0 63)
-  rules ← field 9 (between 0 256)
-  facts ← field 10 (between 0 512)
+  version ← field 8 (must bad-number (between 1 1))
+  buffers ← field 4 (must bad-number (between 1 8))
+  declared ← field 6 (must bad-number (between 0 63))
+  rules ← field 9 (must bad-number (between 0 256))
+  facts ← field 10 (must bad-number (between 0 512))
   failure ← field 16 anything
   give (record { buffers = buffers; declared = declared; rules = rules; facts = facts; failure = failure })
 
 -- ---- 2. "For each declared type: slot count, 4 bits."
 
 abbrev pub slotCounts : ℕ → Reader (List ℕ)
-slotCounts declared = times declared (field 4 (between 0 8))
+slotCounts declared = times declared (field 4 (must bad-number (between 0 8)))
 
 -- ---- 3. "its opening chunk: type, 6 bits (0 to T), then 12 bits for each slot of that type"
 
@@ -70,7 +70,7 @@ eight values = values ++ replicate (8 - length values) 0
 
 unfoldable pub chunk : List ℕ → ℕ → Reader Chunk
 chunk types least = do
-  k ← field 6 (aType types least)
+  k ← field 6 (must bad-number (aType types least))
   values ← times (slotCount types k) (field 12 anything)
   give (record { isa = k; slots = eight values })
 
@@ -94,7 +94,7 @@ abbrev pub names : ℕ → ℕ → Bool
 names mask slot = bit mask (7 - slot)
 
 unfoldable pub slotsIn : ℕ → List ℕ
-slotsIn mask = keep (names mask) (count 0 8)
+slotsIn mask = keep (names mask) (upFrom 0 8)
 
 -- "Term, one field of 13 bits: a kind bit, then 12 bits: kind 0 a symbol, kind 1 a variable number"
 abbrev pub termOf : ℕ → Term
@@ -104,21 +104,21 @@ termOf t = if ltb t 4096 then Symbol t else (Variable (t - 4096))
 unfoldable pub terms : ℕ → List ℕ → Reader (List Named)
 terms variables [] = give []
 terms variables (slot ∷ slots) = do
-  t ← field 13 (aTerm variables)
+  t ← field 13 (must bad-variable (aTerm variables))
   rest ← terms variables slots
   give (record { slot = slot; term = termOf t } ∷ rest)
 
 -- a mask and its terms, of a type with so many slots
 unfoldable pub masked : ℕ → ℕ → Reader (List Named)
 masked variables slots = do
-  mask ← field 8 (aMask slots)
+  mask ← field 8 (must bad-mask (aMask slots))
   terms variables (slotsIn mask)
 
 -- "Test: buffer 3 bits, type 6 bits (0 to T), slot mask 8 bits, .. then one term for each set bit."
 unfoldable pub test : Sizes → ℕ → ℕ → Reader Test
 test z variables least = do
-  b ← field 3 (aBuffer (z .buffers) least)
-  k ← field 6 (aType (z .types) 0)
+  b ← field 3 (must bad-buffer (aBuffer (z .buffers) least))
+  k ← field 6 (must bad-number (aType (z .types) 0))
   ns ← masked variables (slotCount (z .types) k)
   give (record { buffer = b; isa = k; named = ns })
 
@@ -133,19 +133,19 @@ isVariable v (Variable w) = eqb v w
 
 -- "every variable of the rule must have stood in one of them": variable v stands in one of the tests
 abbrev pub standsIn : List Test → ℕ → Bool
-standsIn ts v = any (λ t. any (λ n. isVariable v (n .term)) (t .named)) ts
+standsIn ts v = anyOf (λ t. anyOf (λ n. isVariable v (n .term)) (t .named)) ts
 
 -- a buffer is tested, and the type that its test names
 abbrev pub isTested : List Test → ℕ → Bool
-isTested ts b = any (λ t. eqb (t .buffer) b) ts
+isTested ts b = anyOf (λ t. eqb (t .buffer) b) ts
 
 abbrev pub testedType : List Test → ℕ → ℕ
 testedType [] b = 0
 testedType (t ∷ ts) b = if eqb (t .buffer) b then t .isa else testedType ts b
 
 -- "Kind 3 is not allowed." "on an untested buffer the kind field breaks its rule"
-abbrev pub aKind : List Test → ℕ → ℕ → ℕ
-aKind ts b kind = must bad-number (leb kind 2) also must bad-buffer (not (eqb kind 0) || isTested ts b)
+abbrev pub kindRule : List Test → ℕ → Judgement
+kindRule ts b = must bad-number (λ kind. leb kind 2) also must bad-buffer (λ kind. not (eqb kind 0) || isTested ts b)
 
 -- "Kind 0, modify: mask and terms for the tested type .. Kind 1, request: type 6 bits (1 to T), mask, terms. Kind 2, clear: nothing more."
 unfoldable pub deed : Sizes → ℕ → List Test → ℕ → ℕ → Reader Deed
@@ -153,7 +153,7 @@ deed z variables ts b zero = do
   ns ← masked variables (slotCount (z .types) (testedType ts b))
   give (Modify ns)
 deed z variables ts b (suc zero) = do
-  k ← field 6 (aType (z .types) 1)
+  k ← field 6 (must bad-number (aType (z .types) 1))
   ns ← masked variables (slotCount (z .types) k)
   give (Request k ns)
 deed z variables ts b (suc (suc n)) = give Clear
@@ -161,8 +161,8 @@ deed z variables ts b (suc (suc n)) = give Clear
 -- "Action: buffer 3 bits, kind 2 bits."
 unfoldable pub action : Sizes → ℕ → List Test → ℕ → Reader Action
 action z variables ts least = do
-  b ← field 3 (aBuffer (z .buffers) least)
-  kind ← field 2 (aKind ts b)
+  b ← field 3 (must bad-buffer (aBuffer (z .buffers) least))
+  kind ← field 2 (kindRule ts b)
   d ← deed z variables ts b kind
   give (record { buffer = b; deed = d })
 
@@ -175,11 +175,11 @@ actions z variables ts n = rising (action z variables ts) (λ a. a .buffer) n 0
 unfoldable pub rule : Sizes → Reader Rule
 rule z = do
   utility ← field 16 anything
-  n ← field 4 (between 1 (z .buffers))
-  m ← field 4 (between 0 (z .buffers))
-  variables ← field 4 (between 0 8)
+  n ← field 4 (must bad-number (between 1 (z .buffers)))
+  m ← field 4 (must bad-number (between 0 (z .buffers)))
+  variables ← field 4 (must bad-number (between 0 8))
   ts ← tests z variables n
-  require bad-variable (all (standsIn ts) (count 0 variables))
+  require bad-variable (every (standsIn ts) (upFrom 0 variables))
   as′ ← actions z variables ts m
   give (record { utility = utilityOf utility; tests = ts; actions = as′ })
 

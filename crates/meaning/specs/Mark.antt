@@ -5,7 +5,7 @@ use mathlib.Core.Option.{Option, none, some}
 use Prim.Native.Nat.{ℕ}
 use lib.ListN.{length}
 use Rattle.meaning.specs.declared.State.{State}
-use Rattle.meaning.specs.Base.{count, weigh}
+use Rattle.meaning.specs.Base.{upFrom, weigh}
 use Rattle.meaning.specs.Model.{Action}
 use Rattle.meaning.specs.State.{bufferOf, visible}
 use Rattle.meaning.specs.Fire.{deedOn}
@@ -24,4 +24,4 @@ arrived s s′ b = not (visible (bufferOf s b)) && visible (bufferOf s′ b)
 
 -- "buffer b has weight 2 to the power b"
 unfoldable pub markOf : List Action → State → State → ℕ
-markOf as′ s s′ = weigh (map (λ b. actedOn as′ b || arrived s s′ b) (count 0 (length (s .buffers))))
+markOf as′ s s′ = weigh (map (λ b. actedOn as′ b || arrived s s′ b) (upFrom 0 (length (s .buffers))))

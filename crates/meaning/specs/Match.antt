@@ -6,7 +6,7 @@ use lib.Dec.{eqb}
 use lib.ListN.{getD, replicate}
 use Rattle.meaning.specs.declared.Buffer.{Buffer}
 use Rattle.meaning.specs.declared.State.{State}
-use Rattle.meaning.specs.Base.{if_then_else_, all, count}
+use Rattle.meaning.specs.Base.{if_then_else_, every, upFrom}
 use Rattle.meaning.specs.Model.{Rule, Test, Named, Term, Symbol, Variable}
 use Rattle.meaning.specs.State.{bufferOf, visible}
 use Rattle.meaning.specs.Image.{isVariable}
@@ -39,7 +39,7 @@ abbrev pub agrees : List Place → Place → Bool
 agrees ps p = eqb (p .value) (termIn ps (p .term))
 
 abbrev pub agreed : List Place → Bool
-agreed ps = all (agrees ps) ps
+agreed ps = every (agrees ps) ps
 
 -- "the buffer is visible, its type is the test's". "A test of type 0 holds on a visible empty buffer."
 abbrev pub shows : Test → Buffer → Bool
@@ -47,11 +47,11 @@ shows t b = visible b && eqb (b .isa) (t .isa)
 
 -- "A rule matches when all its tests hold"
 unfoldable pub matches : Rule → State → Bool
-matches r s = all (λ t. shows t (bufferOf s (t .buffer))) (r .tests) && agreed (places (r .tests) s)
+matches r s = every (λ t. shows t (bufferOf s (t .buffer))) (r .tests) && agreed (places (r .tests) s)
 
 -- "An entry is 1 and then the values of variables 0 to 7 (0 where unused) if the rule matches, nine zeros if it does not."
 unfoldable pub entryOf : Rule → State → List ℕ
-entryOf r s = if matches r s then 1 ∷ map (valueIn (places (r .tests) s)) (count 0 8) else replicate 9 0
+entryOf r s = if matches r s then 1 ∷ map (valueIn (places (r .tests) s)) (upFrom 0 8) else replicate 9 0
 
 -- "The fresh table is the entry of each rule under this definition"
 unfoldable pub freshTable : List Rule → State → List ℕ

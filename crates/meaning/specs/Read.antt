@@ -22,35 +22,41 @@ module _ {A B : Type 0} where
   follow (Refused n at) k = Refused n at
   follow (Got a at) k = k a at
 
-  -- the lines of a `do`: first this, then what follows
-  infixl 5 _>>=_
-  abbrev pub _>>=_ : Reader A → (A → Reader B) → Reader B
-  _>>=_ p k image at = follow (p image at) (λ a next. k a image next)
+  -- first this, and with its value what follows (a line `x ← p` of a `do`, where it is brought in as `>>=`)
+  abbrev pub andThen : Reader A → (A → Reader B) → Reader B
+  andThen p k image at = follow (p image at) (λ a after. k a image after)
 
-  infixl 5 _>>_
-  abbrev pub _>>_ : Reader A → Reader B → Reader B
-  _>>_ p q image at = follow (p image at) (λ a next. q image next)
+  -- first this, and then what follows (a line `p` of a `do`, where it is brought in as `>>`)
+  abbrev pub next : Reader A → Reader B → Reader B
+  next p q image at = follow (p image at) (λ a after. q image after)
 
 -- nothing is read, and this is given
 abbrev pub give : {A : Type 0} → A → Reader A
 give a image at = Got a at
 
--- the rule of a field, judged of its value: 0 where the value keeps it, else the number of the refusal
-abbrev pub must : ℕ → Bool → ℕ
-must number holds = if holds then 0 else number
+-- the rule of a field judges its value: 0 where the value keeps the rule, else the number of the refusal
+abbrev pub Judgement : Type 0
+Judgement = ℕ → ℕ
+
+-- a rule that is a condition, with the number of its refusal
+abbrev pub must : ℕ → (ℕ → Bool) → Judgement
+must number holds value = if holds value then 0 else number
 
 -- two rules of one field: the second is judged where the first is kept
+abbrev pub orElse : ℕ → ℕ → ℕ
+orElse zero n = n
+orElse (suc m) n = suc m
+
 infixl 20 _also_
-abbrev pub _also_ : ℕ → ℕ → ℕ
-_also_ zero n = n
-_also_ (suc m) n = suc m
+abbrev pub _also_ : Judgement → Judgement → Judgement
+_also_ first second value = orElse (first value) (second value)
 
 abbrev pub judged : ℕ → ℕ → ℕ → ℕ → Read ℕ
 judged zero value at next = Got value next
 judged (suc n) value at next = Refused (suc n) at
 
 -- "a field is not wholly there", or "a field breaks its rule": each field is judged when it is read
-unfoldable pub field : ℕ → (ℕ → ℕ) → Reader ℕ
+unfoldable pub field : ℕ → Judgement → Reader ℕ
 field width rule image at =
     if ltb (8 * length image) (at + width) then Refused not-there at
     else (judged (rule (fieldAt image at width)) (fieldAt image at width) at (at + width))
@@ -62,15 +68,9 @@ require number holds image at = if holds then Got tt at else Refused number at
 -- n things, one after the other
 unfoldable pub times : {A : Type 0} → ℕ → Reader A → Reader (List A)
 times zero p = give []
-times (suc n) p = do
-  x ← p
-  xs ← times n p
-  give (x ∷ xs)
+times (suc n) p = andThen p (λ x. andThen (times n p) (λ xs. give (x ∷ xs)))
 
 -- "buffers rise strictly": n things, each read with the lowest buffer that may stand in it, which is one above the last thing's
 unfoldable pub rising : {A : Type 0} → (ℕ → Reader A) → (A → ℕ) → ℕ → ℕ → Reader (List A)
 rising p buffer zero least = give []
-rising p buffer (suc n) least = do
-  x ← p least
-  xs ← rising p buffer n (buffer x + 1)
-  give (x ∷ xs)
+rising p buffer (suc n) least = andThen (p least) (λ x. andThen (rising p buffer n (buffer x + 1)) (λ xs. give (x ∷ xs)))

@@ -4,13 +4,13 @@ use mathlib.Core.List.{List, [], _∷_, _++_}
 use Prim.Native.Nat.{ℕ}
 use lib.ListN.{length, take, drop}
 use Rattle.meaning.specs.declared.State.{State}
-use Rattle.meaning.specs.Base.{if_then_else_, any, keep, bit}
+use Rattle.meaning.specs.Base.{if_then_else_, anyOf, keep, bit}
 use Rattle.meaning.specs.Model.{Rule}
 use Rattle.meaning.specs.Match.{entryOf}
 
 -- the rules that "test a marked buffer"
 abbrev pub testsMarked : ℕ → Rule → Bool
-testsMarked mark r = any (λ t. bit mark (t .buffer)) (r .tests)
+testsMarked mark r = anyOf (λ t. bit mark (t .buffer)) (r .tests)
 
 -- the entries of those rules are made afresh, and all others are left word for word (01 says what is shut out: "Rebuilding the whole table at each refresh")
 unfoldable pub refresh : List Rule → State → ℕ → List ℕ → List ℕ

@@ -6,7 +6,7 @@ use Prim.Native.Nat.{ℕ, _+_}
 use lib.Dec.{ltb, eqb}
 use lib.ListN.{getD}
 use Rattle.meaning.specs.declared.Buffer.{Buffer}
-use Rattle.meaning.specs.Base.{all, keep}
+use Rattle.meaning.specs.Base.{every, keep}
 use Rattle.meaning.specs.Highest.{highest}
 use Rattle.meaning.specs.Model.{Named, Term, Symbol, Variable, Fact}
 use Rattle.meaning.specs.State.{nilAfter}
@@ -19,7 +19,7 @@ valueOf entry (Variable v) = getD entry (v + 1) 0
 -- "a fact of that type whose named slots equal the terms"
 abbrev pub fits : ℕ → List Named → List ℕ → Fact → Bool
 fits isa ns entry f =
-    eqb (f .chunk .isa) isa && all (λ n. eqb (getD (f .chunk .slots) (n .slot) 0) (valueOf entry (n .term))) ns
+    eqb (f .chunk .isa) isa && every (λ n. eqb (getD (f .chunk .slots) (n .slot) 0) (valueOf entry (n .term))) ns
 
 abbrev pub weaker : Fact → Fact → Bool
 weaker f g = ltb (f .activation) (g .activation)

@@ -6,7 +6,7 @@ use lib.Dec.{ltb, leb, eqb}
 use lib.ListN.{length, getD, drop, replicate}
 use Rattle.meaning.specs.declared.Buffer.{Buffer}
 use Rattle.meaning.specs.declared.State.{State}
-use Rattle.meaning.specs.Base.{all}
+use Rattle.meaning.specs.Base.{every}
 use Rattle.meaning.specs.Model.{Model}
 
 -- "The nil chunk is type 0 with all slots 0."
@@ -35,13 +35,13 @@ slotCount types k = getD types k 0
 -- "each type is at most T, values are at most 4,095, slots past the type's count are 0"
 abbrev pub wellBuffer : List ℕ → Buffer → Bool
 wellBuffer types b =
-    ltb (b .isa) (length types) && all (λ v. leb v 4095) (b .slots) && all (λ v. eqb v 0) (drop (slotCount types (b .isa)) (b .slots))
+    ltb (b .isa) (length types) && every (λ v. leb v 4095) (b .slots) && every (λ v. eqb v 0) (drop (slotCount types (b .isa)) (b .slots))
 
 -- "hold nil with delay 0"
 abbrev pub isNil : Buffer → Bool
-isNil b = eqb (b .isa) 0 && all (λ v. eqb v 0) (b .slots) && eqb (b .delay) 0
+isNil b = eqb (b .isa) 0 && every (λ v. eqb v 0) (b .slots) && eqb (b .delay) 0
 
 -- "A state is well formed when each type is at most T, values are at most 4,095, slots past the type's count are 0,
 -- and buffers past the image's count hold nil with delay 0."
 unfoldable pub wellFormed : Model → State → Bool
-wellFormed m s = all (wellBuffer (m .types)) (s .buffers) && all isNil (drop (m .buffers) (s .buffers))
+wellFormed m s = every (wellBuffer (m .types)) (s .buffers) && every isNil (drop (m .buffers) (s .buffers))

@@ -5,9 +5,10 @@ use mathlib.Core.List.{List, _∷_}
 use native.Mathlib.Omega.{arith}
 use lib.ListN.{length, getD, take}
 use lib.Seq.{sets}
+use Rattle.meaning.specs.Numbers.{bad-buffer}
 use Rattle.meaning.specs.Model.{Test, Named, Deed, Action, Sizes}
-use Rattle.meaning.specs.Read.{Read, Refused, Got, follow, field}
-use Rattle.meaning.specs.Image.{aBuffer, aKind, deed, action, actions}
+use Rattle.meaning.specs.Read.{Read, Refused, Got, follow, field, must}
+use Rattle.meaning.specs.Image.{aBuffer, kindRule, deed, action, actions}
 use Rattle.laws.specs.ReadLaws.{FieldRead, field-got, follow-follow}
 use Rattle.laws.specs.FieldLaws.{fieldAt-lt}
 use Rattle.layout.specs.declared.Walk.{Walk}
@@ -33,7 +34,7 @@ buffer-small rule s p v b q e h =
     let f : FieldRead 3 rule s p b q = field-got 3 rule s p b q (sym e ∙ answer-next v b q h) in
     omega (arith, f .is, fieldAt-lt s p 3)
 
-module _ (z : Sizes) (variables : ℕ) (ts : List Test) (least : ℕ) (s : List ℕ) (p : ℕ) (v : Walk) (b : ℕ) (e : answer v b ≡ field 3 (aBuffer (z .buffers) least) s p) where
+module _ (z : Sizes) (variables : ℕ) (ts : List Test) (least : ℕ) (s : List ℕ) (p : ℕ) (v : Walk) (b : ℕ) (e : answer v b ≡ field 3 (must bad-buffer (aBuffer (z .buffers) least)) s p) where
   pub action-bad : (x y : ℕ) → v ≡ Bad x y → Refused x y ≡ action z variables ts least s p
   unfolding action
   action-bad x y h = rw (← e, h)
@@ -43,7 +44,7 @@ module _ (z : Sizes) (variables : ℕ) (ts : List Test) (least : ℕ) (s : List 
   action-on q h w d g =
       rw (← e, h)
       (go w ∙ ap (λ (r : Read Deed). follow r (λ d n. Got (acts b d) n)) g
-      ∙ follow-follow (field 2 (aKind ts b) s q) (λ kind n. deed z variables ts b kind s n) (λ d n. Got (acts b d) n))
+      ∙ follow-follow (field 2 (kindRule ts b) s q) (λ kind n. deed z variables ts b kind s n) (λ d n. Got (acts b d) n))
     where
       go : (w : Walk) → answer w (acts b d) ≡ follow (answer w d) (λ d n. Got (acts b d) n)
       go (Next n) = refl

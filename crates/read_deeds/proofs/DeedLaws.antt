@@ -7,9 +7,10 @@ use native.Mathlib.Omega.{arith}
 use lib.Dec.{leb, ltb}
 use lib.ListN.{length, getD}
 use borrow.Author.Tests.{leb-true, lt-leb, lt-ltb, ne-eqb}
+use Rattle.meaning.specs.Numbers.{bad-number}
 use Rattle.meaning.specs.Model.{Test, Named, Deed, Modify, Request, Sizes}
-use Rattle.meaning.specs.Read.{Read, Refused, Got, follow, field}
-use Rattle.meaning.specs.Image.{aType, aKind, isTested, testedType, masked, deed}
+use Rattle.meaning.specs.Read.{Read, Refused, Got, follow, field, must}
+use Rattle.meaning.specs.Image.{aType, kindRule, isTested, testedType, masked, deed}
 use Rattle.laws.specs.BoolLaws.{and-left}
 use Rattle.laws.specs.ReadLaws.{FieldRead, field-got, must-kept}
 use Rattle.laws.specs.FieldLaws.{fieldAt-lt}
@@ -24,22 +25,22 @@ use Rattle.read_deeds.specs.Deeds.{says, kindAndDeed}
 -- ---- the rule of the kind
 
 module _ (ts : List Test) (b : ℕ) where
-  pub modify-kept : isTested ts b ≡ true → aKind ts b 0 ≡ 0
+  pub modify-kept : isTested ts b ≡ true → kindRule ts b 0 ≡ 0
   modify-kept e = rw e
 
-  pub modify-broken : isTested ts b ≡ false → aKind ts b 0 ≡ 3
+  pub modify-broken : isTested ts b ≡ false → kindRule ts b 0 ≡ 3
   modify-broken e = rw e
 
-  pub kind-broken : (kind : ℕ) → 2 < kind → aKind ts b kind ≡ 3
+  pub kind-broken : (kind : ℕ) → 2 < kind → kindRule ts b kind ≡ 3
   kind-broken kind h = rw (lt-leb kind 2 h)
 
 -- ---- the kind, and what follows it
 
 module _ (z : Sizes) (variables : ℕ) (ts : List Test) (b : ℕ) (s : List ℕ) (p : ℕ) where
-  pub kind-bad : (x y : ℕ) → field 2 (aKind ts b) s p ≡ Refused x y → Refused x y ≡ kindAndDeed z variables ts b s p
+  pub kind-bad : (x y : ℕ) → field 2 (kindRule ts b) s p ≡ Refused x y → Refused x y ≡ kindAndDeed z variables ts b s p
   kind-bad x y e = rw e
 
-  pub kind-on : (d : Read Deed) (kind q : ℕ) → d ≡ deed z variables ts b kind s q → field 2 (aKind ts b) s p ≡ Got kind q → d ≡ kindAndDeed z variables ts b s p
+  pub kind-on : (d : Read Deed) (kind q : ℕ) → d ≡ deed z variables ts b kind s q → field 2 (kindRule ts b) s p ≡ Got kind q → d ≡ kindAndDeed z variables ts b s p
   kind-on d kind q g e = rw e g
 
   pub clear-says : (r : DeedRead) → r .walk ≡ Next p → r .deed ≡ 64 → says r ≡ deed z variables ts b 2 s p
@@ -55,7 +56,7 @@ module _ (z : Sizes) (variables : ℕ) (ts : List Test) (b : ℕ) (s : List ℕ)
       go (Next q) ns = refl
       go (Bad x y) ns = refl
 
-  module _ (v : Walk) (k : ℕ) (e : answer v k ≡ field 6 (aType (z .types) 1) s p) where
+  module _ (v : Walk) (k : ℕ) (e : answer v k ≡ field 6 (must bad-number (aType (z .types) 1)) s p) where
     pub request-bad : (x y : ℕ) → v ≡ Bad x y → Refused x y ≡ deed z variables ts b 1 s p
     unfolding deed
     request-bad x y h = rw (← e, h)
@@ -64,7 +65,7 @@ module _ (z : Sizes) (variables : ℕ) (ts : List Test) (b : ℕ) (s : List ℕ)
         → says r ≡ deed z variables ts b 1 s p
     unfolding deed
     request-says r q h d g =
-        let f : FieldRead 6 (aType (z .types) 1) s p k q = field-got 6 (aType (z .types) 1) s p k q (sym e ∙ answer-next v k q h) in
+        let f : FieldRead 6 (must bad-number (aType (z .types) 1)) s p k q = field-got 6 (must bad-number (aType (z .types) 1)) s p k q (sym e ∙ answer-next v k q h) in
         let low : 1 ≤ k = leb-true 1 k (and-left (leb 1 k) (ltb k (length (z .types))) (must-kept 2 (leb 1 k && ltb k (length (z .types))) (f .kept))) in
         let high : k < 64 = omega (arith, f .is, fieldAt-lt s p 6) in
         let ne : k ≡ 0 → ⊥ = λ i. omega arith in

@@ -3,8 +3,8 @@ use Prim.Native.Nat.{ℕ}
 use mathlib.Core.List.{List}
 use Rattle.meaning.specs.Base.{if_then_else_}
 use Rattle.meaning.specs.Model.{Test, Deed, Action, Sizes}
-use Rattle.meaning.specs.Read.{Read, Reader, _>>=_, field}
-use Rattle.meaning.specs.Image.{isTested, testedType, aKind, deed}
+use Rattle.meaning.specs.Read.{Read, Reader, andThen, field}
+use Rattle.meaning.specs.Image.{isTested, testedType, kindRule, deed}
 use Rattle.layout.specs.Walks.{answer}
 use Rattle.layout.specs.Rows.{namedBy, deedOf}
 use Rattle.read_deeds.specs.declared.Tested.{Tested}
@@ -24,7 +24,7 @@ says r = answer (r .walk) (deedIn r)
 
 -- what an action has after its buffer: "kind 2 bits", and what the kind asks
 abbrev pub kindAndDeed : Sizes → ℕ → List Test → ℕ → Reader Deed
-kindAndDeed z variables ts b = field 2 (aKind ts b) >>= deed z variables ts b
+kindAndDeed z variables ts b = andThen (field 2 (kindRule ts b)) (deed z variables ts b)
 
 -- a deed on a buffer
 abbrev pub acts : ℕ → Deed → Action

@@ -7,8 +7,9 @@ use lib.Dec.{leb, ltb}
 use lib.ListN.{length, getD, replicate}
 use lib.Seq.{sets}
 use borrow.Author.Tests.{ltb-true}
+use Rattle.meaning.specs.Numbers.{bad-number}
 use Rattle.meaning.specs.Model.{Chunk, Fact}
-use Rattle.meaning.specs.Read.{Read, Refused, Got, follow, times, field}
+use Rattle.meaning.specs.Read.{Read, Refused, Got, follow, times, field, must}
 use Rattle.meaning.specs.Image.{eight, anything, aType, chunk, fact}
 use Rattle.laws.specs.BoolLaws.{and-right}
 use Rattle.laws.specs.ReadLaws.{field-got, must-kept}
@@ -29,15 +30,15 @@ pub eight-fresh : (n : ℕ) → n ≤ 8 → (xs : List ℕ) → length xs ≡ n 
 eight-fresh n h xs e = rw (map-id xs) (sets-fresh 8 0 xs (omega arith))
 
 -- a type that was read is one of the types
-pub type-there : (types : List ℕ) (least : ℕ) (s : List ℕ) (p k q : ℕ) → Got k q ≡ field 6 (aType types least) s p → k < length types
-type-there types least s p k q e = ltb-true k (length types) (and-right (leb least k) (ltb k (length types)) (must-kept 2 _ (field-got 6 (aType types least) s p k q (sym e) .kept)))
+pub type-there : (types : List ℕ) (least : ℕ) (s : List ℕ) (p k q : ℕ) → Got k q ≡ field 6 (must bad-number (aType types least)) s p → k < length types
+type-there types least s p k q e = ltb-true k (length types) (and-right (leb least k) (ltb k (length types)) (must-kept 2 _ (field-got 6 (must bad-number (aType types least)) s p k q (sym e) .kept)))
 
 module _ (types : List ℕ) (least : ℕ) (s : List ℕ) (p : ℕ) where
-  pub chunk-bad : (a b : ℕ) → Refused a b ≡ field 6 (aType types least) s p → Refused a b ≡ chunk types least s p
+  pub chunk-bad : (a b : ℕ) → Refused a b ≡ field 6 (must bad-number (aType types least)) s p → Refused a b ≡ chunk types least s p
   unfolding chunk
   chunk-bad a b e = rw (← e)
 
-  pub chunk-on : (k q : ℕ) (w : Walk) (xs : List ℕ) → Got k q ≡ field 6 (aType types least) s p → answer w xs ≡ mapped eight (times (getD types k 0) (field 12 anything) s q)
+  pub chunk-on : (k q : ℕ) (w : Walk) (xs : List ℕ) → Got k q ≡ field 6 (must bad-number (aType types least)) s p → answer w xs ≡ mapped eight (times (getD types k 0) (field 12 anything) s q)
       → answer w (aChunk k xs) ≡ chunk types least s p
   unfolding chunk
   chunk-on k q w xs e g = rw (← e) (go w (times (getD types k 0) (field 12 anything) s q) g)

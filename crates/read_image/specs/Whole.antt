@@ -8,7 +8,7 @@ use Rattle.meaning.specs.declared.Buffer.{Buffer}
 use Rattle.meaning.specs.declared.State.{State}
 use Rattle.meaning.specs.Base.{if_then_else_}
 use Rattle.meaning.specs.Model.{Model, Chunk, Fact, Rule, Sizes}
-use Rattle.meaning.specs.Read.{Read, Refused, Got, Reader, _>>=_, _>>_, give, times}
+use Rattle.meaning.specs.Read.{Read, Refused, Got, Reader, andThen as _>>=_, next as _>>_, give, times}
 use Rattle.meaning.specs.Image.{Header, header, slotCounts, chunk, fact, rule, ending, decode}
 use Rattle.layout.specs.declared.Walk.{Walk}
 use Rattle.layout.specs.declared.Walk.the-variants.{Next, Bad}

@@ -10,7 +10,7 @@ use lib.Bits.{bitOr, or-zero-l, or-mod, or-shr}
 use lib.Pow.{pow-pos, mod-pow-add}
 use lib.Dec.{eqb, eqb·zero-suc, eqb·suc-zero, eqb·suc-suc}
 use borrow.Author.Tests.{eqb-true, eqb-false, eq-eqb, ne-eqb}
-use Rattle.meaning.specs.Base.{if_then_else_, all, count, weigh, bit}
+use Rattle.meaning.specs.Base.{if_then_else_, every, upFrom, weigh, bit}
 
 pub bit-zero : (b : ℕ) → bit 0 b ≡ false
 bit-zero zero = refl
@@ -49,11 +49,11 @@ module _ (m : ℕ) where
   bit-half : (b : ℕ) → bit m (b + 1) ≡ bit (m / 2) b
   bit-half b = rw (add-one b)
 
-  map-half : (i n : ℕ) → map (bit m) (count (i + 1) n) ≡ map (bit (m / 2)) (count i n)
+  map-half : (i n : ℕ) → map (bit m) (upFrom (i + 1) n) ≡ map (bit (m / 2)) (upFrom i n)
   map-half i zero = refl
   map-half i (suc n) = ap₂ (λ (x : Bool) (l : List Bool). x ∷ l) (bit-half i) (map-half (i + 1) n)
 
-  all-half : (i n : ℕ) → all (bit m) (count (i + 1) n) ≡ all (bit (m / 2)) (count i n)
+  all-half : (i n : ℕ) → every (bit m) (upFrom (i + 1) n) ≡ every (bit (m / 2)) (upFrom i n)
   all-half i zero = refl
   all-half i (suc n) = ap₂ (λ (x : Bool) (t : Bool). x && t) (bit-half i) (all-half (i + 1) n)
 
@@ -62,7 +62,7 @@ last-is zero h = refl
 last-is (suc zero) h = refl
 last-is (suc (suc x)) h = absurd (omega arith)
 
-pub weigh-bits : (k m : ℕ) → m < 2 ^ k → weigh (map (bit m) (count 0 k)) ≡ m
+pub weigh-bits : (k m : ℕ) → m < 2 ^ k → weigh (map (bit m) (upFrom 0 k)) ≡ m
 weigh-bits zero m h = omega arith
 weigh-bits (suc k) m h =
     let g : m / 2 < 2 ^ k = omega (arith, pow-suc 2 k) in
@@ -79,7 +79,7 @@ ones-and p x (suc zero) h g =
 ones-and p x (suc (suc y)) h g = absurd (omega arith)
 
 -- the last k places are all ones
-pub ones-all : (k m : ℕ) → eqb (m % 2 ^ k) (2 ^ k - 1) ≡ all (bit m) (count 0 k)
+pub ones-all : (k m : ℕ) → eqb (m % 2 ^ k) (2 ^ k - 1) ≡ every (bit m) (upFrom 0 k)
 ones-all zero m = let e : m % 1 ≡ 0 = omega arith in rw e
 ones-all (suc k) m =
     let s : k + 1 ≡ suc k = omega arith in

@@ -9,7 +9,7 @@ use lib.Bits.{bitAnd, bitOr, and-mask, or-lt}
 use lib.Pow.{pow-mono}
 use lib.Dec.{eqb}
 use borrow.Author.Tests.{lt-ltb, le-ltb}
-use Rattle.meaning.specs.Base.{all, any, count, weigh, bit}
+use Rattle.meaning.specs.Base.{every, anyOf, upFrom, weigh, bit}
 use Rattle.meaning.specs.Model.{Test}
 use Rattle.meaning.specs.Image.{isVariable, names}
 use Rattle.layout.specs.Rows.{rowsIn, wordTerm, namedIn, testIn, testsIn}
@@ -18,9 +18,9 @@ use Rattle.read_terms.proofs.MaskBits.{rest, below, below-on, below-off, below-
 use Rattle.read_named.specs.Masks.{Holds, standsAt}
 use Rattle.read_named.proofs.Places.{bit-zero, bit-or, bit-power, eqb-swap, weigh-bits, ones-all}
 
-any-last : {A : Type 0} (p : A → Bool) (xs : List A) (x : A) → any p (xs ++ (x ∷ [])) ≡ (any p xs || p x)
+any-last : {A : Type 0} (p : A → Bool) (xs : List A) (x : A) → anyOf p (xs ++ (x ∷ [])) ≡ (anyOf p xs || p x)
 any-last p [] x = or-false (p x)
-any-last p (y ∷ xs) x = ap (λ (t : Bool). p y || t) (any-last p xs x) ∙ sym (or-assoc (p y) (any p xs) (p x))
+any-last p (y ∷ xs) x = ap (λ (t : Bool). p y || t) (any-last p xs x) ∙ sym (or-assoc (p y) (anyOf p xs) (p x))
 
 -- ---- one number more, as the machine adds it
 
@@ -46,7 +46,7 @@ module _ (mask t : ℕ) where
 -- ---- the loop over the slots of a row: the variables of the slots below b
 
 abbrev pub standsBelow : List ℕ → ℕ → ℕ → ℕ → Bool
-standsBelow w q b v = any (λ n. isVariable v (n .term)) (map (namedIn w q) (below (getD w (q + 2) 0) b))
+standsBelow w q b v = anyOf (λ n. isVariable v (n .term)) (map (namedIn w q) (below (getD w (q + 2) 0) b))
 
 module _ (w : List ℕ) (q mask : ℕ) where
   pub slots-start : Holds (λ v. bit mask v || standsBelow w q 0 v) mask
@@ -55,7 +55,7 @@ module _ (w : List ℕ) (q mask : ℕ) where
 
   pub slots-end : (seen : ℕ) → Holds (λ v. bit mask v || standsBelow w q 8 v) seen → Holds (λ v. bit mask v || standsAt w q v) seen
   unfolding rest
-  slots-end seen h v = h v ∙ ap (λ (l : List ℕ). bit mask v || any (λ n. isVariable v (n .term)) (map (namedIn w q) l)) (below-all (getD w (q + 2) 0) 8 (omega arith) refl)
+  slots-end seen h v = h v ∙ ap (λ (l : List ℕ). bit mask v || anyOf (λ n. isVariable v (n .term)) (map (namedIn w q) l)) (below-all (getD w (q + 2) 0) 8 (omega arith) refl)
 
   module _ (b seen seen′ : ℕ) (h : Holds (λ v. bit mask v || standsBelow w q b v) seen) where
     pub slots-skip : names (getD w (q + 2) 0) b ≡ false → seen′ ≡ seen → Holds (λ v. bit mask v || standsBelow w q (b + 1) v) seen′
@@ -69,23 +69,23 @@ module _ (w : List ℕ) (q mask : ℕ) where
         ∙ or-assoc (bit mask v) (standsBelow w q b v) (isVariable v (wordTerm (getD w (q + 3 + b) 0)))
         ∙ ap (λ (t : Bool). bit mask v || t)
         (sym (any-last (λ n. isVariable v (n .term)) (map (namedIn w q) (below (getD w (q + 2) 0) b)) (namedIn w q b))
-        ∙ ap (any (λ n. isVariable v (n .term))) (sym (map-append (namedIn w q) (below (getD w (q + 2) 0) b) (b ∷ [])) ∙ ap (map (namedIn w q)) (sym (below-on (getD w (q + 2) 0) b e))))
+        ∙ ap (anyOf (λ n. isVariable v (n .term))) (sym (map-append (namedIn w q) (below (getD w (q + 2) 0) b) (b ∷ [])) ∙ ap (map (namedIn w q)) (sym (below-on (getD w (q + 2) 0) b e))))
 
 -- ---- the loop over rows: the numbers that pass in one of the first i
 
 module _ (p : ℕ → Test → Bool) (w : List ℕ) (o : ℕ) where
-  pub tests-start : Holds (λ v. any (p v) (testsIn w o 0)) 0
+  pub tests-start : Holds (λ v. anyOf (p v) (testsIn w o 0)) 0
   unfolding rowsIn
   tests-start v = bit-zero v
 
-  pub tests-turn : (i m m′ : ℕ) → Holds (λ v. any (p v) (testsIn w o i)) m → Holds (λ v. bit m v || p v (testIn w (o + 11 * i))) m′
-      → Holds (λ v. any (p v) (testsIn w o (i + 1))) m′
+  pub tests-turn : (i m m′ : ℕ) → Holds (λ v. anyOf (p v) (testsIn w o i)) m → Holds (λ v. bit m v || p v (testIn w (o + 11 * i))) m′
+      → Holds (λ v. anyOf (p v) (testsIn w o (i + 1))) m′
   tests-turn i m m′ h g v =
       let z : 0 + i ≡ i = omega arith in
       g v
       ∙ ap (λ (t : Bool). t || p v (testIn w (o + 11 * i))) (h v)
       ∙ sym (any-last (p v) (testsIn w o i) (testIn w (o + 11 * i)))
-      ∙ ap (any (p v)) (ap (λ (k : ℕ). testsIn w o i ++ (testIn w (o + 11 * k) ∷ [])) (sym z) ∙ sym (rows-more (λ k. testIn w (o + 11 * k)) 0 i))
+      ∙ ap (anyOf (p v)) (ap (λ (k : ℕ). testsIn w o i ++ (testIn w (o + 11 * k) ∷ [])) (sym z) ∙ sym (rows-more (λ k. testIn w (o + 11 * k)) 0 i))
 
 -- a row tests its buffer
 pub buffer-more : (w : List ℕ) (q m : ℕ) → Holds (λ b. bit m b || eqb (testIn w q .buffer) b) (bitOr m (1 * 2 ^ (getD w q 0 % 8) % 65536))
@@ -93,9 +93,9 @@ buffer-more w q m b = one-more m (getD w q 0 % 8) (omega arith) b ∙ ap (λ (t 
 
 -- ---- a mask of eight, by what it holds
 
-pub holds-weigh : (m : ℕ) (p : ℕ → Bool) → m < 256 → Holds p m → m ≡ weigh (map p (count 0 8))
-holds-weigh m p h g = sym (weigh-bits 8 m h) ∙ ap (λ (f : ℕ → Bool). weigh (map f (count 0 8))) (fun-ext g)
+pub holds-weigh : (m : ℕ) (p : ℕ → Bool) → m < 256 → Holds p m → m ≡ weigh (map p (upFrom 0 8))
+holds-weigh m p h g = sym (weigh-bits 8 m h) ∙ ap (λ (f : ℕ → Bool). weigh (map f (upFrom 0 8))) (fun-ext g)
 
 -- whether the mask has every number below k, as the machine tests it
-pub holds-every : (m k : ℕ) (p : ℕ → Bool) → k ≤ 8 → Holds p m → eqb (bitAnd m (1 * 2 ^ k % 65536 - 1)) (1 * 2 ^ k % 65536 - 1) ≡ all p (count 0 k)
-holds-every m k p h g = rw (one-is k h) (ap (λ (n : ℕ). eqb n (2 ^ k - 1)) (and-mask m k) ∙ ones-all k m ∙ ap (λ (f : ℕ → Bool). all f (count 0 k)) (fun-ext g))
+pub holds-every : (m k : ℕ) (p : ℕ → Bool) → k ≤ 8 → Holds p m → eqb (bitAnd m (1 * 2 ^ k % 65536 - 1)) (1 * 2 ^ k % 65536 - 1) ≡ every p (upFrom 0 k)
+holds-every m k p h g = rw (one-is k h) (ap (λ (n : ℕ). eqb n (2 ^ k - 1)) (and-mask m k) ∙ ones-all k m ∙ ap (λ (f : ℕ → Bool). every f (upFrom 0 k)) (fun-ext g))

@@ -3,7 +3,7 @@ use Prim.Native.Nat.{ℕ}
 use mathlib.Core.Path.{_≡_}
 use mathlib.Core.Bool.{Bool}
 use mathlib.Core.List.{List}
-use Rattle.meaning.specs.Base.{any, bit}
+use Rattle.meaning.specs.Base.{anyOf, bit}
 use Rattle.meaning.specs.Image.{isVariable}
 use Rattle.layout.specs.Rows.{maskedIn}
 
@@ -13,4 +13,4 @@ Holds p mask = (b : ℕ) → bit mask b ≡ p b
 
 -- variable v stands in the row at q
 abbrev pub standsAt : List ℕ → ℕ → ℕ → Bool
-standsAt w q v = any (λ n. isVariable v (n .term)) (maskedIn w q)
+standsAt w q v = anyOf (λ n. isVariable v (n .term)) (maskedIn w q)

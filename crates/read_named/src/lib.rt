@@ -5,7 +5,7 @@ ghost use mathlib.Core.Bool.{_||_};
 ghost use mathlib.Core.List.{map};
 ghost use Prim.Native.Nat.{_+_, _*_, _≤_};
 ghost use lib.ListN.{length};
-ghost use Rattle.meaning.specs.Base.{all, count, weigh, bit};
+ghost use Rattle.meaning.specs.Base.{every, upFrom, weigh, bit};
 ghost use Rattle.meaning.specs.Image.{isVariable, standsIn, isTested};
 ghost use Rattle.layout.specs.Rows.{wordTerm, testsIn};
 ghost use Rattle.read_named.specs.Masks.{Holds, standsAt};
@@ -54,7 +54,7 @@ fn variables_in(words: &[u16], o: usize, n: usize) -> u16
 // Whether every variable below `variables` stands in one of the n tests from o on.
 pub fn stood(words: &[u16], o: usize, n: usize, variables: u16) -> bool
     requires { ⌜ (o + 11 * n ≤ length (now words)) × (n ≤ 8) × (variables ≤ 8) ⌝ }
-    ensures { λ r. ⌜ r ≡ all (standsIn (testsIn (now (words .entry)) o n)) (count 0 variables) ⌝ }
+    ensures { λ r. ⌜ r ≡ every (standsIn (testsIn (now (words .entry)) o n)) (upFrom 0 variables) ⌝ }
 {
     let every = (1u16 << variables) - 1;
     variables_in(words, o, n) & every == every
@@ -63,7 +63,7 @@ pub fn stood(words: &[u16], o: usize, n: usize, variables: u16) -> bool
 // The buffers that the n tests from o on test.
 pub fn tested(words: &[u16], o: usize, n: usize) -> u16
     requires { ⌜ (o + 11 * n ≤ length (now words)) × (n ≤ 8) ⌝ }
-    ensures { λ r. ⌜ r ≡ weigh (map (isTested (testsIn (now (words .entry)) o n)) (count 0 8)) ⌝ }
+    ensures { λ r. ⌜ r ≡ weigh (map (isTested (testsIn (now (words .entry)) o n)) (upFrom 0 8)) ⌝ }
 {
     let mut mask = 0;
     let mut i = 0;

@@ -4,9 +4,10 @@ ghost use mathlib.Core.Bool.{_&&_};
 ghost use Prim.Native.Nat.{_+_, _*_, _≤_, _<_};
 ghost use lib.Dec.{leb, ltb};
 ghost use lib.ListN.{length};
+ghost use Rattle.meaning.specs.Numbers.{bad-number};
 ghost use Rattle.meaning.specs.Read.{field, must};
 ghost use Rattle.meaning.specs.Image.{aType, anything};
-ghost use Rattle.layout.specs.Walks.{answer, Within};
+ghost use Rattle.layout.specs.Walks.{answer, Within, inRange};
 ghost use Rattle.read_ranges.specs.After.{after};
 use layout::Walk;
 use read_fields::Field;
@@ -29,7 +30,7 @@ fn no_number(number: u8, at: usize) -> Number
 // A field of `width` bits from low to below `end`; a value outside is refused by `number`.
 pub fn ranged(image: &[u8], p: usize, width: usize, low: u16, end: u16, number: u8) -> Number
     requires { ⌜ (length (now image) ≤ 65536) × (p ≤ 8 * length (now image)) × (width ≤ 16) × (0 < number) ⌝ }
-    ensures { λ r. ⌜ answer (r .walk) (r .value) ≡ field width (λ n. must number (leb low n && ltb n end)) (now (image .entry)) p ⌝ }
+    ensures { λ r. ⌜ answer (r .walk) (r .value) ≡ field width (must number (inRange low end)) (now (image .entry)) p ⌝ }
     ensures within { λ r. ⌜ Within (r .walk) (8 * length (now (image .entry))) ⌝ }
 {
     let Field::Value(n) = read_fields::field_at(image, p, width) else {
@@ -50,7 +51,7 @@ pub fn ranged(image: &[u8], p: usize, width: usize, low: u16, end: u16, number: 
 // A type from `least` (0 or 1) to the last of `types`.
 pub fn type_at(image: &[u8], p: usize, types: &[u16], least: u16) -> Number
     requires { ⌜ (length (now image) ≤ 65536) × (p ≤ 8 * length (now image)) × (least ≤ 1) × (0 < length (now types)) ⌝ }
-    ensures { λ r. ⌜ answer (r .walk) (r .value) ≡ field 6 (aType (now (types .entry)) least) (now (image .entry)) p ⌝ }
+    ensures { λ r. ⌜ answer (r .walk) (r .value) ≡ field 6 (must bad-number (aType (now (types .entry)) least)) (now (image .entry)) p ⌝ }
     ensures within { λ r. ⌜ Within (r .walk) (8 * length (now (image .entry))) ⌝ }
 {
     let Field::Value(k) = read_fields::field_at(image, p, 6) else {
@@ -87,7 +88,7 @@ pub fn ranged_after(
     number: u8,
 ) -> Number
     requires { ⌜ (length (now image) ≤ 65536) × Within walk (8 * length (now image)) × (width ≤ 16) × (0 < number) ⌝ }
-    ensures { λ r. ⌜ answer (r .walk) (r .value) ≡ after walk (field width (λ n. must number (leb low n && ltb n end)) (now (image .entry))) ⌝ }
+    ensures { λ r. ⌜ answer (r .walk) (r .value) ≡ after walk (field width (must number (inRange low end)) (now (image .entry))) ⌝ }
     ensures within { λ r. ⌜ Within (r .walk) (8 * length (now (image .entry))) ⌝ }
 {
     match walk {

@@ -6,7 +6,7 @@ use mathlib.Core.List.{List}
 use native.Mathlib.Omega.{arith}
 use lib.ListN.{take}
 use lib.Seq.{take-take}
-use Rattle.meaning.specs.Base.{all, count}
+use Rattle.meaning.specs.Base.{every, upFrom}
 use Rattle.meaning.specs.Model.{Test, Action, Rule}
 use Rattle.meaning.specs.Read.{Read, Refused, Got, follow}
 use Rattle.meaning.specs.Image.{utilityOf, tests, standsIn, actions, rule}
@@ -33,11 +33,11 @@ module _ (buffers : ℕ) (types s : List ℕ) (p : ℕ) where
     rule-second x y e = rw (rule-is (sizes buffers types) s p, ← e₁, ← e)
 
     module _ (ts : List Test) (o : ℕ) (e₂ : Got ts o ≡ tests (sizes buffers types) (h .variables) (h .tests) s q) where
-      pub rule-third : all (standsIn ts) (count 0 (h .variables)) ≡ false → Refused 3 o ≡ rule (sizes buffers types) s p
+      pub rule-third : every (standsIn ts) (upFrom 0 (h .variables)) ≡ false → Refused 3 o ≡ rule (sizes buffers types) s p
       unfolding body
       rule-third e = rw (rule-is (sizes buffers types) s p, ← e₁, ← e₂, e)
 
-      pub rule-on : all (standsIn ts) (count 0 (h .variables)) ≡ true → (w : Walk) (as′ : List Action) → answer w as′ ≡ actions (sizes buffers types) (h .variables) ts (h .actions) s o
+      pub rule-on : every (standsIn ts) (upFrom 0 (h .variables)) ≡ true → (w : Walk) (as′ : List Action) → answer w as′ ≡ actions (sizes buffers types) (h .variables) ts (h .actions) s o
           → answer w (aRule (h .utility) ts as′) ≡ rule (sizes buffers types) s p
       unfolding body
       rule-on v (Next i) as′ e = rw (rule-is (sizes buffers types) s p, ← e₁, ← e₂, v, ← e)

@@ -3,10 +3,10 @@ use Prim.Native.Nat.{ℕ, _+_, _*_, _≤_, _<_}
 use mathlib.Core.Path.{_≡_}
 use mathlib.Core.List.{List}
 use lib.ListN.{length, getD, take}
-use Rattle.meaning.specs.Base.{all, count}
+use Rattle.meaning.specs.Base.{every, upFrom}
 use Rattle.meaning.specs.Model.{Sizes, Rule}
-use Rattle.meaning.specs.Read.{Reader, _>>=_, _>>_, give, field, require}
-use Rattle.meaning.specs.Numbers.{bad-variable}
+use Rattle.meaning.specs.Read.{Reader, andThen as _>>=_, next as _>>_, give, field, require, must}
+use Rattle.meaning.specs.Numbers.{bad-variable, bad-number}
 use Rattle.meaning.specs.Image.{anything, between, utilityOf, tests, standsIn, actions, rule}
 use Rattle.layout.specs.declared.Walk.{Walk}
 use Rattle.layout.specs.declared.Walk.the-variants.{Next}
@@ -25,16 +25,16 @@ pub record Head : Type 0 where
 unfoldable pub head : ℕ → Reader Head
 head buffers = do
   utility ← field 16 anything
-  n ← field 4 (between 1 buffers)
-  m ← field 4 (between 0 buffers)
-  variables ← field 4 (between 0 8)
+  n ← field 4 (must bad-number (between 1 buffers))
+  m ← field 4 (must bad-number (between 0 buffers))
+  variables ← field 4 (must bad-number (between 0 8))
   give (record { utility = utility; tests = n; actions = m; variables = variables })
 
 -- and what follows them
 unfoldable pub body : Sizes → Head → Reader Rule
 body z h = do
   ts ← tests z (h .variables) (h .tests)
-  require bad-variable (all (standsIn ts) (count 0 (h .variables)))
+  require bad-variable (every (standsIn ts) (upFrom 0 (h .variables)))
   as′ ← actions z (h .variables) ts (h .actions)
   give (record { utility = utilityOf (h .utility); tests = ts; actions = as′ })
 

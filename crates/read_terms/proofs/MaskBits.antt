@@ -9,7 +9,7 @@ use lib.Bits.{bitAnd, and-mask}
 use lib.Pow.{shr-shr}
 use lib.Dec.{eqb}
 use borrow.Author.Tests.{eq-eqb, ne-eqb}
-use Rattle.meaning.specs.Base.{keep, admit, count, bit}
+use Rattle.meaning.specs.Base.{keep, admit, upFrom, bit}
 use Rattle.meaning.specs.Image.{names, slotsIn}
 
 pub bit-is : (m b : ℕ) → bit m b ≡ eqb (m / 2 ^ b % 2) 1
@@ -27,10 +27,10 @@ names-off m b z = bit-is m (7 - b) ∙ ne-eqb (m / 2 ^ (7 - b) % 2) 1 (λ y. z (
 -- ---- named slots from b on, and below b
 
 unfoldable pub rest : ℕ → ℕ → List ℕ
-rest m b = keep (names m) (count b (8 - b))
+rest m b = keep (names m) (upFrom b (8 - b))
 
 unfoldable pub below : ℕ → ℕ → List ℕ
-below m b = keep (names m) (count 0 b)
+below m b = keep (names m) (upFrom 0 b)
 
 pub rest-start : (m : ℕ) → rest m 0 ≡ slotsIn m
 unfolding rest slotsIn
@@ -53,11 +53,11 @@ pub rest-some : (m b : ℕ) → 0 < length (rest m b) → b < 8
 unfolding rest
 rest-some m b h = go (8 - b) refl h
   where
-    go : (n : ℕ) → 8 - b ≡ n → 0 < length (keep (names m) (count b n)) → b < 8
+    go : (n : ℕ) → 8 - b ≡ n → 0 < length (keep (names m) (upFrom b n)) → b < 8
     go zero e l = absurd (omega arith)
     go (suc n) e l = omega arith
 
-count-more : (i n : ℕ) → count i (n + 1) ≡ count i n ++ ((i + n) ∷ [])
+count-more : (i n : ℕ) → upFrom i (n + 1) ≡ upFrom i n ++ ((i + n) ∷ [])
 count-more i zero = let e : i + 0 ≡ i = omega arith in rw e
 count-more i (suc n) =
     let e : suc n + 1 ≡ suc (n + 1) = omega arith in
@@ -86,9 +86,9 @@ below-off m b e = below-cons m b false e ∙ append-nil (below m b)
 pub below-all : (m b : ℕ) → b ≤ 8 → rest m b ≡ [] → below m b ≡ slotsIn m
 unfolding below rest slotsIn
 below-all m b h e =
-    let s : count 0 8 ≡ count 0 b ++ count b (8 - b) = ap (count 0) (split-at b h) ∙ count-split 0 b (8 - b) ∙ ap (λ (k : ℕ). count 0 b ++ count k (8 - b)) (zero-left b) in
+    let s : upFrom 0 8 ≡ upFrom 0 b ++ upFrom b (8 - b) = ap (upFrom 0) (split-at b h) ∙ count-split 0 b (8 - b) ∙ ap (λ (k : ℕ). upFrom 0 b ++ upFrom k (8 - b)) (zero-left b) in
     let p : ℕ → Bool = names m in
-    sym (append-nil (keep p (count 0 b))) ∙ ap (λ (l : List ℕ). keep p (count 0 b) ++ l) (sym e) ∙ sym (keep-append p (count 0 b) (count b (8 - b))) ∙ ap (keep p) (sym s)
+    sym (append-nil (keep p (upFrom 0 b))) ∙ ap (λ (l : List ℕ). keep p (upFrom 0 b) ++ l) (sym e) ∙ sym (keep-append p (upFrom 0 b) (upFrom b (8 - b))) ∙ ap (keep p) (sym s)
   where
     split-at : (k : ℕ) → k ≤ 8 → 8 ≡ k + (8 - k)
     split-at k l = omega arith
@@ -96,7 +96,7 @@ below-all m b h e =
     zero-left : (k : ℕ) → 0 + k ≡ k
     zero-left k = omega arith
 
-    count-split : (i k n : ℕ) → count i (k + n) ≡ count i k ++ count (i + k) n
+    count-split : (i k n : ℕ) → upFrom i (k + n) ≡ upFrom i k ++ upFrom (i + k) n
     count-split i zero n = let e : 0 + n ≡ n = omega arith in let g : i + 0 ≡ i = omega arith in rw (e, g)
     count-split i (suc k) n =
         let e : suc k + n ≡ suc (k + n) = omega arith in

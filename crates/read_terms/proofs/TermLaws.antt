@@ -8,7 +8,8 @@ use lib.ListN.{length, getD, set}
 use lib.Seq.{getD-set-same, getD-set-other}
 use lib.Dec.{eqb, ltb}
 use borrow.Author.Tests.{ltb-false}
-use Rattle.meaning.specs.Base.{if_then_else_, keep, admit, count}
+use Rattle.meaning.specs.Numbers.{bad-mask, bad-variable}
+use Rattle.meaning.specs.Base.{if_then_else_, keep, admit, upFrom}
 use Rattle.meaning.specs.Model.{Named, Term, Symbol, Variable}
 use Rattle.meaning.specs.Read.{Read, Refused, Got, follow, field, must}
 use Rattle.meaning.specs.Image.{names, slotsIn, terms, termOf, aTerm, aMask, masked}
@@ -19,11 +20,11 @@ use Rattle.layout.specs.Rows.{wordTerm, namedAt, namedBy}
 use Rattle.read_terms.proofs.MaskBits.{rest, below, rest-start, rest-on, rest-off, below-on, below-off, below-all}
 
 -- a term stored at b changes none below it
-below-same : (p : ℕ → Bool) (xs : List ℕ) (b t i n : ℕ) → i + n ≤ b → map (namedAt (set xs b t)) (keep p (count i n)) ≡ map (namedAt xs) (keep p (count i n))
+below-same : (p : ℕ → Bool) (xs : List ℕ) (b t i n : ℕ) → i + n ≤ b → map (namedAt (set xs b t)) (keep p (upFrom i n)) ≡ map (namedAt xs) (keep p (upFrom i n))
 below-same p xs b t i zero h = refl
 below-same p xs b t i (suc n) h =
     let ne : (i ≡ b → ⊥) = λ e. omega arith in
-    elim (p i) as (λ u. map (namedAt (set xs b t)) (admit u i (keep p (count (i + 1) n))) ≡ map (namedAt xs) (admit u i (keep p (count (i + 1) n)))) [
+    elim (p i) as (λ u. map (namedAt (set xs b t)) (admit u i (keep p (upFrom (i + 1) n))) ≡ map (namedAt xs) (admit u i (keep p (upFrom (i + 1) n)))) [
       | true ↦ ap₂ (λ (v : ℕ) (l : List Named). record { slot = i; term = wordTerm v } ∷ l) (getD-set-other xs b i t 0 ne) (below-same p xs b t (i + 1) n (omega arith))
       | false ↦ below-same p xs b t (i + 1) n (omega arith)
     ]
@@ -74,11 +75,11 @@ module _ (m variables : ℕ) (s : List ℕ) where
     on-skip e ex ea = rw (ex, ea, below-off m b e, rest-off m b h e)
 
     module _ (e : names m b ≡ true) where
-      pub on-bad : (x y : ℕ) → field 13 (aTerm variables) s at ≡ Refused x y → Refused x y ≡ onTo m variables s xs b at
+      pub on-bad : (x y : ℕ) → field 13 (must bad-variable (aTerm variables)) s at ≡ Refused x y → Refused x y ≡ onTo m variables s xs b at
       unfolding onTo terms
       on-bad x y g = rw (rest-on m b h e, g)
 
-      pub on-turn : (t q : ℕ) → variables ≤ 8 → t < 4096 + variables → length xs ≡ 8 → field 13 (aTerm variables) s at ≡ Got t q → xs′ ≡ set xs b t → at′ ≡ q
+      pub on-turn : (t q : ℕ) → variables ≤ 8 → t < 4096 + variables → length xs ≡ 8 → field 13 (must bad-variable (aTerm variables)) s at ≡ Got t q → xs′ ≡ set xs b t → at′ ≡ q
           → onTo m variables s xs′ (b + 1) at′ ≡ onTo m variables s xs b at
       unfolding onTo terms
       on-turn t q hn ht hl g ex ea =
@@ -95,25 +96,25 @@ module _ (m variables : ℕ) (s : List ℕ) where
 
 -- ---- a mask and its terms
 
-past-broken : (t r : Bool) → r ≡ not t → r ≡ true → must 3 t ≡ 3
+past-broken : (t r : Bool) → r ≡ not t → r ≡ true → _≡_ {A = ℕ} (if t then 0 else 3) 3
 past-broken true r e g = let z : false ≡ true = cc in cc
 past-broken false r e g = refl
 
-past-kept : (t r : Bool) → r ≡ not t → r ≡ false → must 3 t ≡ 0
+past-kept : (t r : Bool) → r ≡ not t → r ≡ false → _≡_ {A = ℕ} (if t then 0 else 3) 0
 past-kept true r e g = refl
 past-kept false r e g = let z : true ≡ false = cc in cc
 
-pub mask-past : (slots m : ℕ) (r : Bool) → r ≡ not (eqb (m % 2 ^ (8 - slots)) 0) → r ≡ true → aMask slots m ≡ 3
+pub mask-past : (slots m : ℕ) (r : Bool) → r ≡ not (eqb (m % 2 ^ (8 - slots)) 0) → r ≡ true → must bad-mask (aMask slots) m ≡ 3
 mask-past slots m r e g = past-broken (eqb (m % 2 ^ (8 - slots)) 0) r e g
 
-pub mask-kept : (slots m : ℕ) (r : Bool) → r ≡ not (eqb (m % 2 ^ (8 - slots)) 0) → r ≡ false → aMask slots m ≡ 0
+pub mask-kept : (slots m : ℕ) (r : Bool) → r ≡ not (eqb (m % 2 ^ (8 - slots)) 0) → r ≡ false → must bad-mask (aMask slots) m ≡ 0
 mask-kept slots m r e g = past-kept (eqb (m % 2 ^ (8 - slots)) 0) r e g
 
 module _ (variables slots : ℕ) (s : List ℕ) (p : ℕ) where
-  pub masked-bad : (x y : ℕ) → field 8 (aMask slots) s p ≡ Refused x y → Refused x y ≡ masked variables slots s p
+  pub masked-bad : (x y : ℕ) → field 8 (must bad-mask (aMask slots)) s p ≡ Refused x y → Refused x y ≡ masked variables slots s p
   unfolding masked
   masked-bad x y e = rw e
 
-  pub masked-on : (m q : ℕ) → field 8 (aMask slots) s p ≡ Got m q → terms variables (slotsIn m) s q ≡ masked variables slots s p
+  pub masked-on : (m q : ℕ) → field 8 (must bad-mask (aMask slots)) s p ≡ Got m q → terms variables (slotsIn m) s q ≡ masked variables slots s p
   unfolding masked
   masked-on m q e = rw e

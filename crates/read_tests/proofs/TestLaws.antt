@@ -6,6 +6,7 @@ use mathlib.Core.List.{List, _∷_}
 use native.Mathlib.Omega.{arith}
 use lib.Dec.{leb, ltb}
 use borrow.Author.Tests.{ltb-true}
+use Rattle.meaning.specs.Numbers.{bad-buffer, bad-number}
 use Rattle.meaning.specs.Model.{Named, Test}
 use Rattle.meaning.specs.State.{slotCount}
 use Rattle.meaning.specs.Read.{Refused, Got, field, must}
@@ -14,14 +15,14 @@ use Rattle.laws.specs.BoolLaws.{and-right}
 use Rattle.laws.specs.ReadLaws.{FieldRead, field-got, must-kept}
 use Rattle.layout.specs.declared.Walk.{Walk}
 use Rattle.layout.specs.declared.Walk.the-variants.{Next, Bad}
-use Rattle.layout.specs.Walks.{answer}
+use Rattle.layout.specs.Walks.{answer, inRange}
 use Rattle.layout.specs.Rows.{sizes, namedBy, testIn}
 use Rattle.layout.proofs.RowLaws.{masked-row}
 
 -- a field that was read in a range is below its end
-pub range-below : (w number low end : ℕ) (s : List ℕ) (p n q : ℕ) → Got n q ≡ field w (λ n. must (suc number) (leb low n && ltb n end)) s p → n < end
+pub range-below : (w number low end : ℕ) (s : List ℕ) (p n q : ℕ) → Got n q ≡ field w (must (suc number) (inRange low end)) s p → n < end
 range-below w number low end s p n q e =
-    let f : FieldRead w (λ n. must (suc number) (leb low n && ltb n end)) s p n q = field-got w _ s p n q (sym e) in
+    let f : FieldRead w (must (suc number) (inRange low end)) s p n q = field-got w _ s p n q (sym e) in
     ltb-true n end (and-right (leb low n) (ltb n end) (must-kept number _ (f .kept)))
 
 -- ---- the readings of a test, each from what was read before it
@@ -30,16 +31,16 @@ abbrev pub aTest : ℕ → ℕ → List Named → Test
 aTest b k ns = record { buffer = b; isa = k; named = ns }
 
 module _ (buffers : ℕ) (types : List ℕ) (variables least : ℕ) (s : List ℕ) (p : ℕ) where
-  pub test-first : (x y : ℕ) → Refused x y ≡ field 3 (aBuffer buffers least) s p → Refused x y ≡ test (sizes buffers types) variables least s p
+  pub test-first : (x y : ℕ) → Refused x y ≡ field 3 (must bad-buffer (aBuffer buffers least)) s p → Refused x y ≡ test (sizes buffers types) variables least s p
   unfolding test
   test-first x y e = rw (← e)
 
-  module _ (b q : ℕ) (e₁ : Got b q ≡ field 3 (aBuffer buffers least) s p) where
-    pub test-second : (x y : ℕ) → Refused x y ≡ field 6 (aType types 0) s q → Refused x y ≡ test (sizes buffers types) variables least s p
+  module _ (b q : ℕ) (e₁ : Got b q ≡ field 3 (must bad-buffer (aBuffer buffers least)) s p) where
+    pub test-second : (x y : ℕ) → Refused x y ≡ field 6 (must bad-number (aType types 0)) s q → Refused x y ≡ test (sizes buffers types) variables least s p
     unfolding test
     test-second x y e = rw (← e₁, ← e)
 
-    pub test-on : (k o : ℕ) → Got k o ≡ field 6 (aType types 0) s q → (w : Walk) (ns : List Named) → answer w ns ≡ masked variables (slotCount types k) s o
+    pub test-on : (k o : ℕ) → Got k o ≡ field 6 (must bad-number (aType types 0)) s q → (w : Walk) (ns : List Named) → answer w ns ≡ masked variables (slotCount types k) s o
         → answer w (aTest b k ns) ≡ test (sizes buffers types) variables least s p
     unfolding test
     test-on k o e₂ (Next r) ns e = rw (← e₁, ← e₂, ← e)

@@ -8,7 +8,7 @@ use lib.Bits.{bitAnd}
 use lib.Dec.{eqb}
 use lib.ListN.{getD}
 use borrow.Author.Tests.{eq-eqb, ne-eqb}
-use Rattle.meaning.specs.Base.{all}
+use Rattle.meaning.specs.Base.{every}
 use Rattle.meaning.specs.Image.{slotsIn}
 use Rattle.meaning.specs.Retrieval.{valueOf, fits}
 use Rattle.laws.specs.ListLaws.{all-map}
@@ -28,7 +28,7 @@ module _ (facts : List ℕ) (f : ℕ) (words : List ℕ) (q : ℕ) (nine : List 
 
   -- the slots from b on that a mask names
   unfoldable pub fitsFrom : ℕ → ℕ → Bool
-  fitsFrom mask b = all slotFits (rest mask b)
+  fitsFrom mask b = every slotFits (rest mask b)
 
   -- what the definition says of the fact
   abbrev pub fitsWhole : Bool

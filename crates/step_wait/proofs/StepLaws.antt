@@ -9,7 +9,7 @@ use native.Mathlib.Omega.{arith}
 use lib.ListN.{length, getD}
 use lib.Pow.{pow-mono}
 use Rattle.meaning.specs.declared.Buffer.{Buffer}
-use Rattle.meaning.specs.Base.{count, weigh}
+use Rattle.meaning.specs.Base.{upFrom, weigh}
 use Rattle.meaning.specs.Model.{Action}
 use Rattle.meaning.specs.State.{nothing}
 use Rattle.meaning.specs.Fire.{change}
@@ -38,7 +38,7 @@ pub record Going (anewly : ℕ → Buffer → Buffer) (acted : ℕ → Bool) (w 
   pub buffers : anew anewly w′ k ≡ anew anewly w 0
   pub left : (j : ℕ) → 10 * k ≤ j → getD w′ j 0 ≡ getD w j 0
   pub power : weight ≡ 2 ^ k
-  pub marked : marking (marks anewly acted w) k mark weight ≡ weigh (map (marks anewly acted w) (count 0 8))
+  pub marked : marking (marks anewly acted w) k mark weight ≡ weigh (map (marks anewly acted w) (upFrom 0 8))
 
 pub going-start : (anewly : ℕ → Buffer → Buffer) (acted : ℕ → Bool) (w : List ℕ) → Going anewly acted w w 0 0 1
 going-start anewly acted w =

@@ -5,14 +5,14 @@ use borrow.Author.Needs.{needs}
 use lib.ListN.{getD}
 use lib.Dec.{leb}
 use borrow.Author.Tests.{le-leb, lt-leb}
-use Rattle.meaning.specs.Base.{all}
+use Rattle.meaning.specs.Base.{every}
 use Rattle.layout_state.specs.Words.{stretch}
 use Rattle.layout_state.proofs.AllLaws.{all-kept, all-broken, all-done}
 use Rattle.layout_state.proofs.at_most.Statement.{statement}
 use Rattle.layout_state.proofs.at_most.Tie as tie
 
 abbrev Inv-loop : tie.InvT-loop
-Inv-loop words from end most i₀ i = all (λ v. leb v most) (stretch words i end) ≡ all (λ v. leb v most) (stretch words from end)
+Inv-loop words from end most i₀ i = every (λ v. leb v most) (stretch words i end) ≡ every (λ v. leb v most) (stretch words from end)
 
 abbrev μ-loop : tie.MeasureT-loop
 μ-loop words from end most i₀ i = end - i

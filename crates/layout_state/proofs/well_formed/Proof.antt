@@ -3,7 +3,7 @@ use Prim.Native.Nat.{_≤_, _-_}
 use mathlib.Core.Path.{_≡_, refl, sym, _∙_}
 use borrow.Author.Needs.{needs}
 use borrow.Author.Tests.{not-true, not-false}
-use Rattle.meaning.specs.Base.{all}
+use Rattle.meaning.specs.Base.{every}
 use Rattle.meaning.specs.State.{wellBuffer}
 use Rattle.layout.specs.Rows.{rowsIn}
 use Rattle.layout.specs.StateWords.{bufferIn, buffersIn}
@@ -13,7 +13,7 @@ use Rattle.layout_state.proofs.well_formed.Statement.{statement}
 use Rattle.layout_state.proofs.well_formed.Tie as tie
 
 abbrev Inv-loop : tie.InvT-loop
-Inv-loop words types buffers k₀ k = (k ≤ 8) × (all (wellBuffer types) (rowsIn (bufferIn words) k (8 - k)) ≡ all (wellBuffer types) (buffersIn words))
+Inv-loop words types buffers k₀ k = (k ≤ 8) × (every (wellBuffer types) (rowsIn (bufferIn words) k (8 - k)) ≡ every (wellBuffer types) (buffersIn words))
 
 abbrev μ-loop : tie.MeasureT-loop
 μ-loop words types buffers k₀ k = 8 - k

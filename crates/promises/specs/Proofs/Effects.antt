@@ -13,7 +13,7 @@ use lib.ListN.{length, getD, set, length-set}
 use lib.Seq.{getD-set-same, getD-set-other, ext-getD}
 use Rattle.meaning.specs.declared.Buffer.{Buffer}
 use Rattle.meaning.specs.declared.State.{State}
-use Rattle.meaning.specs.Base.{all}
+use Rattle.meaning.specs.Base.{every}
 use Rattle.meaning.specs.Model.{Model, Rule, Deed, Modify, Request, Clear, Named, Fact}
 use Rattle.meaning.specs.State.{slotCount}
 use Rattle.meaning.specs.Image.{isTested, testedType}
@@ -96,15 +96,15 @@ module _ (m : Model) (r : Rule) (s : State) (v : ℕ → ℕ) (binds : Binds r s
   abbrev entry : List ℕ
   entry = entryOf r s
 
-  same-values : (k : ℕ) (ns : List Named) → all (goodNamed (r .tests) k) ns ≡ true → (n : Named) → List·Memᴰ n ns → valueOf entry (n .term) ≡ standsFor v (n .term)
+  same-values : (k : ℕ) (ns : List Named) → every (goodNamed (r .tests) k) ns ≡ true → (n : Named) → List·Memᴰ n ns → valueOf entry (n .term) ≡ standsFor v (n .term)
   same-values k ns g n h = value-binds r s v binds (n .term) (and-right (ltb (n .slot) k) (goodTerm (r .tests) (n .term)) (all-member (goodNamed (r .tests) k) ns g h))
 
   -- the parts of what is known of the names
-  good-all : (k : ℕ) (ns : List Named) → goodNames (r .tests) k ns ≡ true → all (goodNamed (r .tests) k) ns ≡ true
-  good-all k ns g = and-left (all (goodNamed (r .tests) k) ns) (rises (λ n. n .slot) 0 ns) g
+  good-all : (k : ℕ) (ns : List Named) → goodNames (r .tests) k ns ≡ true → every (goodNamed (r .tests) k) ns ≡ true
+  good-all k ns g = and-left (every (goodNamed (r .tests) k) ns) (rises (λ n. n .slot) 0 ns) g
 
   good-rises : (k : ℕ) (ns : List Named) → goodNames (r .tests) k ns ≡ true → rises (λ n. n .slot) 0 ns ≡ true
-  good-rises k ns g = and-right (all (goodNamed (r .tests) k) ns) (rises (λ n. n .slot) 0 ns) g
+  good-rises k ns g = and-right (every (goodNamed (r .tests) k) ns) (rises (λ n. n .slot) 0 ns) g
 
   modified : (k : ℕ) (ns : List Named) (old : Buffer) → goodNames (r .tests) k ns ≡ true → Modified v ns old (record { isa = old .isa; slots = put ns entry (old .slots); delay = 0 })
   modified k ns old g =

@@ -12,7 +12,7 @@ use lib.IntN.{ℤ}
 use lib.ListN.{length, getD}
 use Rattle.meaning.specs.declared.Buffer.{Buffer}
 use Rattle.meaning.specs.declared.State.{State}
-use Rattle.meaning.specs.Base.{all}
+use Rattle.meaning.specs.Base.{every}
 use Rattle.meaning.specs.Model.{Model, Rule, Test, Deed, Clear, Fact}
 use Rattle.meaning.specs.State.{nothing, nilAfter, bufferOf, visible}
 use Rattle.meaning.specs.Match.{places, shows, agreed, matches, entryOf}
@@ -31,7 +31,7 @@ use Rattle.promises.specs.Proofs.Steps.{FiredBy, WaitedBy, step-fired, s
 pub matches-tests : (r : Rule) (s : State) → matches r s ≡ true → (t : Test) → List·Memᴰ t (r .tests) → shows t (bufferOf s (t .buffer)) ≡ true
 unfolding matches
 matches-tests r s h t at =
-    all-member (λ t. shows t (bufferOf s (t .buffer))) (r .tests) (and-left (all (λ t. shows t (bufferOf s (t .buffer))) (r .tests)) (agreed (places (r .tests) s)) h) at
+    all-member (λ t. shows t (bufferOf s (t .buffer))) (r .tests) (and-left (every (λ t. shows t (bufferOf s (t .buffer))) (r .tests)) (agreed (places (r .tests) s)) h) at
 
 module _ (m : Model) (memory : List Fact) (us : List ℤ) (s : State) (table : List ℕ) (k : ℕ) (s′ : State) (mark : ℕ)
     (made : step m memory us s table ≡ Made (Fired k) s′ mark) where

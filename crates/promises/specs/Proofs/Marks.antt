@@ -14,7 +14,7 @@ use lib.ListN.{length, getD, List·getD-eq-default}
 use lib.Seq.{take-at, drop-at}
 use Rattle.meaning.specs.declared.Buffer.{Buffer}
 use Rattle.meaning.specs.declared.State.{State}
-use Rattle.meaning.specs.Base.{if_then_else_, any, count, same, bit}
+use Rattle.meaning.specs.Base.{if_then_else_, anyOf, upFrom, same, bit}
 use Rattle.meaning.specs.Numbers.{not-fresh, clock-full}
 use Rattle.meaning.specs.Model.{Model, Rule, Test, Action, Deed, Fact}
 use Rattle.meaning.specs.State.{nothing, bufferOf, visible}
@@ -79,7 +79,7 @@ module _ (as′ : List Action) (s s′ : State) (ms : ℕ) (same-length : length
   unfolding markOf
   marked-by b true t e =
       let h : b < length (s .buffers) = ltb-true b (length (s .buffers)) t in
-      inside b h (sym (getD-count touched 0 (length (s .buffers)) b h ∙ ap touched (zero-add b)) ∙ sym (bit-weigh (map touched (count 0 (length (s .buffers)))) b) ∙ e)
+      inside b h (sym (getD-count touched 0 (length (s .buffers)) b h ∙ ap touched (zero-add b)) ∙ sym (bit-weigh (map touched (upFrom 0 (length (s .buffers)))) b) ∙ e)
   marked-by b false t e =
       let h : length (s .buffers) ≤ b = ltb-false b (length (s .buffers)) t in
       inl (past s b h ∙ sym (past s′ b (omega arith)))
@@ -138,10 +138,10 @@ step-marks m memory us s table = step-by-marks (m .failure) memory s (choose (m 
 
 -- ---- the refresh of a fresh table
 
-unmarked : (s s′ : State) (mark : ℕ) → Marks s s′ mark → (ts : List Test) → any (λ t. bit mark (t .buffer)) ts ≡ false → AlikeOn s s′ ts
+unmarked : (s s′ : State) (mark : ℕ) → Marks s s′ mark → (ts : List Test) → anyOf (λ t. bit mark (t .buffer)) ts ≡ false → AlikeOn s s′ ts
 unmarked s s′ mark h [] e = tt
 unmarked s s′ mark h (t ∷ ts) e = (
-  h (t .buffer) (or-left (bit mark (t .buffer)) (any (λ t. bit mark (t .buffer)) ts) e),
+  h (t .buffer) (or-left (bit mark (t .buffer)) (anyOf (λ t. bit mark (t .buffer)) ts) e),
   unmarked s s′ mark h ts (or-right (bit mark (t .buffer)) _ e),
 )
 

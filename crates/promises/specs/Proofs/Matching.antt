@@ -11,7 +11,7 @@ use lib.Dec.{eqb, ltb}
 use lib.ListN.{getD}
 use Rattle.meaning.specs.declared.Buffer.{Buffer}
 use Rattle.meaning.specs.declared.State.{State}
-use Rattle.meaning.specs.Base.{if_then_else_, all, any, count}
+use Rattle.meaning.specs.Base.{if_then_else_, every, anyOf, upFrom}
 use Rattle.meaning.specs.Model.{Rule, Test, Named, Term, Symbol, Variable}
 use Rattle.meaning.specs.State.{bufferOf, visible}
 use Rattle.meaning.specs.Image.{isVariable, standsIn}
@@ -22,9 +22,9 @@ use Rattle.laws.specs.ListLaws.{all-member}
 use Rattle.promises.specs.Published.{standsFor, Holds, Binds, Matches}
 use Rattle.promises.specs.Proofs.Decoded.{and-true, goodTerm}
 
-pub member-all : {A : Type 0} (p : A → Bool) (xs : List A) → ((y : A) → List·Memᴰ y xs → p y ≡ true) → all p xs ≡ true
+pub member-all : {A : Type 0} (p : A → Bool) (xs : List A) → ((y : A) → List·Memᴰ y xs → p y ≡ true) → every p xs ≡ true
 member-all p [] h = refl
-member-all p (x ∷ xs) h = and-true (p x) (all p xs) (h x (List·Memᴰ·head refl)) (member-all p xs (λ y k. h y (List·Memᴰ·tail k)))
+member-all p (x ∷ xs) h = and-true (p x) (every p xs) (h x (List·Memᴰ·head refl)) (member-all p xs (λ y k. h y (List·Memᴰ·tail k)))
 
 -- ---- the places of a rule's tests
 
@@ -93,8 +93,8 @@ pub matches-bind : (r : Rule) (s : State) → matches r s ≡ true → Matches r
 unfolding matches
 matches-bind r s e =
     let ps : List Place = places (r .tests) s in
-    let seen : all (λ t. shows t (bufferOf s (t .buffer))) (r .tests) ≡ true = and-left (all (λ t. shows t (bufferOf s (t .buffer))) (r .tests)) (agreed ps) e in
-    let agree : agreed ps ≡ true = and-right (all (λ t. shows t (bufferOf s (t .buffer))) (r .tests)) (agreed ps) e in
+    let seen : every (λ t. shows t (bufferOf s (t .buffer))) (r .tests) ≡ true = and-left (every (λ t. shows t (bufferOf s (t .buffer))) (r .tests)) (agreed ps) e in
+    let agree : agreed ps ≡ true = and-right (every (λ t. shows t (bufferOf s (t .buffer))) (r .tests)) (agreed ps) e in
     record {
       binding = valueIn ps;
       binds = λ t h.
@@ -113,7 +113,7 @@ unfolding matches
 bind-matches r s v h =
     let ps : List Place = places (r .tests) s in
     let bound : Bound v ps = places-bound v s (r .tests) h in
-    and-true (all (λ t. shows t (bufferOf s (t .buffer))) (r .tests)) (agreed ps)
+    and-true (every (λ t. shows t (bufferOf s (t .buffer))) (r .tests)) (agreed ps)
     (member-all (λ t. shows t (bufferOf s (t .buffer))) (r .tests)
     (λ t k.
     let b : Buffer = bufferOf s (t .buffer) in
@@ -134,10 +134,10 @@ record StandingIn (ns : List Named) (w : ℕ) : Type 0 where
   named-in : List·Memᴰ named ns
   is : named .term ≡ Variable w
 
-standing-in : (ns : List Named) (w : ℕ) → any (λ n. isVariable w (n .term)) ns ≡ true → StandingIn ns w
+standing-in : (ns : List Named) (w : ℕ) → anyOf (λ n. isVariable w (n .term)) ns ≡ true → StandingIn ns w
 standing-in [] w e = absurd (no-true (sym e))
 standing-in (n ∷ ns) w e =
-    (elim (isVariable w (n .term)) as (λ t. isVariable w (n .term) ≡ t → (t || any (λ n. isVariable w (n .term)) ns) ≡ true → StandingIn (n ∷ ns) w) [
+    (elim (isVariable w (n .term)) as (λ t. isVariable w (n .term) ≡ t → (t || anyOf (λ n. isVariable w (n .term)) ns) ≡ true → StandingIn (n ∷ ns) w) [
       | true ↦ λ t k. record { named = n; named-in = List·Memᴰ·head refl; is = is-variable w (n .term) t }
       | false ↦ λ t k. let i : StandingIn ns w = standing-in ns w k in record { named = i .named; named-in = List·Memᴰ·tail (i .named-in); is = i .is }
     ]) refl e
@@ -145,12 +145,12 @@ standing-in (n ∷ ns) w e =
 standing : (ts : List Test) (w : ℕ) → standsIn ts w ≡ true → Standing ts w
 standing [] w e = absurd (no-true (sym e))
 standing (x ∷ ts) w e =
-    (elim (any (λ n. isVariable w (n .term)) (x .named)) as (λ t. any (λ n. isVariable w (n .term)) (x .named) ≡ t → (t || standsIn ts w) ≡ true → Standing (x ∷ ts) w) [
+    (elim (anyOf (λ n. isVariable w (n .term)) (x .named)) as (λ t. anyOf (λ n. isVariable w (n .term)) (x .named) ≡ t → (t || standsIn ts w) ≡ true → Standing (x ∷ ts) w) [
       | true ↦ λ t k. let i : StandingIn (x .named) w = standing-in (x .named) w t in record { test = x; test-in = List·Memᴰ·head refl; named = i .named; named-in = i .named-in; is = i .is }
       | false ↦ λ t k. let i : Standing ts w = standing ts w k in record { test = i .test; test-in = List·Memᴰ·tail (i .test-in); named = i .named; named-in = i .named-in; is = i .is }
     ]) refl e
 
-getD-values : (f : ℕ → ℕ) (i n b : ℕ) → b < n → getD (map f (count i n)) b 0 ≡ f (i + b)
+getD-values : (f : ℕ → ℕ) (i n b : ℕ) → b < n → getD (map f (upFrom i n)) b 0 ≡ f (i + b)
 getD-values f i zero b h = absurd (omega arith)
 getD-values f i (suc n) zero h = rw add-zero
 getD-values f i (suc n) (suc b) h = getD-values f (i + 1) n b (omega arith) ∙ ap f (omega arith)

@@ -9,7 +9,7 @@ use native.Mathlib.Omega.{arith}
 use borrow.Author.Tests.{eqb-true, eq-eqb, ltb-true, ltb-false, not-true}
 use lib.Dec.{eqb}
 use lib.ListN.{length, getD}
-use Rattle.meaning.specs.Base.{all, admit, keep}
+use Rattle.meaning.specs.Base.{every, admit, keep}
 use Rattle.meaning.specs.Model.{Named, Term, Symbol, Variable, Fact}
 use Rattle.meaning.specs.Retrieval.{valueOf, fits, weaker, retrieve}
 use Rattle.laws.specs.BoolLaws.{no-true, and-left, and-right}
@@ -94,7 +94,7 @@ Held f k j g = (g .activation ≤ f .activation) × (g .activation ≡ f .activa
 module _ (v : ℕ → ℕ) (isa : ℕ) (ns : List Named) (entry : List ℕ) (same-value : (n : Named) → List·Memᴰ n ns → valueOf entry (n .term) ≡ standsFor v (n .term)) where
   fits-is : (f : Fact) → fits isa ns entry f ≡ true → Fits v isa ns f
   fits-is f e =
-      let valued : all (λ n. eqb (getD (f .chunk .slots) (n .slot) 0) (valueOf entry (n .term))) ns ≡ true = and-right (eqb (f .chunk .isa) isa) _ e in
+      let valued : every (λ n. eqb (getD (f .chunk .slots) (n .slot) 0) (valueOf entry (n .term))) ns ≡ true = and-right (eqb (f .chunk .isa) isa) _ e in
       record {
         typed = eqb-true (f .chunk .isa) isa (and-left (eqb (f .chunk .isa) isa) _ e);
         valued = λ n h.
@@ -104,7 +104,7 @@ module _ (v : ℕ → ℕ) (isa : ℕ) (ns : List Named) (entry : List ℕ) (sam
 
   is-fits : (f : Fact) → Fits v isa ns f → fits isa ns entry f ≡ true
   is-fits f h =
-      and-true (eqb (f .chunk .isa) isa) (all (λ n. eqb (getD (f .chunk .slots) (n .slot) 0) (valueOf entry (n .term))) ns) (eq-eqb (f .chunk .isa) isa (h .typed))
+      and-true (eqb (f .chunk .isa) isa) (every (λ n. eqb (getD (f .chunk .slots) (n .slot) 0) (valueOf entry (n .term))) ns) (eq-eqb (f .chunk .isa) isa (h .typed))
       (member-all (λ n. eqb (getD (f .chunk .slots) (n .slot) 0) (valueOf entry (n .term))) ns (λ n k. eq-eqb (getD (f .chunk .slots) (n .slot) 0) (valueOf entry (n .term)) (h .valued n k ∙ sym (same-value n k))))
 
   module _ (facts : List Fact) where

@@ -13,7 +13,7 @@ use lib.IntN.{ℤ, pos, negsuc}
 use lib.Signed.{ltZ}
 use lib.ListN.{getD, take, drop, replicate}
 use Rattle.meaning.specs.declared.State.{State}
-use Rattle.meaning.specs.Base.{if_then_else_, count}
+use Rattle.meaning.specs.Base.{if_then_else_, upFrom}
 use Rattle.meaning.specs.Model.{Model, Rule}
 use Rattle.meaning.specs.Match.{places, valueIn, matches, entryOf, freshTable}
 use Rattle.meaning.specs.Choice.{Candidate, candidates, utilities, counts, lower, choose}
@@ -121,7 +121,7 @@ utility-at r (next h) = utility-at r h
 pub first-word : (r : Rule) (s : State) → eqb (getD (entryOf r s) 0 0) 1 ≡ matches r s
 unfolding entryOf
 first-word r s =
-    elim (matches r s) as (λ t. eqb (getD (if t then 1 ∷ map (valueIn (places (r .tests) s)) (count 0 8) else replicate 9 0) 0 0) 1 ≡ t) [
+    elim (matches r s) as (λ t. eqb (getD (if t then 1 ∷ map (valueIn (places (r .tests) s)) (upFrom 0 8) else replicate 9 0) 0 0) 1 ≡ t) [
       | true ↦ refl
       | false ↦ refl
     ]

@@ -13,7 +13,7 @@ use lib.ListN.{length, getD}
 use lib.Seq.{ext-getD}
 use Rattle.meaning.specs.declared.Buffer.{Buffer}
 use Rattle.meaning.specs.declared.State.{State}
-use Rattle.meaning.specs.Base.{if_then_else_, all}
+use Rattle.meaning.specs.Base.{if_then_else_, every}
 use Rattle.meaning.specs.Numbers.{halted}
 use Rattle.meaning.specs.Model.{Model, Rule, Action, Deed}
 use Rattle.meaning.specs.State.{nothing, bufferOf}
@@ -176,12 +176,12 @@ module _ (m : Model) (d : Decoded m) (s : State) where
     good = all-at (goodRule (m .buffers) (m .types)) r at (d .rules-good)
 
     ups : rises (λ a. a .buffer) 0 (r .actions) ≡ true
-    ups = and-right (all (goodAction (m .buffers) (m .types) (r .tests)) (r .actions)) (rises (λ a. a .buffer) 0 (r .actions)) good
+    ups = and-right (every (goodAction (m .buffers) (m .types) (r .tests)) (r .actions)) (rises (λ a. a .buffer) 0 (r .actions)) good
 
     good-deed : (a : Action) → List·Memᴰ a (r .actions) → goodDeed (m .types) (r .tests) (a .buffer) (a .deed) ≡ true
     good-deed a h =
         and-right (ltb (a .buffer) (m .buffers)) (goodDeed (m .types) (r .tests) (a .buffer) (a .deed))
-        (all-member (goodAction (m .buffers) (m .types) (r .tests)) (r .actions) (and-left (all (goodAction (m .buffers) (m .types) (r .tests)) (r .actions)) (rises (λ a. a .buffer) 0 (r .actions)) good) h)
+        (all-member (goodAction (m .buffers) (m .types) (r .tests)) (r .actions) (and-left (every (goodAction (m .buffers) (m .types) (r .tests)) (r .actions)) (rises (λ a. a .buffer) 0 (r .actions)) good) h)
 
     fire-applied : Applied m r v s (fire (m .failure) (m .facts) r (entryOf r s) s)
     unfolding fire

@@ -12,7 +12,7 @@ use lib.ListN.{length, getD, drop, replicate, set}
 use lib.Seq.{drop-set-lt}
 use Rattle.meaning.specs.declared.Buffer.{Buffer}
 use Rattle.meaning.specs.declared.State.{State}
-use Rattle.meaning.specs.Base.{if_then_else_, all, keep, count}
+use Rattle.meaning.specs.Base.{if_then_else_, every, keep, upFrom}
 use Rattle.meaning.specs.Model.{Model, Rule, Test, Action, Deed, Modify, Request, Clear, Named, Term, Symbol, Variable, Fact}
 use Rattle.meaning.specs.State.{nothing, nilAfter, bufferOf, visible, slotCount, wellBuffer, isNil, wellFormed}
 use Rattle.meaning.specs.Read.{Got}
@@ -45,36 +45,36 @@ all-three a b c p q r = and-true (a && b) c (and-true a b p q) r
 
 -- what a well-formed buffer is, and what nil is, part by part
 buffer-parts : (types : List ℕ) (b : Buffer) → wellBuffer types b ≡ true
-    → (ltb (b .isa) (length types) ≡ true) × (all (λ v. leb v 4095) (b .slots) ≡ true) × (all (λ v. eqb v 0) (drop (slotCount types (b .isa)) (b .slots)) ≡ true)
-buffer-parts types b e = three (ltb (b .isa) (length types)) (all (λ v. leb v 4095) (b .slots)) (all (λ v. eqb v 0) (drop (slotCount types (b .isa)) (b .slots))) e
+    → (ltb (b .isa) (length types) ≡ true) × (every (λ v. leb v 4095) (b .slots) ≡ true) × (every (λ v. eqb v 0) (drop (slotCount types (b .isa)) (b .slots)) ≡ true)
+buffer-parts types b e = three (ltb (b .isa) (length types)) (every (λ v. leb v 4095) (b .slots)) (every (λ v. eqb v 0) (drop (slotCount types (b .isa)) (b .slots))) e
 
-nil-parts : (b : Buffer) → isNil b ≡ true → (eqb (b .isa) 0 ≡ true) × (all (λ v. eqb v 0) (b .slots) ≡ true) × (eqb (b .delay) 0 ≡ true)
-nil-parts b e = three (eqb (b .isa) 0) (all (λ v. eqb v 0) (b .slots)) (eqb (b .delay) 0) e
+nil-parts : (b : Buffer) → isNil b ≡ true → (eqb (b .isa) 0 ≡ true) × (every (λ v. eqb v 0) (b .slots) ≡ true) × (eqb (b .delay) 0 ≡ true)
+nil-parts b e = three (eqb (b .isa) 0) (every (λ v. eqb v 0) (b .slots)) (eqb (b .delay) 0) e
 
 -- ---- lists
 
-all-getD : {A : Type 0} (p : A → Bool) (xs : List A) (i : ℕ) (d : A) → all p xs ≡ true → p d ≡ true → p (getD xs i d) ≡ true
+all-getD : {A : Type 0} (p : A → Bool) (xs : List A) (i : ℕ) (d : A) → every p xs ≡ true → p d ≡ true → p (getD xs i d) ≡ true
 all-getD p [] i d e h = h
-all-getD p (x ∷ xs) zero d e h = and-left (p x) (all p xs) e
-all-getD p (x ∷ xs) (suc i) d e h = all-getD p xs i d (and-right (p x) (all p xs) e) h
+all-getD p (x ∷ xs) zero d e h = and-left (p x) (every p xs) e
+all-getD p (x ∷ xs) (suc i) d e h = all-getD p xs i d (and-right (p x) (every p xs) e) h
 
-all-set : (p : ℕ → Bool) (xs : List ℕ) (i v : ℕ) → all p xs ≡ true → p v ≡ true → all p (set xs i v) ≡ true
+all-set : (p : ℕ → Bool) (xs : List ℕ) (i v : ℕ) → every p xs ≡ true → p v ≡ true → every p (set xs i v) ≡ true
 all-set p [] i v e h = refl
-all-set p (x ∷ xs) zero v e h = and-true (p v) (all p xs) h (and-right (p x) (all p xs) e)
-all-set p (x ∷ xs) (suc i) v e h = and-true (p x) (all p (set xs i v)) (and-left (p x) (all p xs) e) (all-set p xs i v (and-right (p x) (all p xs) e) h)
+all-set p (x ∷ xs) zero v e h = and-true (p v) (every p xs) h (and-right (p x) (every p xs) e)
+all-set p (x ∷ xs) (suc i) v e h = and-true (p x) (every p (set xs i v)) (and-left (p x) (every p xs) e) (all-set p xs i v (and-right (p x) (every p xs) e) h)
 
-pub all-at : (p : Rule → Bool) (r : Rule) {k : ℕ} {rules : List Rule} → At r k rules → all p rules ≡ true → p r ≡ true
-all-at p r (first {xs = rs}) e = and-left (p r) (all p rs) e
-all-at p r (next {k} {y = q} {xs = rs} h) e = all-at p r h (and-right (p q) (all p rs) e)
+pub all-at : (p : Rule → Bool) (r : Rule) {k : ℕ} {rules : List Rule} → At r k rules → every p rules ≡ true → p r ≡ true
+all-at p r (first {xs = rs}) e = and-left (p r) (every p rs) e
+all-at p r (next {k} {y = q} {xs = rs} h) e = all-at p r h (and-right (p q) (every p rs) e)
 
 -- ---- buffers made anew
 
-all-change : (p : Buffer → Bool) (f : ℕ → Buffer → Buffer) (i : ℕ) (bs : List Buffer) → ((j : ℕ) → j < length bs → p (f (i + j) (getD bs j nothing)) ≡ true) → all p (change f i bs) ≡ true
+all-change : (p : Buffer → Bool) (f : ℕ → Buffer → Buffer) (i : ℕ) (bs : List Buffer) → ((j : ℕ) → j < length bs → p (f (i + j) (getD bs j nothing)) ≡ true) → every p (change f i bs) ≡ true
 unfolding change
 all-change p f i [] h = refl
 all-change p f i (b ∷ bs) h =
     let z : i + 0 ≡ i = omega arith in
-    and-true (p (f i b)) (all p (change f (i + 1) bs)) (rw z at (h 0 (omega arith)))
+    and-true (p (f i b)) (every p (change f (i + 1) bs)) (rw z at (h 0 (omega arith)))
     (all-change p f (i + 1) bs (λ j l. let e : i + suc j ≡ i + 1 + j = omega arith in rw e at (h (suc j) (omega arith))))
 
 drop-change : (n : ℕ) (f : ℕ → Buffer → Buffer) (i : ℕ) (bs : List Buffer) → drop n (change f i bs) ≡ change f (i + n) (drop n bs)
@@ -86,12 +86,12 @@ drop-change (suc n) f i (b ∷ bs) = let z : i + suc n ≡ i + 1 + n = omega ari
 -- a buffer of a well-formed state
 pub well-buffer : (m : Model) (s : State) → wellFormed m s ≡ true → (j : ℕ) → j < length (s .buffers) → wellBuffer (m .types) (bufferOf s j) ≡ true
 unfolding wellFormed
-well-buffer m s e j l = each (s .buffers) j l (and-left (all (wellBuffer (m .types)) (s .buffers)) (all isNil (drop (m .buffers) (s .buffers))) e)
+well-buffer m s e j l = each (s .buffers) j l (and-left (every (wellBuffer (m .types)) (s .buffers)) (every isNil (drop (m .buffers) (s .buffers))) e)
   where
-    each : (bs : List Buffer) (j : ℕ) → j < length bs → all (wellBuffer (m .types)) bs ≡ true → wellBuffer (m .types) (getD bs j nothing) ≡ true
+    each : (bs : List Buffer) (j : ℕ) → j < length bs → every (wellBuffer (m .types)) bs ≡ true → wellBuffer (m .types) (getD bs j nothing) ≡ true
     each [] j l h = absurd (omega arith)
-    each (b ∷ bs) zero l h = and-left (wellBuffer (m .types) b) (all (wellBuffer (m .types)) bs) h
-    each (b ∷ bs) (suc j) l h = each bs j (omega arith) (and-right (wellBuffer (m .types) b) (all (wellBuffer (m .types)) bs) h)
+    each (b ∷ bs) zero l h = and-left (wellBuffer (m .types) b) (every (wellBuffer (m .types)) bs) h
+    each (b ∷ bs) (suc j) l h = each bs j (omega arith) (and-right (wellBuffer (m .types) b) (every (wellBuffer (m .types)) bs) h)
 
 -- a state whose buffers are made anew is well formed if each of them is, and those past the count stay nil
 module _ (m : Model) (s : State) (f : ℕ → Buffer → Buffer) (clock : ℕ) where
@@ -103,8 +103,8 @@ module _ (m : Model) (s : State) (f : ℕ → Buffer → Buffer) (clock : ℕ) w
       → wellFormed m s ≡ true → wellFormed m anew ≡ true
   unfolding wellFormed
   anew-well well past e =
-      let nils : all isNil (drop (m .buffers) (s .buffers)) ≡ true = and-right (all (wellBuffer (m .types)) (s .buffers)) (all isNil (drop (m .buffers) (s .buffers))) e in
-      and-true (all (wellBuffer (m .types)) (change f 0 (s .buffers))) (all isNil (drop (m .buffers) (change f 0 (s .buffers))))
+      let nils : every isNil (drop (m .buffers) (s .buffers)) ≡ true = and-right (every (wellBuffer (m .types)) (s .buffers)) (every isNil (drop (m .buffers) (s .buffers))) e in
+      and-true (every (wellBuffer (m .types)) (change f 0 (s .buffers))) (every isNil (drop (m .buffers) (change f 0 (s .buffers))))
       (all-change (wellBuffer (m .types)) f 0 (s .buffers) (λ j l. rw (zero-add j) (well j l)))
       (rw (drop-change (m .buffers) f 0 (s .buffers))
       (all-change isNil f (0 + m .buffers) (drop (m .buffers) (s .buffers))
@@ -114,7 +114,7 @@ module _ (m : Model) (s : State) (f : ℕ → Buffer → Buffer) (clock : ℕ) w
 later-nil : (ms : ℕ) (b : Buffer) → isNil b ≡ true → isNil (later ms b) ≡ true
 later-nil ms b h =
     let n = nil-parts b h in
-    all-three (eqb (b .isa) 0) (all (λ v. eqb v 0) (b .slots)) (eqb (b .delay - ms) 0) (n .0) (n .1) (eq-eqb (b .delay - ms) 0 (omega (arith, eqb-true (b .delay) 0 (n .2))))
+    all-three (eqb (b .isa) 0) (every (λ v. eqb v 0) (b .slots)) (eqb (b .delay - ms) 0) (n .0) (n .1) (eq-eqb (b .delay - ms) 0 (omega (arith, eqb-true (b .delay) 0 (n .2))))
 
 pub wait-well : (m : Model) (ms : ℕ) (s : State) → wellFormed m s ≡ true → wellFormed m (wait ms s) ≡ true
 unfolding wait
@@ -124,48 +124,48 @@ wait-well m ms s e =
 -- ---- the words of an entry are slot values
 
 abbrev Small : List ℕ → Type 0
-Small xs = all (λ v. leb v 4095) xs ≡ true
+Small xs = every (λ v. leb v 4095) xs ≡ true
 
 slots-small : (m : Model) (s : State) → wellFormed m s ≡ true → (b : ℕ) → Small (bufferOf s b .slots)
 unfolding wellFormed
 slots-small m s e b =
-    let ws : all (wellBuffer (m .types)) (s .buffers) ≡ true = and-left (all (wellBuffer (m .types)) (s .buffers)) (all isNil (drop (m .buffers) (s .buffers))) e in
+    let ws : every (wellBuffer (m .types)) (s .buffers) ≡ true = and-left (every (wellBuffer (m .types)) (s .buffers)) (every isNil (drop (m .buffers) (s .buffers))) e in
     go (s .buffers) b ws
   where
-    go : (bs : List Buffer) (b : ℕ) → all (wellBuffer (m .types)) bs ≡ true → Small (getD bs b nothing .slots)
+    go : (bs : List Buffer) (b : ℕ) → every (wellBuffer (m .types)) bs ≡ true → Small (getD bs b nothing .slots)
     go [] b h = refl
     go (x ∷ xs) zero h =
-        buffer-parts (m .types) x (and-left (wellBuffer (m .types) x) (all (wellBuffer (m .types)) xs) h) .1
-    go (x ∷ xs) (suc b) h = go xs b (and-right (wellBuffer (m .types) x) (all (wellBuffer (m .types)) xs) h)
+        buffer-parts (m .types) x (and-left (wellBuffer (m .types) x) (every (wellBuffer (m .types)) xs) h) .1
+    go (x ∷ xs) (suc b) h = go xs b (and-right (wellBuffer (m .types) x) (every (wellBuffer (m .types)) xs) h)
 
-named-small : (b : Buffer) (ns : List Named) → Small (b .slots) → all (λ p. leb (p .value) 4095) (map (place b) ns) ≡ true
+named-small : (b : Buffer) (ns : List Named) → Small (b .slots) → every (λ p. leb (p .value) 4095) (map (place b) ns) ≡ true
 named-small b [] h = refl
 named-small b (n ∷ ns) h =
-    and-true (leb (getD (b .slots) (n .slot) 0) 4095) (all (λ p. leb (p .value) 4095) (map (place b) ns)) (all-getD (λ v. leb v 4095) (b .slots) (n .slot) 0 h refl) (named-small b ns h)
+    and-true (leb (getD (b .slots) (n .slot) 0) 4095) (every (λ p. leb (p .value) 4095) (map (place b) ns)) (all-getD (λ v. leb v 4095) (b .slots) (n .slot) 0 h refl) (named-small b ns h)
 
-places-small : (ts : List Test) (s : State) → ((b : ℕ) → Small (bufferOf s b .slots)) → all (λ p. leb (p .value) 4095) (places ts s) ≡ true
+places-small : (ts : List Test) (s : State) → ((b : ℕ) → Small (bufferOf s b .slots)) → every (λ p. leb (p .value) 4095) (places ts s) ≡ true
 unfolding places
 places-small [] s h = refl
 places-small (t ∷ ts) s h =
     all-append (λ p. leb (p .value) 4095) (map (place (bufferOf s (t .buffer))) (t .named)) (places ts s) (named-small (bufferOf s (t .buffer)) (t .named) (h (t .buffer))) (places-small ts s h)
 
-value-small : (ps : List Place) (v : ℕ) → all (λ p. leb (p .value) 4095) ps ≡ true → leb (valueIn ps v) 4095 ≡ true
+value-small : (ps : List Place) (v : ℕ) → every (λ p. leb (p .value) 4095) ps ≡ true → leb (valueIn ps v) 4095 ≡ true
 unfolding valueIn
 value-small [] v h = refl
 value-small (p ∷ ps) v h =
     elim (isVariable v (p .term)) as (λ t. leb (if t then p .value else valueIn ps v) 4095 ≡ true) [
-      | true ↦ and-left (leb (p .value) 4095) (all (λ p. leb (p .value) 4095) ps) h
-      | false ↦ value-small ps v (and-right (leb (p .value) 4095) (all (λ p. leb (p .value) 4095) ps) h)
+      | true ↦ and-left (leb (p .value) 4095) (every (λ p. leb (p .value) 4095) ps) h
+      | false ↦ value-small ps v (and-right (leb (p .value) 4095) (every (λ p. leb (p .value) 4095) ps) h)
     ]
 
-values-small : (ps : List Place) (i n : ℕ) → all (λ p. leb (p .value) 4095) ps ≡ true → Small (map (valueIn ps) (count i n))
+values-small : (ps : List Place) (i n : ℕ) → every (λ p. leb (p .value) 4095) ps ≡ true → Small (map (valueIn ps) (upFrom i n))
 values-small ps i zero h = refl
-values-small ps i (suc n) h = and-true (leb (valueIn ps i) 4095) (all (λ v. leb v 4095) (map (valueIn ps) (count (i + 1) n))) (value-small ps i h) (values-small ps (i + 1) n h)
+values-small ps i (suc n) h = and-true (leb (valueIn ps i) 4095) (every (λ v. leb v 4095) (map (valueIn ps) (upFrom (i + 1) n))) (value-small ps i h) (values-small ps (i + 1) n h)
 
 entry-small : (m : Model) (r : Rule) (s : State) → wellFormed m s ≡ true → Small (entryOf r s)
 unfolding entryOf
 entry-small m r s e =
-    elim (matches r s) as (λ t. Small (if t then 1 ∷ map (valueIn (places (r .tests) s)) (count 0 8) else replicate 9 0)) [
+    elim (matches r s) as (λ t. Small (if t then 1 ∷ map (valueIn (places (r .tests) s)) (upFrom 0 8) else replicate 9 0)) [
       | true ↦ values-small (places (r .tests) s) 0 8 (places-small (r .tests) s (slots-small m s e))
       | false ↦ refl
     ]
@@ -176,31 +176,31 @@ term-small : (ts : List Test) (entry : List ℕ) (t : Term) → goodTerm ts t �
 term-small ts entry (Symbol x) g h = g
 term-small ts entry (Variable v) g h = all-getD (λ v. leb v 4095) entry (v + 1) 0 h refl
 
-put-small : (ts : List Test) (k : ℕ) (ns : List Named) (entry slots : List ℕ) → all (goodNamed ts k) ns ≡ true → Small entry → Small slots → Small (put ns entry slots)
+put-small : (ts : List Test) (k : ℕ) (ns : List Named) (entry slots : List ℕ) → every (goodNamed ts k) ns ≡ true → Small entry → Small slots → Small (put ns entry slots)
 unfolding put
 put-small ts k [] entry slots g e h = h
 put-small ts k (n ∷ ns) entry slots g e h =
-    put-small ts k ns entry (set slots (n .slot) (valueOf entry (n .term))) (and-right (goodNamed ts k n) (all (goodNamed ts k) ns) g) e
+    put-small ts k ns entry (set slots (n .slot) (valueOf entry (n .term))) (and-right (goodNamed ts k n) (every (goodNamed ts k) ns) g) e
     (all-set (λ v. leb v 4095) slots (n .slot) (valueOf entry (n .term)) h
-    (term-small ts entry (n .term) (and-right (ltb (n .slot) k) (goodTerm ts (n .term)) (and-left (goodNamed ts k n) (all (goodNamed ts k) ns) g)) e))
+    (term-small ts entry (n .term) (and-right (ltb (n .slot) k) (goodTerm ts (n .term)) (and-left (goodNamed ts k n) (every (goodNamed ts k) ns) g)) e))
 
-put-past : (ts : List Test) (k : ℕ) (ns : List Named) (entry slots : List ℕ) → all (goodNamed ts k) ns ≡ true → drop k (put ns entry slots) ≡ drop k slots
+put-past : (ts : List Test) (k : ℕ) (ns : List Named) (entry slots : List ℕ) → every (goodNamed ts k) ns ≡ true → drop k (put ns entry slots) ≡ drop k slots
 unfolding put
 put-past ts k [] entry slots g = refl
 put-past ts k (n ∷ ns) entry slots g =
-    put-past ts k ns entry (set slots (n .slot) (valueOf entry (n .term))) (and-right (goodNamed ts k n) (all (goodNamed ts k) ns) g)
-    ∙ drop-set-lt k slots (n .slot) (valueOf entry (n .term)) (ltb-true (n .slot) k (and-left (ltb (n .slot) k) (goodTerm ts (n .term)) (and-left (goodNamed ts k n) (all (goodNamed ts k) ns) g)))
+    put-past ts k ns entry (set slots (n .slot) (valueOf entry (n .term))) (and-right (goodNamed ts k n) (every (goodNamed ts k) ns) g)
+    ∙ drop-set-lt k slots (n .slot) (valueOf entry (n .term)) (ltb-true (n .slot) k (and-left (ltb (n .slot) k) (goodTerm ts (n .term)) (and-left (goodNamed ts k n) (every (goodNamed ts k) ns) g)))
 
 -- a tested buffer holds a chunk of the tested type
-tested-type : (s : State) (b : ℕ) (ts : List Test) → all (λ t. shows t (bufferOf s (t .buffer))) ts ≡ true → isTested ts b ≡ true → bufferOf s b .isa ≡ testedType ts b
+tested-type : (s : State) (b : ℕ) (ts : List Test) → every (λ t. shows t (bufferOf s (t .buffer))) ts ≡ true → isTested ts b ≡ true → bufferOf s b .isa ≡ testedType ts b
 tested-type s b [] h t = absurd (no-true (sym t))
 tested-type s b (x ∷ ts) h t =
     (elim (eqb (x .buffer) b) as (λ q. eqb (x .buffer) b ≡ q → (q || isTested ts b) ≡ true → bufferOf s b .isa ≡ (if q then x .isa else testedType ts b)) [
       | true ↦ λ q k.
           let z : x .buffer ≡ b = eqb-true (x .buffer) b q in
-          let y : shows x (bufferOf s (x .buffer)) ≡ true = and-left (shows x (bufferOf s (x .buffer))) (all (λ t. shows t (bufferOf s (t .buffer))) ts) h in
+          let y : shows x (bufferOf s (x .buffer)) ≡ true = and-left (shows x (bufferOf s (x .buffer))) (every (λ t. shows t (bufferOf s (t .buffer))) ts) h in
           eqb-true (bufferOf s b .isa) (x .isa) (and-right (visible (bufferOf s b)) (eqb (bufferOf s b .isa) (x .isa)) (rw z at y))
-      | false ↦ λ q k. tested-type s b ts (and-right (shows x (bufferOf s (x .buffer))) (all (λ t. shows t (bufferOf s (t .buffer))) ts) h) k
+      | false ↦ λ q k. tested-type s b ts (and-right (shows x (bufferOf s (x .buffer))) (every (λ t. shows t (bufferOf s (t .buffer))) ts) h) k
     ]) refl t
 
 -- ---- each deed leaves a well-formed buffer
@@ -209,18 +209,18 @@ module _ (m : Model) (d : Decoded m) (s : State) (well : wellFormed m s ≡ true
   nil-is-well : (delay : ℕ) → wellBuffer (m .types) (nilAfter delay) ≡ true
   nil-is-well delay = rw (d .types-are) (nil-well (d .counts))
 
-  modify-well : (b : ℕ) (ns : List Named) → b < length (s .buffers) → isTested (r .tests) b ≡ true → all (goodNamed (r .tests) (slotCount (m .types) (testedType (r .tests) b))) ns ≡ true
+  modify-well : (b : ℕ) (ns : List Named) → b < length (s .buffers) → isTested (r .tests) b ≡ true → every (goodNamed (r .tests) (slotCount (m .types) (testedType (r .tests) b))) ns ≡ true
       → wellBuffer (m .types) (record { isa = bufferOf s b .isa; slots = put ns (entryOf r s) (bufferOf s b .slots); delay = 0 }) ≡ true
   unfolding matches
   modify-well b ns l t g =
       let k : ℕ = slotCount (m .types) (bufferOf s b .isa) in
-      let is : bufferOf s b .isa ≡ testedType (r .tests) b = tested-type s b (r .tests) (and-left (all (λ t. shows t (bufferOf s (t .buffer))) (r .tests)) (agreed (places (r .tests) s)) hit) t in
-      let g′ : all (goodNamed (r .tests) k) ns ≡ true = rw is g in
+      let is : bufferOf s b .isa ≡ testedType (r .tests) b = tested-type s b (r .tests) (and-left (every (λ t. shows t (bufferOf s (t .buffer))) (r .tests)) (agreed (places (r .tests) s)) hit) t in
+      let g′ : every (goodNamed (r .tests) k) ns ≡ true = rw is g in
       let w = buffer-parts (m .types) (bufferOf s b) (well-buffer m s well b l) in
-      all-three (ltb (bufferOf s b .isa) (length (m .types))) (all (λ v. leb v 4095) (put ns (entryOf r s) (bufferOf s b .slots))) (all (λ v. eqb v 0) (drop k (put ns (entryOf r s) (bufferOf s b .slots))))
+      all-three (ltb (bufferOf s b .isa) (length (m .types))) (every (λ v. leb v 4095) (put ns (entryOf r s) (bufferOf s b .slots))) (every (λ v. eqb v 0) (drop k (put ns (entryOf r s) (bufferOf s b .slots))))
       (w .0)
       (put-small (r .tests) k ns (entryOf r s) (bufferOf s b .slots) g′ (entry-small m r s well) (w .1))
-      (ap (all (λ v. eqb v 0)) (put-past (r .tests) k ns (entryOf r s) (bufferOf s b .slots) g′) ∙ w .2)
+      (ap (every (λ v. eqb v 0)) (put-past (r .tests) k ns (entryOf r s) (bufferOf s b .slots) g′) ∙ w .2)
 
   retrieved-well : (isa : ℕ) (ns : List Named) (o : Option Fact) → retrieve (m .facts) isa ns (entryOf r s) ≡ o → wellBuffer (m .types) (retrieved (m .failure) o) ≡ true
   retrieved-well isa ns none e = nil-is-well (m .failure)
@@ -234,11 +234,11 @@ module _ (m : Model) (d : Decoded m) (s : State) (well : wellFormed m s ≡ true
   done-well b (Modify ns) l g =
       let t : isTested (r .tests) b ≡ true = and-left (isTested (r .tests) b) _ g in
       let n : goodNames (r .tests) (slotCount (m .types) (testedType (r .tests) b)) ns ≡ true = and-right (isTested (r .tests) b) _ g in
-      modify-well b ns l t (and-left (all (goodNamed (r .tests) (slotCount (m .types) (testedType (r .tests) b))) ns) (rises (λ n. n .slot) 0 ns) n)
+      modify-well b ns l t (and-left (every (goodNamed (r .tests) (slotCount (m .types) (testedType (r .tests) b))) ns) (rises (λ n. n .slot) 0 ns) n)
   done-well b (Request isa ns) l g = retrieved-well isa ns (retrieve (m .facts) isa ns (entryOf r s)) refl
   done-well b Clear l g = nil-is-well 0
 
-  after-well : (as′ : List Action) → all (goodAction (m .buffers) (m .types) (r .tests)) as′ ≡ true → (b : ℕ) → b < length (s .buffers)
+  after-well : (as′ : List Action) → every (goodAction (m .buffers) (m .types) (r .tests)) as′ ≡ true → (b : ℕ) → b < length (s .buffers)
       → wellBuffer (m .types) (after (m .failure) (m .facts) (entryOf r s) (bufferOf s b) (deedOn as′ b)) ≡ true
   unfolding deedOn
   after-well [] g b l = well-buffer m s well b l
@@ -246,20 +246,20 @@ module _ (m : Model) (d : Decoded m) (s : State) (well : wellFormed m s ≡ true
       (elim (eqb (a .buffer) b) as (λ q. eqb (a .buffer) b ≡ q → wellBuffer (m .types) (after (m .failure) (m .facts) (entryOf r s) (bufferOf s b) (if q then some (a .deed) else deedOn as′ b)) ≡ true) [
         | true ↦ λ q.
             let z : a .buffer ≡ b = eqb-true (a .buffer) b q in
-            let h : goodDeed (m .types) (r .tests) (a .buffer) (a .deed) ≡ true = and-right (ltb (a .buffer) (m .buffers)) _ (and-left (goodAction (m .buffers) (m .types) (r .tests) a) (all (goodAction (m .buffers) (m .types) (r .tests)) as′) g) in
+            let h : goodDeed (m .types) (r .tests) (a .buffer) (a .deed) ≡ true = and-right (ltb (a .buffer) (m .buffers)) _ (and-left (goodAction (m .buffers) (m .types) (r .tests) a) (every (goodAction (m .buffers) (m .types) (r .tests)) as′) g) in
             done-well b (a .deed) l (rw z at h)
         | false ↦ λ q. after-well as′ (and-right (goodAction (m .buffers) (m .types) (r .tests) a) _ g) b l
       ]) refl
 
   -- no action is on a buffer past the count
-  past-none : (as′ : List Action) → all (goodAction (m .buffers) (m .types) (r .tests)) as′ ≡ true → (b : ℕ) → m .buffers ≤ b → deedOn as′ b ≡ none
+  past-none : (as′ : List Action) → every (goodAction (m .buffers) (m .types) (r .tests)) as′ ≡ true → (b : ℕ) → m .buffers ≤ b → deedOn as′ b ≡ none
   unfolding deedOn
   past-none [] g b l = refl
   past-none (a ∷ as′) g b l =
       (elim (eqb (a .buffer) b) as (λ q. eqb (a .buffer) b ≡ q → (if q then some (a .deed) else deedOn as′ b) ≡ none) [
         | true ↦ λ q.
             let z : a .buffer ≡ b = eqb-true (a .buffer) b q in
-            let h : a .buffer < m .buffers = ltb-true (a .buffer) (m .buffers) (and-left (ltb (a .buffer) (m .buffers)) _ (and-left (goodAction (m .buffers) (m .types) (r .tests) a) (all (goodAction (m .buffers) (m .types) (r .tests)) as′) g)) in
+            let h : a .buffer < m .buffers = ltb-true (a .buffer) (m .buffers) (and-left (ltb (a .buffer) (m .buffers)) _ (and-left (goodAction (m .buffers) (m .types) (r .tests) a) (every (goodAction (m .buffers) (m .types) (r .tests)) as′) g)) in
             absurd (omega arith)
         | false ↦ λ q. past-none as′ (and-right (goodAction (m .buffers) (m .types) (r .tests) a) _ g) b l
       ]) refl
@@ -267,7 +267,7 @@ module _ (m : Model) (d : Decoded m) (s : State) (well : wellFormed m s ≡ true
   pub fire-well : goodRule (m .buffers) (m .types) r ≡ true → wellFormed m (fire (m .failure) (m .facts) r (entryOf r s) s) ≡ true
   unfolding fire
   fire-well g =
-      let as-good : all (goodAction (m .buffers) (m .types) (r .tests)) (r .actions) ≡ true = and-left (all (goodAction (m .buffers) (m .types) (r .tests)) (r .actions)) (rises (λ a. a .buffer) 0 (r .actions)) g in
+      let as-good : every (goodAction (m .buffers) (m .types) (r .tests)) (r .actions) ≡ true = and-left (every (goodAction (m .buffers) (m .types) (r .tests)) (r .actions)) (rises (λ a. a .buffer) 0 (r .actions)) g in
       anew-well m s (λ i b. after (m .failure) (m .facts) (entryOf r s) b (deedOn (r .actions) i)) (s .clock + 50)
       (λ j l. after-well (r .actions) as-good j l)
       (λ j b l h. rw (past-none (r .actions) as-good j l) (later-nil 50 b h))

@@ -1,6 +1,7 @@
 -- `read_ranges::ranged_after` meets its contract: read where the walk goes on, and handed on where it was refused.
 use mathlib.Core.Bool.{_&&_}
 use lib.Dec.{leb, ltb}
+use Rattle.layout.specs.Walks.{inRange}
 use Rattle.meaning.specs.Read.{field, must}
 use Rattle.layout.proofs.WalkLaws.{answer-bad, bad-within}
 use Rattle.read_ranges.proofs.AfterLaws.{after-next, after-bad}
@@ -23,14 +24,14 @@ no-number-requires c κs = search needs
 returns : tie.Need-returns
 returns c =
     let a = c .before .before .before .before .before .args in (
-      after-next _ _ (field (a .width) (λ n. must (a .number) (leb (a .low) n && ltb n (a .end))) (a .image .now)) _ (c .before .before .walk .given .1) (c .ranged .ensures .0),
+      after-next _ _ (field (a .width) (must (a .number) (inRange (a .low) (a .end))) (a .image .now)) _ (c .before .before .walk .given .1) (c .ranged .ensures .0),
       c .ranged .ensures .1,
     )
 
 returns-2 : tie.Need-returns-2
 returns-2 c =
     let a = c .before .before .before .before .before .args in (
-      after-bad _ _ _ (field (a .width) (λ n. must (a .number) (leb (a .low) n && ltb n (a .end))) (a .image .now)) _ (c .before .before .walk2 .given .1) (answer-bad _ _ _ _ (c .no-number .ensures)),
+      after-bad _ _ _ (field (a .width) (must (a .number) (inRange (a .low) (a .end))) (a .image .now)) _ (c .before .before .walk2 .given .1) (answer-bad _ _ _ _ (c .no-number .ensures)),
       bad-within _ _ _ _ (c .no-number .ensures),
     )
 

@@ -3,6 +3,8 @@ use Prim.Native.Nat.{ℕ, _≤_, _<_, _*_, _+_}
 use mathlib.Core.Path.{_≡_, refl, sym, ap, _∙_}
 use native.Mathlib.Omega.{arith}
 use lib.ListN.{length}
+use Rattle.meaning.specs.Read.{must}
+use Rattle.meaning.specs.Numbers.{bad-mask}
 use Rattle.meaning.specs.Image.{aMask}
 use Rattle.laws.specs.FieldLaws.{fieldAt-lt}
 use Rattle.layout.proofs.WalkLaws.{answer-bad, bad-within}
@@ -27,7 +29,7 @@ no-terms-requires c κs = search needs
 returns : tie.Need-returns
 returns c =
     let a = c .before .before .before .before .before .args in (
-      answer-bad _ _ _ _ (c .no-terms .ensures) ∙ masked-bad (a .variables) (a .slots) (a .image .now) (a .p) _ _ (read-short (a .image .now) 8 (a .p) (aMask (a .slots)) (sym (c .before .enum-told .given .1) ∙ c .before .before .before .field-at .ensures)),
+      answer-bad _ _ _ _ (c .no-terms .ensures) ∙ masked-bad (a .variables) (a .slots) (a .image .now) (a .p) _ _ (read-short (a .image .now) 8 (a .p) (must bad-mask (aMask (a .slots))) (sym (c .before .enum-told .given .1) ∙ c .before .before .before .field-at .ensures)),
       bad-within _ _ _ _ (c .no-terms .ensures),
     )
 
@@ -42,7 +44,7 @@ returns-2 c =
     let a = c .before .before .before .before .before .before .before .before .args in (
       answer-bad _ _ _ _ (c .no-terms2 .ensures)
           ∙ masked-bad (a .variables) (a .slots) (a .image .now) (a .p) _ _
-          (read-broken (a .image .now) 8 (a .p) (aMask (a .slots)) _ 2 (sym (c .before .before .before .before .m .given .1) ∙ c .before .before .before .before .before .before .field-at .ensures) (mask-past (a .slots) _ (c .before .before .past .result) (c .before .before .past .ensures) (c .before .if1 .taken))),
+          (read-broken (a .image .now) 8 (a .p) (must bad-mask (aMask (a .slots))) _ 2 (sym (c .before .before .before .before .m .given .1) ∙ c .before .before .before .before .before .before .field-at .ensures) (mask-past (a .slots) _ (c .before .before .past .result) (c .before .before .past .ensures) (c .before .if1 .taken))),
       bad-within _ _ _ _ (c .no-terms2 .ensures),
     )
 
@@ -60,7 +62,7 @@ returns-3 : tie.Need-returns-3
 returns-3 c =
     let a = c .before .before .before .before .before .before .before .before .before .args in
     let e = sym (c .before .before .before .before .before .m .given .1) ∙ c .before .before .before .before .before .before .before .field-at .ensures in (
-      c .before .terms .ensures .0 ∙ masked-on (a .variables) (a .slots) (a .image .now) (a .p) _ _ (read-kept (a .image .now) 8 (a .p) (aMask (a .slots)) _ e (mask-kept (a .slots) _ (c .before .before .before .past .result) (c .before .before .before .past .ensures) (c .before .before .if1 .left))),
+      c .before .terms .ensures .0 ∙ masked-on (a .variables) (a .slots) (a .image .now) (a .p) _ _ (read-kept (a .image .now) 8 (a .p) (must bad-mask (aMask (a .slots))) _ e (mask-kept (a .slots) _ (c .before .before .before .past .result) (c .before .before .before .past .ensures) (c .before .before .if1 .left))),
       c .before .terms .ensures .1,
     )
 

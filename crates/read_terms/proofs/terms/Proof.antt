@@ -7,6 +7,8 @@ use mathlib.Core.Logic.{⊎-elim}
 use borrow.Author.Needs.{needs}
 use native.Mathlib.Omega.{arith}
 use lib.ListN.{length, length-set}
+use Rattle.meaning.specs.Read.{must}
+use Rattle.meaning.specs.Numbers.{bad-variable}
 use Rattle.meaning.specs.Image.{aTerm, terms, slotsIn}
 use Rattle.laws.specs.MaskLaws.{slots-ones}
 use Rattle.layout.proofs.WalkLaws.{bad-within, next-within}
@@ -56,7 +58,7 @@ returns c =
     let a = c .before .before .before .before .before .before .before .args in
     let h = in-slot (c .before .before .before .before) in (
       on-bad (a .mask) (a .variables) (a .image .now) (l .xs) (l .xs) (l .b) (l .at) (l .at) h (names-on (a .mask) (l .b) (c .before .before .before .if1 .taken)) _ _
-          (read-short (a .image .now) 13 (l .at) (aTerm (a .variables)) (sym (c .enum-told .given .1) ∙ c .before .before .field-at .ensures)) ∙ l .inv .4,
+          (read-short (a .image .now) 13 (l .at) (must bad-variable (aTerm (a .variables))) (sym (c .enum-told .given .1) ∙ c .before .before .field-at .ensures)) ∙ l .inv .4,
       bad-within _ _ _ _ refl,
     )
 
@@ -69,7 +71,7 @@ returns-2 c =
     let a = c .before .before .before .before .before .before .before .before .before .args in
     let h = in-slot (c .before .before .before .before .before .before) in (
       on-bad (a .mask) (a .variables) (a .image .now) (l .xs) (l .xs) (l .b) (l .at) (l .at) h (names-on (a .mask) (l .b) (c .before .before .before .before .before .if1 .taken)) _ _
-          (read-broken (a .image .now) 13 (l .at) (aTerm (a .variables)) _ 2 (sym (c .before .before .t .given .1) ∙ c .before .before .before .before .field-at .ensures) (term-big (a .variables) _ (c .if2 .taken))) ∙ l .inv .4,
+          (read-broken (a .image .now) 13 (l .at) (must bad-variable (aTerm (a .variables))) _ 2 (sym (c .before .before .t .given .1) ∙ c .before .before .before .before .field-at .ensures) (term-big (a .variables) _ (c .if2 .taken))) ∙ l .inv .4,
       bad-within _ _ _ _ refl,
     )
 
@@ -107,7 +109,7 @@ loop-again c =
       n,
       omega (arith, w .8, l .inv .3),
       on-turn (a .mask) (a .variables) (a .image .now) (l .xs) (c .if1 .xs) (l .b) (l .at) (c .if1 .at) h on _ _ (search needs) (w .5 .left) (l .inv .2)
-          (read-kept (a .image .now) 13 (l .at) (aTerm (a .variables)) _ e (term-kept (a .variables) _ (w .5 .left))) (w .6) (w .7) ∙ l .inv .4,
+          (read-kept (a .image .now) 13 (l .at) (must bad-variable (aTerm (a .variables))) _ e (term-kept (a .variables) _ (w .5 .left))) (w .6) (w .7) ∙ l .inv .4,
     ))
     (λ w.
     let off = names-off (a .mask) (l .b) (w .0 .left) in (
