@@ -8,7 +8,11 @@ ghost use Rattle.meaning.specs.Image.{testedType, masked, deed};
 ghost use Rattle.layout.specs.Walks.{answer, Within};
 ghost use Rattle.layout.specs.Rows.{sizes, namedBy, testsIn};
 ghost use Rattle.read_deeds.specs.Deeds.{testedOf, says, kindAndDeed};
+use layout::ROW_WORDS;
 use layout::Walk;
+use meaning::numbers::BAD_BUFFER;
+use meaning::numbers::BAD_NUMBER;
+use meaning::numbers::NOT_THERE;
 use read_fields::Field;
 
 // What the tests of a rule say of a buffer: the type that the first test of it names, or that there is none.
@@ -32,7 +36,7 @@ pub fn tested_type(words: &[u16], o: usize, n: usize, b: u16) -> Tested
 {
     let mut i = 0;
     while i < n {
-        let q = o + 11 * i;
+        let q = o + ROW_WORDS * i;
         if words[q] % 8 == b {
             return Tested::Isa(words[q + 1]);
         }
@@ -123,18 +127,18 @@ pub fn deed(image: &[u8], p: usize, types: &[u16], variables: u16, tested: Teste
     ensures within { λ r. ⌜ Within (r .walk) (8 * length (now (image .entry))) ⌝ }
 {
     let Field::Value(kind) = read_fields::field_at(image, p, 2) else {
-        return no_deed(2, p);
+        return no_deed(NOT_THERE, p);
     };
     let q = p + 2;
     match kind {
         0 => {
             let Tested::Isa(k) = tested else {
-                return no_deed(3, p);
+                return no_deed(BAD_BUFFER, p);
             };
             modify(image, q, types, variables, k)
         }
         1 => request(image, q, types, variables),
         2 => clear(q),
-        _ => no_deed(3, p),
+        _ => no_deed(BAD_NUMBER, p),
     }
 }

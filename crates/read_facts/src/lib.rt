@@ -8,8 +8,10 @@ ghost use Rattle.layout.specs.Walks.{answer, mapped, Within, Small};
 ghost use Rattle.layout.specs.Rows.{factIn, factsIn};
 ghost use Rattle.read_facts.specs.Made.{aChunk, aFact};
 use layout::Eight;
+use layout::ROW_WORDS;
 use layout::RowRead;
 use layout::Walk;
+use meaning::numbers::NOT_THERE;
 use read_fields::Field;
 
 // A chunk: its type and its eight slot values; or a refusal.
@@ -31,7 +33,7 @@ fn values(image: &[u8], p: usize, n: u16) -> Eight
     while i < n {
         let Field::Value(x) = read_fields::field_at(image, at, 12) else {
             return Eight {
-                walk: Walk::Bad(2, at),
+                walk: Walk::Bad(NOT_THERE, at),
                 slots: xs,
             };
         };
@@ -114,7 +116,7 @@ pub fn facts(image: &[u8], p: usize, types: &[u16], n: usize, words: &mut [u16])
                 return Walk::Bad(a, b);
             }
         }
-        layout::lay(words, 11 * i, f);
+        layout::lay(words, ROW_WORDS * i, f);
         i += 1;
     }
     Walk::Next(at)

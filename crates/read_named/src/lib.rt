@@ -9,6 +9,7 @@ ghost use Rattle.meaning.specs.Base.{every, upFrom, weigh, bit};
 ghost use Rattle.meaning.specs.Image.{isVariable, standsIn, isTested};
 ghost use Rattle.layout.specs.Rows.{wordTerm, testsIn};
 ghost use Rattle.read_named.specs.Masks.{Holds, standsAt};
+use layout::ROW_WORDS;
 
 // The mask with the variable that the term is, if it is one.
 fn with_term(mask: u16, term: u16) -> u16
@@ -45,7 +46,7 @@ fn variables_in(words: &[u16], o: usize, n: usize) -> u16
     let mut seen = 0;
     let mut i = 0;
     while i < n {
-        seen = with_test(seen, words, o + 11 * i);
+        seen = with_test(seen, words, o + ROW_WORDS * i);
         i += 1;
     }
     seen
@@ -68,7 +69,7 @@ pub fn tested(words: &[u16], o: usize, n: usize) -> u16
     let mut mask = 0;
     let mut i = 0;
     while i < n {
-        mask |= 1u16 << (words[o + 11 * i] % 8);
+        mask |= 1u16 << (words[o + ROW_WORDS * i] % 8);
         i += 1;
     }
     mask

@@ -12,6 +12,7 @@ ghost use Rattle.read_opening.specs.Parts.{aHeader, Bounded, openingStat
 use layout::Walk;
 use meaning::Buffer;
 use meaning::State;
+use meaning::numbers::BAD_NUMBER;
 use read_facts::ChunkRead;
 
 // What the header says: counts of buffers, declared types, rules and facts, and the failure latency; or a refusal.
@@ -43,15 +44,15 @@ pub fn header(image: &[u8]) -> HeaderRead
     ensures within { λ r. ⌜ Within (r .walk) (8 * length (now (image .entry))) ⌝ }
     ensures bounds { λ r. ⌜ Bounded (r .walk) (r .buffers) (r .declared) (r .rules) (r .facts) ⌝ }
 {
-    let version = read_ranges::ranged(image, 0, 8, 1, 2, 3);
+    let version = read_ranges::ranged(image, 0, 8, 1, 2, BAD_NUMBER);
     let first = version.walk;
-    let buffers = read_ranges::ranged_after(image, first, 4, 1, 9, 3);
+    let buffers = read_ranges::ranged_after(image, first, 4, 1, 9, BAD_NUMBER);
     let second = buffers.walk;
-    let declared = read_ranges::ranged_after(image, second, 6, 0, 64, 3);
+    let declared = read_ranges::ranged_after(image, second, 6, 0, 64, BAD_NUMBER);
     let third = declared.walk;
-    let rules = read_ranges::ranged_after(image, third, 9, 0, 257, 3);
+    let rules = read_ranges::ranged_after(image, third, 9, 0, 257, BAD_NUMBER);
     let fourth = rules.walk;
-    let facts = read_ranges::ranged_after(image, fourth, 10, 0, 513, 3);
+    let facts = read_ranges::ranged_after(image, fourth, 10, 0, 513, BAD_NUMBER);
     let fifth = facts.walk;
     let failure = read_ranges::any_after(image, fifth, 16);
     let sixth = failure.walk;
@@ -76,7 +77,7 @@ pub fn slot_counts(image: &[u8], p: usize, declared: u16) -> TypesRead
     let mut at = p;
     let mut i = 0;
     while i < declared {
-        let count = read_ranges::ranged(image, at, 4, 0, 9, 3);
+        let count = read_ranges::ranged(image, at, 4, 0, 9, BAD_NUMBER);
         let w = count.walk;
         match w {
             Walk::Next(q) => {

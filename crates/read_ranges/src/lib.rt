@@ -10,6 +10,8 @@ ghost use Rattle.meaning.specs.Image.{aType, anything};
 ghost use Rattle.layout.specs.Walks.{answer, Within, inRange};
 ghost use Rattle.read_ranges.specs.After.{after};
 use layout::Walk;
+use meaning::numbers::BAD_NUMBER;
+use meaning::numbers::NOT_THERE;
 use read_fields::Field;
 
 // The value of a field that keeps its rule, and where the next field starts; or a refusal.
@@ -34,7 +36,7 @@ pub fn ranged(image: &[u8], p: usize, width: usize, low: u16, end: u16, number: 
     ensures within { λ r. ⌜ Within (r .walk) (8 * length (now (image .entry))) ⌝ }
 {
     let Field::Value(n) = read_fields::field_at(image, p, width) else {
-        return no_number(2, p);
+        return no_number(NOT_THERE, p);
     };
     if n < low {
         return no_number(number, p);
@@ -55,21 +57,21 @@ pub fn type_at(image: &[u8], p: usize, types: &[u16], least: u16) -> Number
     ensures within { λ r. ⌜ Within (r .walk) (8 * length (now (image .entry))) ⌝ }
 {
     let Field::Value(k) = read_fields::field_at(image, p, 6) else {
-        return no_number(2, p);
+        return no_number(NOT_THERE, p);
     };
     match k {
         0 => {
             if 0 < least {
-                return no_number(3, p);
+                return no_number(BAD_NUMBER, p);
             }
         }
         1..=63 => {
             if types.len() <= k as usize {
-                return no_number(3, p);
+                return no_number(BAD_NUMBER, p);
             }
         }
         _ => {
-            return no_number(3, p);
+            return no_number(BAD_NUMBER, p);
         }
     }
     Number {
@@ -106,7 +108,7 @@ pub fn any_after(image: &[u8], walk: Walk, width: usize) -> Number
     match walk {
         Walk::Next(p) => {
             let Field::Value(n) = read_fields::field_at(image, p, width) else {
-                return no_number(2, p);
+                return no_number(NOT_THERE, p);
             };
             Number {
                 walk: Walk::Next(p + width),

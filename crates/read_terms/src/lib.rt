@@ -9,6 +9,9 @@ ghost use Rattle.layout.specs.Walks.{answer, Within};
 ghost use Rattle.layout.specs.Rows.{namedBy};
 use layout::Eight;
 use layout::Walk;
+use meaning::numbers::BAD_MASK;
+use meaning::numbers::BAD_VARIABLE;
+use meaning::numbers::NOT_THERE;
 use read_fields::Field;
 
 // A mask with its terms, each at its slot; or a refusal.
@@ -43,13 +46,13 @@ fn terms(image: &[u8], p: usize, mask: u16, variables: u16) -> Eight
         if (mask >> (7 - b)) & 1 == 1 {
             let Field::Value(t) = read_fields::field_at(image, at, 13) else {
                 return Eight {
-                    walk: Walk::Bad(2, at),
+                    walk: Walk::Bad(NOT_THERE, at),
                     slots: xs,
                 };
             };
             if 4096 + variables <= t {
                 return Eight {
-                    walk: Walk::Bad(3, at),
+                    walk: Walk::Bad(BAD_VARIABLE, at),
                     slots: xs,
                 };
             }
@@ -82,10 +85,10 @@ pub fn masked(image: &[u8], p: usize, slots: u16, variables: u16) -> MaskRead
     ensures within { λ r. ⌜ Within (r .walk) (8 * length (now (image .entry))) ⌝ }
 {
     let Field::Value(m) = read_fields::field_at(image, p, 8) else {
-        return no_terms(2, p);
+        return no_terms(NOT_THERE, p);
     };
     if past(m, slots) {
-        return no_terms(3, p);
+        return no_terms(BAD_MASK, p);
     }
     let e = terms(image, p + 8, m, variables);
     let w = e.walk;

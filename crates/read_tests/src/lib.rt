@@ -5,8 +5,10 @@ ghost use lib.ListN.{length, take};
 ghost use Rattle.meaning.specs.Image.{test, tests};
 ghost use Rattle.layout.specs.Walks.{answer, Within};
 ghost use Rattle.layout.specs.Rows.{sizes, testIn, testsIn};
+use layout::ROW_WORDS;
 use layout::RowRead;
 use layout::Walk;
+use meaning::numbers::BAD_BUFFER;
 
 // One test: a buffer from `least` to below `buffers`, a type, a mask within the type's slots and its terms.
 fn test(image: &[u8], p: usize, buffers: u16, types: &[u16], variables: u16, least: u16) -> RowRead
@@ -14,7 +16,7 @@ fn test(image: &[u8], p: usize, buffers: u16, types: &[u16], variables: u16, lea
     ensures { λ r. ⌜ answer (r .walk) (testIn (r .words) 0) ≡ test (sizes buffers (now (types .entry))) variables least (now (image .entry)) p ⌝ }
     ensures within { λ r. ⌜ Within (r .walk) (8 * length (now (image .entry))) ⌝ }
 {
-    let buffer = read_ranges::ranged(image, p, 3, least, buffers, 3);
+    let buffer = read_ranges::ranged(image, p, 3, least, buffers, BAD_BUFFER);
     let after_buffer = buffer.walk;
     let q = match after_buffer {
         Walk::Next(q) => q,
@@ -67,7 +69,7 @@ pub fn tests(
                 return Walk::Bad(number, place);
             }
         }
-        layout::lay(words, o + 11 * i, row);
+        layout::lay(words, o + ROW_WORDS * i, row);
         let ws = row.words;
         least = ws[0] % 8 + 1;
         i += 1;

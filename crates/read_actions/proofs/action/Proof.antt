@@ -40,7 +40,7 @@ returns c =
     let x = c .before .before .before .before .before .before .ranged .result in
     let a = c .before .before .before .before .before .before .before .before .before .before .args in (
       ap₂ (λ (w : Walk) (t : Action). answer w t) (c .row .ensures .0) (c .row .ensures .1)
-          ∙ action-on (sizes (a .buffers) (a .types .now)) (a .variables) (testsIn (a .words .now) (a .o) (a .n)) (a .least) (a .image .now) (a .p) (x .walk) (x .value) (c .before .before .before .before .before .before .ranged .ensures .0) _ (c .before .before .before .before .w .given .1) (d .walk) (deedIn d) (c .before .deed .ensures .0 (a .buffers) (testsIn (a .words .now) (a .o) (a .n)) (x .value) (c .before .before .tested-type .ensures)),
+          ∙ action-on (sizes (a .buffers) (a .types .now)) (a .variables) (testsIn (a .rule .now) 0 (a .n)) (a .least) (a .image .now) (a .p) (x .walk) (x .value) (c .before .before .before .before .before .before .ranged .ensures .0) _ (c .before .before .before .before .w .given .1) (d .walk) (deedIn d) (c .before .deed .ensures .0 (a .buffers) (testsIn (a .rule .now) 0 (a .n)) (x .value) (c .before .before .tested-type .ensures)),
       λ q e. c .before .deed .ensures .1 q (sym (c .row .ensures .0) ∙ e),
     )
 
@@ -48,7 +48,7 @@ returns-2 : tie.Need-returns-2
 returns-2 c =
     let x = c .before .before .before .before .ranged .result in
     let a = c .before .before .before .before .before .before .before .before .args in (
-      answer-bad _ _ _ _ (c .no-row .ensures) ∙ action-bad (sizes (a .buffers) (a .types .now)) (a .variables) (testsIn (a .words .now) (a .o) (a .n)) (a .least) (a .image .now) (a .p) (x .walk) (x .value) (c .before .before .before .before .ranged .ensures .0) _ _ (c .before .before .w2 .given .1),
+      answer-bad _ _ _ _ (c .no-row .ensures) ∙ action-bad (sizes (a .buffers) (a .types .now)) (a .variables) (testsIn (a .rule .now) 0 (a .n)) (a .least) (a .image .now) (a .p) (x .walk) (x .value) (c .before .before .before .before .ranged .ensures .0) _ _ (c .before .before .w2 .given .1),
       bad-within _ _ _ _ (c .no-row .ensures),
     )
 

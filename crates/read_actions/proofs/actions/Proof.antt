@@ -13,15 +13,15 @@ use Rattle.read_actions.proofs.actions.Statement.{statement}
 use Rattle.read_actions.proofs.actions.Tie as tie
 
 abbrev Inv-loop : tie.InvT-loop
-Inv-loop image p m buffers types variables words₀ o n at₀ least₀ i₀ words at least i =
-    (i ≤ m) × (at ≤ 8 * length image) × (length words ≡ length words₀) × (take (o + 88) words ≡ take (o + 88) words₀)
-    × (acting (sizes buffers types) variables image words₀ o n m words i least at ≡ actions (sizes buffers types) variables (testsIn words₀ o n) m image p)
+Inv-loop image p m buffers types variables rule₀ n at₀ least₀ i₀ rule at least i =
+    (i ≤ m) × (at ≤ 8 * length image) × (length rule ≡ length rule₀) × (take 88 rule ≡ take 88 rule₀)
+    × (acting (sizes buffers types) variables image rule₀ 0 n m rule i least at ≡ actions (sizes buffers types) variables (testsIn rule₀ 0 n) m image p)
 
 abbrev μ-loop : tie.MeasureT-loop
-μ-loop image p m buffers types variables words₀ o n at₀ least₀ i₀ words at least i = m - i
+μ-loop image p m buffers types variables rule₀ n at₀ least₀ i₀ rule at least i = m - i
 
 loop-holds : tie.Need-loop-holds Inv-loop μ-loop
-loop-holds c = let a = c .before .before .before .args in (search needs, search needs, refl, refl, acting-start (sizes (a .buffers) (a .types .now)) (a .variables) (a .image .now) (a .words .now) (a .o) (a .n) (a .m) (a .p))
+loop-holds c = let a = c .before .before .before .args in (search needs, search needs, refl, refl, acting-start (sizes (a .buffers) (a .types .now)) (a .variables) (a .image .now) (a .rule .now) 0 (a .n) (a .m) (a .p))
 
 action-requires : tie.Need-action-requires Inv-loop μ-loop
 action-requires c κs = search needs
@@ -37,19 +37,21 @@ same-length c = search needs
 
 returns : tie.Need-returns Inv-loop μ-loop
 returns c =
-    let r = c .before .before .before .action .result in
-    let l = c .before .before .before .before .before .before .loop in
-    let a = c .before .before .before .before .before .before .before .before .before .before .args in
-    (acting-bad (sizes (a .buffers) (a .types .now)) (a .variables) (a .image .now) (a .words .now) (a .o) (a .n) (a .m) (l .words) (l .i) (l .least) (l .at) (c .before .before .before .before .before .loop-test .taken) (search needs) (l .inv .3) (r .walk) (r .words) (c .before .before .before .action .ensures .0) _ _ (c .before .w2 .given .1) ∙ l .inv .4, (bad-within _ _ _ _ refl, l .inv .3))
-
-add-lay : tie.Need-add-lay Inv-loop μ-loop
-add-lay c = search needs
+    let read = c .before .before .before in
+    let test = read .before .before in
+    let l = test .before .loop in
+    let a = test .before .before .before .before .before .args in
+    let r = read .action .result in
+    let bad =
+    acting-bad (sizes (a .buffers) (a .types .now)) (a .variables) (a .image .now) (a .rule .now) 0 (a .n) (a .m) (l .rule) (l .i) (l .least) (l .at)
+    (test .loop-test .taken) (search needs) (l .inv .3) (r .walk) (r .words) (read .action .ensures .0) _ _ (c .before .w2 .given .1) in
+    (bad ∙ l .inv .4, (bad-within _ _ _ _ refl, l .inv .3))
 
 mul-lay : tie.Need-mul-lay Inv-loop μ-loop
 mul-lay c = search needs
 
-add-lay-2 : tie.Need-add-lay-2 Inv-loop μ-loop
-add-lay-2 c = search needs
+add-lay : tie.Need-add-lay Inv-loop μ-loop
+add-lay c = search needs
 
 lay-requires : tie.Need-lay-requires Inv-loop μ-loop
 lay-requires c κs = search needs
@@ -68,15 +70,21 @@ loop-less c = search needs
 
 loop-again : tie.Need-loop-again Inv-loop μ-loop
 loop-again c =
-    let r = c .before .before .before .before .before .before .before .before .action .result in
     let l = c .before .before .before .before .before .before .before .before .before .before .before .loop in
     let a = c .before .before .before .before .before .before .before .before .before .before .before .before .before .before .before .args in
-    let e = c .before .before .before .lay .ensures in (
+    let below = c .before .before .before .before .before .before .before .before .before .before .loop-test .taken in
+    let r = c .before .before .before .before .before .before .before .before .action .result in
+    let reads = c .before .before .before .before .before .before .before .before .action .ensures in
+    let next = c .before .before .before .before .before .before .w .given .1 in
+    let laid = c .before .before .before .lay .ensures in
+    let turn =
+    acting-turn (sizes (a .buffers) (a .types .now)) (a .variables) (a .image .now) (a .rule .now) 0 (a .n) (a .m) (l .rule) (l .i) (l .least) (l .at)
+    below (search needs) (l .inv .3) (r .walk) (r .words) (reads .0) _ _ next laid (search needs) (search needs) in (
       search needs,
-      c .before .before .before .before .before .before .before .before .action .ensures .1 _ (c .before .before .before .before .before .before .w .given .1),
+      reads .1 _ next,
       search needs,
-      ap (take (a .o + 88)) e ∙ sets-take (a .o + 88) (l .words) (a .o + 88 + 11 * l .i) (r .words) (omega arith) ∙ l .inv .3,
-      acting-turn (sizes (a .buffers) (a .types .now)) (a .variables) (a .image .now) (a .words .now) (a .o) (a .n) (a .m) (l .words) (l .i) (l .least) (l .at) (c .before .before .before .before .before .before .before .before .before .before .loop-test .taken) (search needs) (l .inv .3) (r .walk) (r .words) (c .before .before .before .before .before .before .before .before .action .ensures .0) _ _ (c .before .before .before .before .before .before .w .given .1) e (search needs) (search needs) ∙ l .inv .4,
+      ap (take 88) laid ∙ sets-take 88 (l .rule) (88 + 11 * l .i) (r .words) (omega arith) ∙ l .inv .3,
+      turn ∙ l .inv .4,
     )
 
 same-length-2 : tie.Need-same-length-2 Inv-loop μ-loop
@@ -86,7 +94,9 @@ returns-2 : tie.Need-returns-2 Inv-loop μ-loop
 returns-2 c =
     let l = c .before .loop in
     let a = c .before .before .before .before .before .args in
-    (acting-end (sizes (a .buffers) (a .types .now)) (a .variables) (a .image .now) (a .words .now) (a .o) (a .n) (a .m) (l .words) (l .i) (l .least) (l .at) (omega arith) ∙ l .inv .4, (next-within _ (l .at) _ refl (l .inv .1), l .inv .3))
+    let end =
+    acting-end (sizes (a .buffers) (a .types .now)) (a .variables) (a .image .now) (a .rule .now) 0 (a .n) (a .m) (l .rule) (l .i) (l .least) (l .at) (omega arith) in
+    (end ∙ l .inv .4, (next-within _ (l .at) _ refl (l .inv .1), l .inv .3))
 
 pub actions-spec : {M : Type 1} → statement M
 actions-spec =
@@ -100,9 +110,8 @@ actions-spec =
     enum-known-w-2
     same-length
     returns
-    add-lay
     mul-lay
-    add-lay-2
+    add-lay
     lay-requires
     array-read-least
     add-least
