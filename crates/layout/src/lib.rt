@@ -25,6 +25,11 @@ pub const BUFFER_WORDS: usize = 10;
 
 pub const STATE_WORDS: usize = 80;
 
+// Two tapes: one that costs little to clear, and one with room for the most facts and rules that an image can have.
+pub const SMALL_TAPE: usize = 3904;
+
+pub const LARGE_TAPE: usize = 52960;
+
 // Where the first sections of every tape begin: the slot counts of 64 types, the opening state, the facts.
 pub const TYPES_AT: usize = 0;
 
@@ -76,6 +81,12 @@ pub fn plan_for(buffers: u16, declared: u16, rules: u16, facts: u16, failure: u1
 pub enum Walk {
     Next(usize),
     Bad(u8, usize),
+}
+
+// The plan for an image by its header, or a refusal.
+pub struct PlanRead {
+    pub walk: Walk,
+    pub plan: Plan,
 }
 
 // Eight words, one for each slot, or a refusal.

@@ -1,15 +1,18 @@
--- A header out of its parts, the bounds of its counts, and the state of opening chunks.
-use Prim.Native.Nat.{ℕ, _-_, _≤_}
+-- A header out of its parts, the bounds of its counts, what is promised of its reading, and the state of opening chunks.
+use Prim.Native.Nat.{ℕ, _-_, _*_, _≤_}
 use mathlib.Core.Path.{_≡_}
 use mathlib.Core.List.{List, _++_, map}
-use lib.ListN.{replicate}
+use lib.ListN.{length, replicate}
 use Rattle.meaning.specs.declared.State.{State}
 use Rattle.meaning.specs.Model.{Chunk}
 use Rattle.meaning.specs.State.{nilAfter}
-use Rattle.meaning.specs.Image.{Header}
+use Rattle.meaning.specs.Image.{Header, header}
 use Rattle.meaning.specs.Calls.{opens}
-use Rattle.layout.specs.declared.Walk.{Walk}
 use Rattle.layout.specs.declared.Walk.the-variants.{Next}
+use Rattle.layout.specs.declared.Plan.{Plan}
+use Rattle.layout.specs.declared.PlanRead.{PlanRead}
+use Rattle.layout.specs.Walks.{answer, Within}
+use Rattle.layout.specs.Plans.{planOf}
 
 abbrev pub aHeader : ℕ → ℕ → ℕ → ℕ → ℕ → Header
 aHeader buffers declared rules facts failure = record { buffers = buffers; declared = declared; rules = rules; facts = facts; failure = failure }
@@ -22,9 +25,17 @@ pub record Bounds (buffers declared rules facts : ℕ) : Type 0 where
   pub most-rules : rules ≤ 256
   pub most-facts : facts ≤ 512
 
--- the counts of a header that was not refused
-abbrev pub Bounded : Walk → ℕ → ℕ → ℕ → ℕ → Type 0
-Bounded w buffers declared rules facts = (q : ℕ) → w ≡ Next q → Bounds buffers declared rules facts
+-- the header that a plan is made for
+abbrev pub headerIn : Plan → Header
+headerIn p = aHeader (p .buffers) (p .declared) (p .rules) (p .facts) (p .failure)
+
+-- a header that was read as a plan: the definition's header or refusal; a place within the image; sections one after the other;
+-- and of a header that was not refused, that its counts are within their bounds
+pub record HeaderMet (r : PlanRead) (image : List ℕ) : Type 0 where
+  pub reads : answer (r .walk) (headerIn (r .plan)) ≡ header image 0
+  pub within : Within (r .walk) (8 * length image)
+  pub starts : r .plan ≡ planOf (r .plan .buffers) (r .plan .declared) (r .plan .rules) (r .plan .facts) (r .plan .failure)
+  pub bounds : (q : ℕ) → r .walk ≡ Next q → Bounds (r .plan .buffers) (r .plan .declared) (r .plan .rules) (r .plan .facts)
 
 -- n opening chunks in the first n buffers, nil in the others, and clock 0
 abbrev pub openingState : ℕ → List Chunk → State

@@ -8,22 +8,13 @@ ghost use Rattle.meaning.specs.Image.{header, slotCounts, chunk};
 ghost use Rattle.meaning.specs.Calls.{opens};
 ghost use Rattle.layout.specs.Walks.{answer, mapped, Within, Small};
 ghost use Rattle.read_facts.specs.Made.{aChunk};
-ghost use Rattle.read_opening.specs.Parts.{aHeader, Bounded, openingState};
+ghost use Rattle.read_opening.specs.Parts.{HeaderMet, openingState};
+use layout::PlanRead;
 use layout::Walk;
 use meaning::Buffer;
 use meaning::State;
 use meaning::numbers::BAD_NUMBER;
 use read_facts::ChunkRead;
-
-// What the header says: counts of buffers, declared types, rules and facts, and the failure latency; or a refusal.
-pub struct HeaderRead {
-    pub walk: Walk,
-    pub buffers: u16,
-    pub declared: u16,
-    pub rules: u16,
-    pub facts: u16,
-    pub failure: u16,
-}
 
 // The slot count of each type, by its number; or a refusal.
 pub struct TypesRead {
@@ -37,12 +28,10 @@ pub struct OpeningRead {
     pub state: State,
 }
 
-// The six fields of the header, the version (which is 1) first.
-pub fn header(image: &[u8]) -> HeaderRead
+// The six fields of the header, the version (which is 1) first, as a plan.
+pub fn header(image: &[u8]) -> PlanRead
     requires { ⌜ length (now image) ≤ 65536 ⌝ }
-    ensures { λ r. ⌜ answer (r .walk) (aHeader (r .buffers) (r .declared) (r .rules) (r .facts) (r .failure)) ≡ header (now (image .entry)) 0 ⌝ }
-    ensures within { λ r. ⌜ Within (r .walk) (8 * length (now (image .entry))) ⌝ }
-    ensures bounds { λ r. ⌜ Bounded (r .walk) (r .buffers) (r .declared) (r .rules) (r .facts) ⌝ }
+    ensures { λ r. ⌜ HeaderMet r (now (image .entry)) ⌝ }
 {
     let version = read_ranges::ranged(image, 0, 8, 1, 2, BAD_NUMBER);
     let first = version.walk;
@@ -56,13 +45,16 @@ pub fn header(image: &[u8]) -> HeaderRead
     let fifth = facts.walk;
     let failure = read_ranges::any_after(image, fifth, 16);
     let sixth = failure.walk;
-    HeaderRead {
+    let plan = layout::plan_for(
+        buffers.value,
+        declared.value,
+        rules.value,
+        facts.value,
+        failure.value,
+    );
+    PlanRead {
         walk: sixth,
-        buffers: buffers.value,
-        declared: declared.value,
-        rules: rules.value,
-        facts: facts.value,
-        failure: failure.value,
+        plan: plan,
     }
 }
 

@@ -1,5 +1,5 @@
 -- `read_opening::header` meets its contract: six readings, each from where the one before it ended.
-use mathlib.Core.Path.{sym, _∙_}
+use mathlib.Core.Path.{refl, sym, _∙_}
 use Rattle.layout.proofs.WalkLaws.{answer-next}
 use Rattle.read_opening.proofs.HeaderLaws.{header-bounds, header-on}
 use borrow.Author.Needs.{needs}
@@ -24,11 +24,29 @@ ranged-after-requires-4 c κs = search needs
 any-after-requires : tie.Need-any-after-requires
 any-after-requires c κs = search needs
 
+plan-for-requires : tie.Need-plan-for-requires
+plan-for-requires c κs = search needs
+
 returns : tie.Need-returns
 returns c =
-    let s = c .before .before .before .before .before .before .before .args .image .now in
-    let e = header-on s (c .before .before .before .before .before .ranged .result .walk) (c .before .before .before .before .ranged-after .result .walk) (c .before .before .before .ranged-after2 .result .walk) (c .before .before .ranged-after3 .result .walk) (c .before .ranged-after4 .result .walk) (c .any-after .result .walk) _ _ _ _ _ _ (c .before .before .before .before .before .ranged .ensures .0) (c .before .before .before .before .ranged-after .ensures .0) (c .before .before .before .ranged-after2 .ensures .0) (c .before .before .ranged-after3 .ensures .0) (c .before .ranged-after4 .ensures .0) (c .any-after .ensures .0) in
-    (e, (c .any-after .ensures .1, λ q g. header-bounds s 0 _ q (sym e ∙ answer-next _ _ q g)))
+    let s = c .before .before .before .before .before .before .before .before .args .image .now in
+    let version = c .before .before .before .before .before .before .ranged in
+    let buffers = c .before .before .before .before .before .ranged-after in
+    let declared = c .before .before .before .before .ranged-after2 in
+    let rules = c .before .before .before .ranged-after3 in
+    let facts = c .before .before .ranged-after4 in
+    let failure = c .before .any-after in
+    let plan = c .plan-for .ensures in
+    let read =
+    header-on s (version .result .walk) (buffers .result .walk) (declared .result .walk) (rules .result .walk) (facts .result .walk) (failure .result .walk) _ _ _ _ _ _
+    (version .ensures .0) (buffers .ensures .0) (declared .ensures .0) (rules .ensures .0) (facts .ensures .0) (failure .ensures .0) in
+    rw plan
+    (record {
+      reads = read;
+      within = failure .ensures .1;
+      starts = refl;
+      bounds = λ q g. header-bounds s 0 _ q (sym read ∙ answer-next _ _ q g);
+    })
 
 pub header-spec : {M : Type 1} → statement M
 header-spec =
@@ -40,4 +58,5 @@ header-spec =
     ranged-after-requires-3
     ranged-after-requires-4
     any-after-requires
+    plan-for-requires
     returns)
