@@ -2,15 +2,15 @@
 use mathlib.Core.Path.{_≡_, refl}
 use mathlib.Core.Bool.{true, false}
 use mathlib.Core.List.{List, _∷_}
-use Prim.Native.Nat.{ℕ}
+use Prim.Native.Nat.{ℕ, _≤_}
 use lib.Dec.{ltb}
 use lib.ListN.{length}
 use Rattle.meaning.specs.Base.{if_then_else_}
 use Rattle.meaning.specs.Numbers.{too-long, bad-number}
 use Rattle.meaning.specs.Model.{Model}
 use Rattle.meaning.specs.Read.{Refused, Got, field, times, must}
-use Rattle.meaning.specs.Image.{Header, header, between, chunk, fact, rule, ending, model, decode}
-use Rattle.laws.specs.ReadLaws.{no-got, split}
+use Rattle.meaning.specs.Image.{Header, header, anything, between, chunk, fact, Head, head, rule, ending, beginning, contents, model, decode}
+use Rattle.laws.specs.ReadLaws.{no-got, between-got, follow-follow, split}
 
 -- the parts in reading order; `types-at`, `opening-at`, `facts-at`, `rules-at` and `end` are the bits where the next part starts
 pub record Parts (image : List ℕ) (m : Model) : Type 0 where
@@ -30,9 +30,9 @@ pub record Parts (image : List ℕ) (m : Model) : Type 0 where
 
 module _ (image : List ℕ) (m : Model) (at : ℕ) where
   model-parts : model image 0 ≡ Got m at → Parts image m
-  unfolding model
+  unfolding model beginning contents
   model-parts e =
-      split (header image 0) _ e λ h n₁ e₁ k₁.
+      split (header image 0) _ (simp follow-follow at e) λ h n₁ e₁ k₁.
       split (times (h .declared) (field 4 (must bad-number (between 0 8))) image n₁) _ k₁ λ counts n₂ e₂ k₂.
       split (times (h .buffers) (chunk (0 ∷ counts) 0) image n₂) _ k₂ λ opening n₃ e₃ k₃.
       split (times (h .facts) (fact (0 ∷ counts)) image n₃) _ k₃ λ facts n₄ e₄ k₄.
@@ -66,3 +66,26 @@ module _ (image : List ℕ) (m : Model) (at : ℕ) where
         | true ↦ λ h. absurd (no-got too-long 0 m at h)
         | false ↦ λ h. model-parts h
       ]) e
+
+-- ---- the head of a rule
+
+-- what holds of a head that was read
+pub record HeadFits (h : Head) (buffers : ℕ) : Type 0 where
+  pub tests-few : h .tests ≤ buffers
+  pub actions-few : h .actions ≤ buffers
+  pub variables-few : h .variables ≤ 8
+
+pub head-fits : (buffers : ℕ) (image : List ℕ) (at : ℕ) (h : Head) (end : ℕ) → head buffers image at ≡ Got h end → HeadFits h buffers
+unfolding head
+head-fits buffers image at h end e =
+    split (field 16 anything image at) _ e λ u n₁ e₁ k₁.
+    split (field 4 (must bad-number (between 1 buffers)) image n₁) _ k₁ λ n n₂ e₂ k₂.
+    split (field 4 (must bad-number (between 0 buffers)) image n₂) _ k₂ λ m n₃ e₃ k₃.
+    split (field 4 (must bad-number (between 0 8)) image n₃) _ k₃ λ v n₄ e₄ k₄.
+    let h-is : record { utility = u; tests = n; actions = m; variables = v } ≡ h = cc in
+    rw (← h-is)
+    (record {
+      tests-few = between-got 4 1 buffers image n₁ n n₂ e₂ .1;
+      actions-few = between-got 4 0 buffers image n₂ m n₃ e₃ .1;
+      variables-few = between-got 4 0 8 image n₃ v n₄ e₄ .1;
+    })

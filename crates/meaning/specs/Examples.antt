@@ -12,7 +12,7 @@ use Rattle.meaning.specs.Base.{if_then_else_}
 use Rattle.meaning.specs.State.{wellFormed, bufferOf}
 use Rattle.meaning.specs.Bits.{fieldAt}
 use Rattle.meaning.specs.Read.{field, times, rising}
-use Rattle.meaning.specs.Image.{header, chunk, fact, utilityOf, slotsIn, terms, masked, test, deed, action, rule, ending, model, decode}
+use Rattle.meaning.specs.Image.{header, chunk, fact, utilityOf, slotsIn, terms, masked, head, test, deed, action, body, rule, ending, beginning, contents, model, decode}
 use Rattle.meaning.specs.Match.{places, valueIn, matches, entryOf, freshTable}
 use Rattle.meaning.specs.Choice.{candidates, choose}
 use Rattle.meaning.specs.Retrieval.{retrieve}
@@ -26,7 +26,7 @@ use Rattle.meaning.specs.Print.{Line, Stepped, End, linesFrom, printed}
 
 -- `unfolding everything` opens each definition of document 01
 unfoldable pub everything : Unit {0}
-unfolding wellFormed fieldAt field times rising header chunk fact slotsIn terms masked test deed action rule ending model decode places valueIn matches entryOf freshTable candidates choose retrieve put done deedOn change fire soonest wait markOf fireStep step refresh refreshCount accepted tableLength openState openOf runFrom runOf refreshOf linesFrom printed
+unfolding wellFormed fieldAt field times rising header chunk fact slotsIn terms masked head test deed action body rule ending beginning contents model decode places valueIn matches entryOf freshTable candidates choose retrieve put done deedOn change fire soonest wait markOf fireStep step refresh refreshCount accepted tableLength openState openOf runFrom runOf refreshOf linesFrom printed
 everything = tt
 
 -- P1's image

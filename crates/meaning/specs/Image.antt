@@ -83,9 +83,24 @@ fact types = do
   latency ← field 16 anything
   give (record { chunk = c; activation = activation; latency = latency })
 
--- ---- 5. rules
+-- ---- 5. "For each rule: utility, 16 bits, in thousandths ..; tests, 4 bits (1 to the buffer count); actions, 4 bits (0 to the buffer count); variables, 4 bits (0 to 8)."
 
--- "a field with its top bit set stands for its value less 65,536"
+-- the four fields as they are read: how many tests, actions and variables follow
+pub record Head : Type 0 where
+  pub utility : ℕ
+  pub tests : ℕ
+  pub actions : ℕ
+  pub variables : ℕ
+
+unfoldable pub head : ℕ → Reader Head
+head buffers = do
+  utility ← field 16 anything
+  tests ← field 4 (must bad-number (between 1 buffers))
+  actions ← field 4 (must bad-number (between 0 buffers))
+  variables ← field 4 (must bad-number (between 0 8))
+  give (record { utility = utility; tests = tests; actions = actions; variables = variables })
+
+-- "where a field with its top bit set stands for its value less 65,536"
 abbrev pub utilityOf : ℕ → ℤ
 utilityOf u = if ltb u 32768 then pos u else subℕ u 65536
 
@@ -170,18 +185,20 @@ action z variables ts least = do
 abbrev pub actions : Sizes → ℕ → List Test → ℕ → Reader (List Action)
 actions z variables ts n = rising (action z variables ts) (λ a. a .buffer) n 0
 
--- "utility, 16 bits ..; tests, 4 bits (1 to the buffer count); actions, 4 bits (0 to the buffer count); variables, 4 bits (0 to 8)"
+-- a rule from its head on: its tests, and its actions
 -- "After its tests, every variable of the rule must have stood in one of them. This is checked before an action is read."
+unfoldable pub body : Sizes → Head → Reader Rule
+body z h = do
+  ts ← tests z (h .variables) (h .tests)
+  require bad-variable (every (standsIn ts) (upFrom 0 (h .variables)))
+  as′ ← actions z (h .variables) ts (h .actions)
+  give (record { utility = utilityOf (h .utility); tests = ts; actions = as′ })
+
+-- "For each rule"
 unfoldable pub rule : Sizes → Reader Rule
 rule z = do
-  utility ← field 16 anything
-  n ← field 4 (must bad-number (between 1 (z .buffers)))
-  m ← field 4 (must bad-number (between 0 (z .buffers)))
-  variables ← field 4 (must bad-number (between 0 8))
-  ts ← tests z variables n
-  require bad-variable (every (standsIn ts) (upFrom 0 variables))
-  as′ ← actions z variables ts m
-  give (record { utility = utilityOf utility; tests = ts; actions = as′ })
+  h ← head (z .buffers)
+  body z h
 
 -- ---- 6. "Zero bits up to the byte's end. No byte follows."
 
@@ -195,16 +212,37 @@ ending image at =
 
 -- ---- the whole
 
-unfoldable pub model : Reader Model
-model = do
+-- 1 to 3: the header, the types and the opening chunks
+pub record Beginning : Type 0 where
+  pub head : Header
+  pub types : List ℕ
+  pub opening : List Chunk
+
+unfoldable pub beginning : Reader Beginning
+beginning = do
   h ← header
   counts ← slotCounts (h .declared)
   let types = 0 ∷ counts
   opening ← times (h .buffers) (chunk types 0)
-  facts ← times (h .facts) (fact types)
-  rules ← times (h .rules) (rule (record { buffers = h .buffers; types = types }))
+  give (record { head = h; types = types; opening = opening })
+
+-- 4 to 6: so many facts, so many rules, and the end
+pub record Contents : Type 0 where
+  pub facts : List Fact
+  pub rules : List Rule
+
+unfoldable pub contents : Sizes → ℕ → ℕ → Reader Contents
+contents z n m = do
+  facts ← times n (fact (z .types))
+  rules ← times m (rule z)
   ending
-  give (record { buffers = h .buffers; types = types; failure = h .failure; opening = opening; facts = facts; rules = rules })
+  give (record { facts = facts; rules = rules })
+
+unfoldable pub model : Reader Model
+model = do
+  b ← beginning
+  c ← contents (record { buffers = b .head .buffers; types = b .types }) (b .head .facts) (b .head .rules)
+  give (record { buffers = b .head .buffers; types = b .types; failure = b .head .failure; opening = b .opening; facts = c .facts; rules = c .rules })
 
 -- "image over 65,536 bytes" comes first
 unfoldable pub decode : List ℕ → Read Model

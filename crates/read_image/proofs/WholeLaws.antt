@@ -17,9 +17,9 @@ use Rattle.meaning.specs.Bits.{fieldAt}
 use Rattle.meaning.specs.Model.{Model, Sizes, Chunk, Fact, Rule}
 use Rattle.meaning.specs.State.{nilAfter}
 use Rattle.meaning.specs.Read.{Read, Refused, Got, Reader, follow, times}
-use Rattle.meaning.specs.Image.{Header, header, slotCounts, chunk, fact, rule, padding, ending, model, decode}
+use Rattle.meaning.specs.Image.{Header, header, slotCounts, chunk, fact, rule, padding, ending, Beginning, beginning, Contents, contents, model, decode}
 use Rattle.meaning.specs.Calls.{opens}
-use Rattle.laws.specs.ReadLaws.{no-got, follow-follow, split, times-all}
+use Rattle.laws.specs.ReadLaws.{no-got, split, times-all}
 use Rattle.layout.specs.declared.Walk.{Walk}
 use Rattle.layout.specs.declared.Walk.the-variants.{Next, Bad}
 use Rattle.layout.specs.Walks.{answer, mapped, Small}
@@ -27,7 +27,7 @@ use Rattle.layout.specs.Rows.{sizes}
 use Rattle.layout.proofs.WalkLaws.{answer-bad, answer-next, bad-within, bad-never}
 use Rattle.read_opening.specs.Parts.{aHeader, openingState}
 use Rattle.read_image.specs.declared.ImageRead.{ImageRead}
-use Rattle.read_image.specs.Whole.{Beginning, beginning, beginningIn, beginningOf, NoImage, Begun, verdict, chunkIn, chunksIn, Contents, contents}
+use Rattle.read_image.specs.Whole.{beginningIn, beginningOf, NoImage, Begun, verdict, chunkIn, chunksIn}
 
 -- ---- the opening state and its chunks
 
@@ -152,20 +152,16 @@ aModel b c = record { buffers = b .head .buffers; types = b .types; failure = b 
 abbrev restOf : Beginning → Reader Model
 restOf b s q = follow (contents (sizes (b .head .buffers) (b .types)) (b .head .facts) (b .head .rules) s q) (λ c z. Got (aModel b c) z)
 
-model-is : (s : List ℕ) → model s 0 ≡ follow (beginning s 0) (λ b q. restOf b s q)
-unfolding model beginning contents
-model-is s = sym (simp follow-follow)
-
 decode-short : (s : List ℕ) → length s ≤ 65536 → decode s ≡ follow (beginningOf s) (λ b q. restOf b s q)
-unfolding decode
-decode-short s h = rw (le-ltb 65536 (length s) h) (model-is s)
+unfolding decode model
+decode-short s h = rw (le-ltb 65536 (length s) h)
 
 pub decode-refused : (s : List ℕ) (x y : ℕ) → Refused x y ≡ beginningOf s → Refused x y ≡ decode s
-unfolding decode
+unfolding decode model
 decode-refused s x y e =
     (elim (ltb 65536 (length s)) as (λ t. Refused x y ≡ (if t then Refused 1 0 else beginning s 0) → Refused x y ≡ (if t then Refused 1 0 else model s 0)) [
       | true ↦ λ g. cc
-      | false ↦ λ g. rw (model-is s, ← g)
+      | false ↦ λ g. rw (← g)
     ]) e
 
 pub decode-on : (s : List ℕ) (b : Beginning) (p : ℕ) (w : Walk) (c : Contents) → length s ≤ 65536 → Got b p ≡ beginningOf s

@@ -1,48 +1,21 @@
 -- A model as it stands in words, and what the reading of an image promises.
 use Prim.Native.Nat.{ℕ, _+_, _*_, _≤_}
 use mathlib.Core.Path.{_≡_}
-use mathlib.Core.List.{List, _∷_, map}
+use mathlib.Core.List.{List, map}
 use lib.Dec.{ltb}
 use lib.ListN.{length, take}
 use Rattle.meaning.specs.declared.Buffer.{Buffer}
 use Rattle.meaning.specs.declared.State.{State}
 use Rattle.meaning.specs.Base.{if_then_else_}
-use Rattle.meaning.specs.Model.{Model, Chunk, Fact, Rule, Sizes}
-use Rattle.meaning.specs.Read.{Read, Refused, Got, Reader, andThen as _>>=_, next as _>>_, give, times}
-use Rattle.meaning.specs.Image.{Header, header, slotCounts, chunk, fact, rule, ending, decode}
+use Rattle.meaning.specs.Model.{Model, Chunk}
+use Rattle.meaning.specs.Read.{Read, Refused, Got}
+use Rattle.meaning.specs.Image.{Beginning, beginning, Contents, decode}
 use Rattle.layout.specs.declared.Walk.{Walk}
 use Rattle.layout.specs.declared.Walk.the-variants.{Next, Bad}
 use Rattle.layout.specs.Walks.{answer, Within, Small}
 use Rattle.layout.specs.Rows.{factsIn, rulesIn, Laid}
 use Rattle.read_opening.specs.Parts.{openingState}
 use Rattle.read_image.specs.declared.ImageRead.{ImageRead}
-
--- ---- the beginning of an image
-
-pub record Beginning : Type 0 where
-  pub head : Header
-  pub types : List ℕ
-  pub opening : List Chunk
-
-unfoldable pub beginning : Reader Beginning
-beginning = do
-  h ← header
-  counts ← slotCounts (h .declared)
-  opening ← times (h .buffers) (chunk (0 ∷ counts) 0)
-  give (record { head = h; types = 0 ∷ counts; opening = opening })
-
--- ---- what follows it: facts, rules and the end
-
-pub record Contents : Type 0 where
-  pub facts : List Fact
-  pub rules : List Rule
-
-unfoldable pub contents : Sizes → ℕ → ℕ → Reader Contents
-contents z n m = do
-  facts ← times n (fact (z .types))
-  rules ← times m (rule z)
-  ending
-  give (record { facts = facts; rules = rules })
 
 -- ---- what the code's answers say
 

@@ -4,11 +4,11 @@ ghost use Prim.Native.Nat.{_+_, _*_, _≤_, _<_};
 ghost use lib.ListN.{length};
 ghost use lib.Dec.{leb};
 ghost use mathlib.Core.Bool.{_&&_};
-ghost use Rattle.meaning.specs.Image.{ending, decode};
+ghost use Rattle.meaning.specs.Image.{ending, contents, decode};
 ghost use Rattle.layout.specs.Walks.{answer, Small};
 ghost use Rattle.layout.specs.Rows.{sizes};
 ghost use Rattle.read_rules.specs.Heads.{LaidIf};
-ghost use Rattle.read_image.specs.Whole.{contents, contentsIn, NoImage, Begun, LaidOut, verdict};
+ghost use Rattle.read_image.specs.Whole.{contentsIn, NoImage, Begun, LaidOut, verdict};
 use layout::Walk;
 use meaning::State;
 

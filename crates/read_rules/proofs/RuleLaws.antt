@@ -9,15 +9,13 @@ use lib.Seq.{take-take}
 use Rattle.meaning.specs.Base.{every, upFrom}
 use Rattle.meaning.specs.Model.{Test, Action, Rule}
 use Rattle.meaning.specs.Read.{Read, Refused, Got, follow}
-use Rattle.meaning.specs.Image.{utilityOf, tests, standsIn, actions, rule}
+use Rattle.meaning.specs.Image.{utilityOf, Head, head, tests, standsIn, actions, body, rule}
 use Rattle.layout.specs.declared.Walk.{Walk}
 use Rattle.layout.specs.declared.Walk.the-variants.{Next, Bad}
 use Rattle.layout.specs.Walks.{answer}
 use Rattle.layout.specs.Rows.{sizes, testIn, testsIn}
 use Rattle.layout.proofs.WordLaws.{below-get}
 use Rattle.layout.proofs.RowLaws.{in-same, test-like}
-use Rattle.read_rules.specs.Heads.{Head, head, body}
-use Rattle.read_rules.proofs.HeadLaws.{rule-is}
 
 -- a rule from its parts
 abbrev pub aRule : ℕ → List Test → List Action → Rule
@@ -25,23 +23,24 @@ aRule u ts as′ = record { utility = utilityOf u; tests = ts; actions = as′ }
 
 module _ (buffers : ℕ) (types s : List ℕ) (p : ℕ) where
   pub rule-first : (x y : ℕ) → Refused x y ≡ head buffers s p → Refused x y ≡ rule (sizes buffers types) s p
-  rule-first x y e = rw (rule-is (sizes buffers types) s p, ← e)
+  unfolding rule
+  rule-first x y e = rw (← e)
 
   module _ (h : Head) (q : ℕ) (e₁ : Got h q ≡ head buffers s p) where
     pub rule-second : (x y : ℕ) → Refused x y ≡ tests (sizes buffers types) (h .variables) (h .tests) s q → Refused x y ≡ rule (sizes buffers types) s p
-    unfolding body
-    rule-second x y e = rw (rule-is (sizes buffers types) s p, ← e₁, ← e)
+    unfolding rule body
+    rule-second x y e = rw (← e₁, ← e)
 
     module _ (ts : List Test) (o : ℕ) (e₂ : Got ts o ≡ tests (sizes buffers types) (h .variables) (h .tests) s q) where
       pub rule-third : every (standsIn ts) (upFrom 0 (h .variables)) ≡ false → Refused 3 o ≡ rule (sizes buffers types) s p
-      unfolding body
-      rule-third e = rw (rule-is (sizes buffers types) s p, ← e₁, ← e₂, e)
+      unfolding rule body
+      rule-third e = rw (← e₁, ← e₂, e)
 
       pub rule-on : every (standsIn ts) (upFrom 0 (h .variables)) ≡ true → (w : Walk) (as′ : List Action) → answer w as′ ≡ actions (sizes buffers types) (h .variables) ts (h .actions) s o
           → answer w (aRule (h .utility) ts as′) ≡ rule (sizes buffers types) s p
-      unfolding body
-      rule-on v (Next i) as′ e = rw (rule-is (sizes buffers types) s p, ← e₁, ← e₂, v, ← e)
-      rule-on v (Bad x y) as′ e = rw (rule-is (sizes buffers types) s p, ← e₁, ← e₂, v, ← e)
+      unfolding rule body
+      rule-on v (Next i) as′ e = rw (← e₁, ← e₂, v, ← e)
+      rule-on v (Bad x y) as′ e = rw (← e₁, ← e₂, v, ← e)
 
 -- the tests of a rule stay where only words from o + 88 on have changed
 pub tests-kept : (w w′ : List ℕ) (o n : ℕ) → n ≤ 8 → take (o + 88) w′ ≡ take (o + 88) w → testsIn w′ o n ≡ testsIn w o n

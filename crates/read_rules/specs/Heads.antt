@@ -1,13 +1,10 @@
--- The first four fields of a rule, and a rule by its four words.
+-- The head of a rule as it was read, and a rule by its four words.
 use Prim.Native.Nat.{ℕ, _+_, _*_, _≤_, _<_}
 use mathlib.Core.Path.{_≡_}
 use mathlib.Core.List.{List}
 use lib.ListN.{length, getD, take}
-use Rattle.meaning.specs.Base.{every, upFrom}
-use Rattle.meaning.specs.Model.{Sizes, Rule}
-use Rattle.meaning.specs.Read.{Reader, andThen as _>>=_, next as _>>_, give, field, require, must}
-use Rattle.meaning.specs.Numbers.{bad-variable, bad-number}
-use Rattle.meaning.specs.Image.{anything, between, utilityOf, tests, standsIn, actions, rule}
+use Rattle.meaning.specs.Model.{Rule}
+use Rattle.meaning.specs.Image.{Head, utilityOf, rule}
 use Rattle.layout.specs.declared.Walk.{Walk}
 use Rattle.layout.specs.declared.Walk.the-variants.{Next}
 use Rattle.layout.specs.Walks.{answer, Within}
@@ -15,41 +12,12 @@ use Rattle.layout.specs.Rows.{sizes, testsIn, actionsIn, testedMask, Laid}
 use Rattle.read_rules.specs.declared.HeadRead.{HeadRead}
 use Rattle.read_rules.specs.declared.RuleRead.{RuleRead}
 
-pub record Head : Type 0 where
-  pub utility : ℕ
-  pub tests : ℕ
-  pub actions : ℕ
-  pub variables : ℕ
-
--- the four fields
-unfoldable pub head : ℕ → Reader Head
-head buffers = do
-  utility ← field 16 anything
-  n ← field 4 (must bad-number (between 1 buffers))
-  m ← field 4 (must bad-number (between 0 buffers))
-  variables ← field 4 (must bad-number (between 0 8))
-  give (record { utility = utility; tests = n; actions = m; variables = variables })
-
--- and what follows them
-unfoldable pub body : Sizes → Head → Reader Rule
-body z h = do
-  ts ← tests z (h .variables) (h .tests)
-  require bad-variable (every (standsIn ts) (upFrom 0 (h .variables)))
-  as′ ← actions z (h .variables) ts (h .actions)
-  give (record { utility = utilityOf (h .utility); tests = ts; actions = as′ })
-
 abbrev pub headIn : HeadRead → Head
 headIn r = record { utility = r .utility; tests = r .tests; actions = r .actions; variables = r .variables }
 
 -- a rule by its four words and the rows from o on
 abbrev pub ruleBy : List ℕ → List ℕ → ℕ → Rule
 ruleBy four w o = record { utility = utilityOf (getD four 2 0); tests = testsIn w o (getD four 0 0); actions = actionsIn w (o + 88) (getD four 1 0) }
-
--- what holds of a head that was read
-pub record HeadFits (h : Head) (buffers : ℕ) : Type 0 where
-  pub tests-few : h .tests ≤ buffers
-  pub actions-few : h .actions ≤ buffers
-  pub variables-few : h .variables ≤ 8
 
 -- what holds of the four words of a rule that was read
 pub record RuleFits (four w : List ℕ) (o : ℕ) : Type 0 where

@@ -4,10 +4,10 @@ ghost use mathlib.Core.Path.{_≡_};
 ghost use Prim.Native.Nat.{_+_, _*_, _≤_, _<_};
 ghost use lib.ListN.{length, take};
 ghost use Rattle.meaning.specs.Read.{times};
-ghost use Rattle.meaning.specs.Image.{rule};
+ghost use Rattle.meaning.specs.Image.{head, rule};
 ghost use Rattle.layout.specs.Walks.{answer, Within};
 ghost use Rattle.layout.specs.Rows.{sizes, rulesIn};
-ghost use Rattle.read_rules.specs.Heads.{head, headIn, RuleMet, LaidIf};
+ghost use Rattle.read_rules.specs.Heads.{headIn, RuleMet, LaidIf};
 use layout::Walk;
 
 // The first four fields of a rule, or a refusal.

@@ -12,7 +12,7 @@ use Rattle.meaning.specs.Numbers.{bad-variable, bad-buffer, bad-mask, bad-numbe
 use Rattle.meaning.specs.Model.{Model, Sizes, Rule, Test, Action, Deed, Modify, Request, Clear, Named, Term, Symbol, Variable, Fact}
 use Rattle.meaning.specs.State.{slotCount, wellBuffer}
 use Rattle.meaning.specs.Read.{Refused, Got, Reader, field, require, times, rising, must}
-use Rattle.meaning.specs.Image.{anything, between, aType, aBuffer, aMask, aTerm, kindRule, Header, header, chunk, fact, slotsIn, termOf, terms, masked, tests, standsIn, isTested, testedType, deed, action, actions, utilityOf, rule, decode}
+use Rattle.meaning.specs.Image.{anything, between, aType, aBuffer, aMask, aTerm, kindRule, Header, header, chunk, fact, slotsIn, termOf, terms, masked, tests, standsIn, isTested, testedType, deed, action, actions, utilityOf, Head, head, body, rule, decode}
 use Rattle.meaning.specs.Calls.{opens}
 use Rattle.laws.specs.BoolLaws.{no-true, and-left, and-right}
 use Rattle.laws.specs.FieldLaws.{fieldAt-lt}
@@ -20,7 +20,7 @@ use Rattle.laws.specs.ListLaws.{every-count}
 use Rattle.laws.specs.ReadLaws.{no-got, FieldRead, field-got, must-kept, between-got, split, times-all}
 use Rattle.laws.specs.WindowLaws.{by-lt}
 use Rattle.laws.specs.OpenLaws.{chunk-well}
-use Rattle.laws.specs.PartsLaws.{Parts, parts}
+use Rattle.laws.specs.PartsLaws.{Parts, parts, HeadFits, head-fits}
 
 pub and-true : (a b : Bool) → a ≡ true → b ≡ true → (a && b) ≡ true
 and-true true b p q = q
@@ -174,20 +174,17 @@ required number true image at u next e = refl
 required number false image at u next e = absurd (no-got number at u next e)
 
 rule-good : (z : Sizes) (image : List ℕ) (at : ℕ) (r : Rule) (end : ℕ) → rule z image at ≡ Got r end → goodRule (z .buffers) (z .types) r ≡ true
-unfolding rule
+unfolding rule body
 rule-good z image at r end e =
-    split (field 16 anything image at) _ e λ utility n₁ e₁ k₁.
-    split (field 4 (must bad-number (between 1 (z .buffers))) image n₁) _ k₁ λ n n₂ e₂ k₂.
-    split (field 4 (must bad-number (between 0 (z .buffers))) image n₂) _ k₂ λ m n₃ e₃ k₃.
-    split (field 4 (must bad-number (between 0 8)) image n₃) _ k₃ λ variables n₄ e₄ k₄.
-    split (tests z variables n image n₄) _ k₄ λ ts n₅ e₅ k₅.
-    split (require bad-variable (every (standsIn ts) (upFrom 0 variables)) image n₅) _ k₅ λ u n₆ e₆ k₆.
-    split (actions z variables ts m image n₆) _ k₆ λ as′ n₇ e₇ k₇.
-    let q : record { utility = utilityOf utility; tests = ts; actions = as′ } ≡ r = cc in
-    let few : (0 ≤ variables) × (variables ≤ 8) = between-got 4 0 8 image n₃ variables n₄ e₄ in
-    let stood : every (standsIn ts) (upFrom 0 variables) ≡ true = required bad-variable (every (standsIn ts) (upFrom 0 variables)) image n₅ u n₆ e₆ in
-    rw (← q)
-    (rising-good (action z variables ts) (λ a. a .buffer) (goodAction (z .buffers) (z .types) ts) (action-good ts variables (few .1) stood z) m 0 image n₆ as′ n₇ e₇)
+    split (head (z .buffers) image at) _ e λ h n₁ e₁ k₁.
+    split (tests z (h .variables) (h .tests) image n₁) _ k₁ λ ts n₂ e₂ k₂.
+    split (require bad-variable (every (standsIn ts) (upFrom 0 (h .variables))) image n₂) _ k₂ λ u n₃ e₃ k₃.
+    split (actions z (h .variables) ts (h .actions) image n₃) _ k₃ λ as′ n₄ e₄ k₄.
+    let q : record { utility = utilityOf (h .utility); tests = ts; actions = as′ } ≡ r = cc in
+    let few : h .variables ≤ 8 = head-fits (z .buffers) image at h n₁ e₁ .variables-few in
+    let stood : every (standsIn ts) (upFrom 0 (h .variables)) ≡ true = required bad-variable _ image n₂ u n₃ e₃ in
+    let each = action-good ts (h .variables) few stood z in
+    rw (← q) (rising-good (action z (h .variables) ts) (λ a. a .buffer) (goodAction (z .buffers) (z .types) ts) each (h .actions) 0 image n₃ as′ n₄ e₄)
 
 -- ---- a fact
 

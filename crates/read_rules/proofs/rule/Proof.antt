@@ -8,12 +8,12 @@ use native.Mathlib.Omega.{arith}
 use lib.ListN.{length, take}
 use Rattle.meaning.specs.Model.{Test, Action, Rule}
 use Rattle.meaning.specs.Read.{Got, Refused}
-use Rattle.meaning.specs.Image.{tests, utilityOf}
+use Rattle.meaning.specs.Image.{head, tests, utilityOf}
+use Rattle.laws.specs.PartsLaws.{HeadFits, head-fits}
 use Rattle.layout.specs.Walks.{answer}
 use Rattle.layout.specs.Rows.{sizes, testsIn, actionsIn, testedMask}
 use Rattle.layout.proofs.WalkLaws.{answer-bad, answer-next, bad-within, bad-never}
-use Rattle.read_rules.specs.Heads.{head, headIn, HeadFits, RuleFits}
-use Rattle.read_rules.proofs.HeadLaws.{head-fits}
+use Rattle.read_rules.specs.Heads.{headIn, RuleFits}
 use Rattle.read_rules.proofs.RuleLaws.{aRule, rule-first, rule-second, rule-third, rule-on, tests-kept, kept-less}
 use borrow.Author.Needs.{needs}
 use Rattle.read_rules.proofs.rule.Statement.{statement}
