@@ -4,8 +4,8 @@ use mathlib.Core.Path.{_≡_, refl, sym, ap, ap₂, _∙_, fun-ext}
 use mathlib.Core.Bool.{Bool, true, false}
 use mathlib.Core.List.{List, [], _∷_, _++_, map}
 use native.Mathlib.Omega.{arith}
-use lib.ListN.{length, getD, take}
-use lib.Seq.{sets}
+use lib.ListN.{length, getD, take, drop}
+use lib.Seq.{sets, getD-drop}
 use Rattle.meaning.specs.Base.{keep, admit, upFrom}
 use Rattle.meaning.specs.Model.{Named, Test, Deed, Action, Fact, Chunk, Rule}
 use Rattle.meaning.specs.Image.{names, slotsIn}
@@ -111,6 +111,12 @@ module _ {A : Type 0} (thing : List ℕ → ℕ → A) (like : (w w′ : List �
   pub in-same : (w w′ : List ℕ) (o n : ℕ) → ((j : ℕ) → j < o + 11 * n → getD w j 0 ≡ getD w′ j 0) → rowsIn (λ k. thing w (o + 11 * k)) 0 n ≡ rowsIn (λ k. thing w′ (o + 11 * k)) 0 n
   in-same w w′ o n h =
       rows-same (λ k. thing w (o + 11 * k)) (λ k. thing w′ (o + 11 * k)) 0 n (λ k a b. like w w′ (o + 11 * k) (o + 11 * k) (λ j l. h (o + 11 * k + j) (omega arith)))
+
+  -- rows of what is left after o words are rows of the whole, o words further on
+  pub in-drop : (w : List ℕ) (o q r n : ℕ) → o + q ≡ r → rowsIn (λ k. thing (drop o w) (q + 11 * k)) 0 n ≡ rowsIn (λ k. thing w (r + 11 * k)) 0 n
+  in-drop w o q r n e =
+      rows-same (λ k. thing (drop o w) (q + 11 * k)) (λ k. thing w (r + 11 * k)) 0 n
+      (λ k a b. like (drop o w) w (q + 11 * k) (r + 11 * k) (λ j l. let s : o + (q + 11 * k + j) ≡ r + 11 * k + j = omega arith in rw (getD-drop, s)))
 
   -- one row more is written after i rows
   pub in-more : (w : List ℕ) (o i : ℕ) (ws : List ℕ) → length ws ≡ 11 → o + 11 * i + 11 ≤ length w

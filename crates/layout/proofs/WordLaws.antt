@@ -1,11 +1,11 @@
 -- Laws of words written one after the other.
 use Prim.Native.Nat.{ℕ, zero, suc, _+_, _≤_, _<_}
 use mathlib.Core.Path.{_≡_, refl, sym, ap, _∙_}
-use mathlib.Core.List.{List, [], _∷_}
+use mathlib.Core.List.{List, [], _∷_, _++_}
 use native.Mathlib.Omega.{arith}
 use native.Mathlib.Numerals.{add-one}
 use lib.ListN.{length, getD, set, take, drop, length-set, length-drop}
-use lib.Seq.{sets, drop-cons, getD-set-same, getD-set-other, getD-take, take-set-le}
+use lib.Seq.{sets, drop-cons, getD-set-same, getD-set-other, getD-take, take-set-le, drop-set-lt, take-at, drop-at, length-take-le}
 
 -- one word of a list more, in a loop that counts i up to its length
 pub sets-step : (w : List ℕ) (o i : ℕ) (xs : List ℕ) → i < length xs → sets (set w (o + i) (getD xs i 0)) (o + (i + 1)) (drop (i + 1) xs) ≡ sets w (o + i) (drop i xs)
@@ -40,6 +40,19 @@ sets-at w q (x ∷ ws) (suc j) h g =
 pub sets-take : (o : ℕ) (w : List ℕ) (q : ℕ) (ws : List ℕ) → o ≤ q → take o (sets w q ws) ≡ take o w
 sets-take o w q [] h = refl
 sets-take o w q (x ∷ ws) h = sets-take o (set w q x) (suc q) ws (omega arith) ∙ take-set-le o w q x h
+
+-- and what stands after it
+pub sets-drop : (o : ℕ) (w : List ℕ) (q : ℕ) (ws : List ℕ) → q + length ws ≤ o → drop o (sets w q ws) ≡ drop o w
+sets-drop o w q [] h = refl
+sets-drop o w q (x ∷ ws) h = sets-drop o (set w q x) (suc q) ws (omega arith) ∙ drop-set-lt o w q x (omega arith)
+
+-- a list whose words from o on are others has them there, and below o its own
+module _ (o : ℕ) (w own : List ℕ) (h : o ≤ length w) where
+  pub part-below : take o (take o w ++ own) ≡ take o w
+  part-below = take-at (take o w) own o (length-take-le o w h)
+
+  pub part-own : drop o (take o w ++ own) ≡ own
+  part-own = drop-at (take o w) own o (length-take-le o w h)
 
 -- two lists with the same beginning have the same words in it
 pub below-get : (o : ℕ) (w w′ : List ℕ) → take o w′ ≡ take o w → (j : ℕ) → j < o → getD w′ j 0 ≡ getD w j 0

@@ -4,24 +4,18 @@ use mathlib.Core.Path.{_≡_, refl, sym, ap, ap₂, _∙_}
 use mathlib.Core.List.{List, [], _∷_, _++_}
 use native.Mathlib.Omega.{arith}
 use native.Mathlib.Decide.{ℕ-discrete}
-use lib.ListN.{length, getD, take}
-use lib.Seq.{sets, length-sets}
+use lib.ListN.{length, getD, take, drop}
 use Rattle.meaning.specs.Model.{Test, Action, Rule}
 use Rattle.meaning.specs.Image.{utilityOf}
 use Rattle.layout.specs.Rows.{rowsIn, testIn, actionIn, testsIn, actionsIn, ruleIn, rulesIn, testedMask, Laid}
-use Rattle.layout.proofs.WordLaws.{below-get, sets-below, sets-at}
-use Rattle.layout.proofs.RowLaws.{rows-more, rows-same, in-same, test-like, action-like}
+use Rattle.layout.proofs.WordLaws.{below-get}
+use Rattle.layout.proofs.RowLaws.{rows-more, rows-same, in-same, in-drop, test-like, action-like}
 use Rattle.read_rules.specs.Heads.{ruleBy, RuleFits}
 
-module _ (heads heads′ words words′ four : List ℕ) (k : ℕ) (laid : Laid heads words k) (room : 4 * k + 4 ≤ length heads)
-    (eh : heads′ ≡ sets heads (4 * k) four) (lf : length four ≡ 4) (kept : take (176 * k) words′ ≡ take (176 * k) words) where
-  -- the heads below k, and the words below 176 k, are as they were
-  old-head : (j i : ℕ) → j < k → i < 4 → getD heads′ (4 * j + i) 0 ≡ getD heads (4 * j + i) 0
-  old-head j i h g = ap (λ (l : List ℕ). getD l (4 * j + i) 0) eh ∙ sets-below heads (4 * k) four (4 * j + i) (omega arith)
-
-  new-head : (i : ℕ) → i < 4 → getD heads′ (4 * k + i) 0 ≡ getD four i 0
-  new-head i g = ap (λ (l : List ℕ). getD l (4 * k + i) 0) eh ∙ sets-at heads (4 * k) four i (omega arith) (omega arith)
-
+module _ (heads heads′ words words′ four own : List ℕ) (k : ℕ) (laid : Laid heads words k)
+    (old-head : (j i : ℕ) → j < k → i < 4 → getD heads′ (4 * j + i) 0 ≡ getD heads (4 * j + i) 0)
+    (new-head : (i : ℕ) → i < 4 → getD heads′ (4 * k + i) 0 ≡ getD four i 0)
+    (kept : take (176 * k) words′ ≡ take (176 * k) words) (is-own : drop (176 * k) words′ ≡ own) where
   first-head : (l : List ℕ) (j : ℕ) → getD l (4 * j) 0 ≡ getD l (4 * j + 0) 0
   first-head l j = let e : 4 * j ≡ 4 * j + 0 = omega arith in ap (λ (n : ℕ). getD l n 0) e
 
@@ -40,16 +34,25 @@ module _ (heads heads′ words words′ four : List ℕ) (k : ℕ) (laid : Laid 
       ap (λ (u : ℕ). record { utility = utilityOf u; tests = testsIn words′ (176 * j) (getD heads′ (4 * j) 0); actions = actionsIn words′ (176 * j + 88) (getD heads′ (4 * j + 1) 0) }) (old-head j 2 h (omega arith))
       ∙ ap₂ (λ (ts : List Test) (as′ : List Action). record { utility = utilityOf (getD heads (4 * j + 2) 0); tests = ts; actions = as′ }) (old-tests j h) (old-actions j h)
 
-  new-rule : ruleIn heads′ words′ k ≡ ruleBy four words′ (176 * k)
-  new-rule = rw (first-head heads′ k ∙ new-head 0 (omega arith), new-head 1 (omega arith), new-head 2 (omega arith))
+  -- the rows of rule k are its own words
+  new-tests : (n : ℕ) → testsIn words′ (176 * k) n ≡ testsIn own 0 n
+  new-tests n = let e : 176 * k + 0 ≡ 176 * k = omega arith in sym (in-drop testIn test-like words′ (176 * k) 0 (176 * k) n e) ∙ ap (λ (l : List ℕ). testsIn l 0 n) is-own
 
-  pub rules-more : rulesIn heads′ words′ (k + 1) ≡ rulesIn heads words k ++ (ruleBy four words′ (176 * k) ∷ [])
+  new-actions : (n : ℕ) → actionsIn words′ (176 * k + 88) n ≡ actionsIn own 88 n
+  new-actions n = sym (in-drop actionIn action-like words′ (176 * k) 88 (176 * k + 88) n refl) ∙ ap (λ (l : List ℕ). actionsIn l 88 n) is-own
+
+  new-rule : ruleIn heads′ words′ k ≡ ruleBy four own
+  new-rule =
+      rw (first-head heads′ k ∙ new-head 0 (omega arith), new-head 1 (omega arith), new-head 2 (omega arith))
+      (ap₂ (λ (ts : List Test) (as′ : List Action). record { utility = utilityOf (getD four 2 0); tests = ts; actions = as′ }) (new-tests (getD four 0 0)) (new-actions (getD four 1 0)))
+
+  pub rules-more : rulesIn heads′ words′ (k + 1) ≡ rulesIn heads words k ++ (ruleBy four own ∷ [])
   rules-more =
       let z : 0 + k ≡ k = omega arith in
       rows-more (ruleIn heads′ words′) 0 k
       ∙ ap₂ (λ (l : List Rule) (r : Rule). l ++ (r ∷ [])) (rows-same (ruleIn heads′ words′) (ruleIn heads words) 0 k (λ j a b. old-rule j (omega arith))) (ap (ruleIn heads′ words′) z ∙ new-rule)
 
-  module _ (n : ℕ) (h : k < n) (few : n ≤ 256) (hr : 4 * n ≤ length heads) (wr : 176 * n ≤ length words′) (f : RuleFits four words′ (176 * k)) where
+  module _ (n : ℕ) (h : k < n) (few : n ≤ 256) (hr : 4 * n ≤ length heads′) (wr : 176 * n ≤ length words′) (f : RuleFits four own) where
     by : {C : Type 0} (j : ℕ) → j < k + 1 → (j < k → C) → (j ≡ k → C) → C
     by j l old new = elim (ℕ-discrete j k) [ yes e ↦ new e | no e ↦ old (omega arith) ]
 
@@ -63,13 +66,13 @@ module _ (heads heads′ words words′ four : List ℕ) (k : ℕ) (laid : Laid 
     laid-more =
         record {
           at-most = omega arith;
-          heads-room = omega (arith, ap length eh, length-sets heads (4 * k) four);
+          heads-room = omega arith;
           words-room = omega arith;
           tests-few = λ j l. by j l (λ g. omega (arith, first-old j g, laid .tests-few j g)) (λ e. rw e (omega (arith, first-new, f .tests-few)));
           actions-few = λ j l. by j l (λ g. omega (arith, old-head j 1 g (omega arith), laid .actions-few j g)) (λ e. rw e (omega (arith, new-head 1 (omega arith), f .actions-few)));
           masks = λ j l.
               by j l (λ g. old-head j 3 g (omega arith) ∙ laid .masks j g ∙ ap testedMask (sym (old-tests j g)))
-              (λ e. rw e (new-head 3 (omega arith) ∙ f .mask-is ∙ ap (λ (m : ℕ). testedMask (testsIn words′ (176 * k) m)) (sym first-new)));
+              (λ e. rw e (new-head 3 (omega arith) ∙ f .mask-is ∙ ap testedMask (sym (ap (testsIn words′ (176 * k)) first-new ∙ new-tests (getD four 0 0)))));
         }
 
 -- no rule yet

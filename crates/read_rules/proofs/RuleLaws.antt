@@ -5,7 +5,6 @@ use mathlib.Core.Bool.{Bool, true, false}
 use mathlib.Core.List.{List}
 use native.Mathlib.Omega.{arith}
 use lib.ListN.{take}
-use lib.Seq.{take-take}
 use Rattle.meaning.specs.Base.{every, upFrom}
 use Rattle.meaning.specs.Model.{Test, Action, Rule}
 use Rattle.meaning.specs.Read.{Read, Refused, Got, follow}
@@ -45,7 +44,3 @@ module _ (buffers : ℕ) (types s : List ℕ) (p : ℕ) where
 -- the tests of a rule stay where only words from o + 88 on have changed
 pub tests-kept : (w w′ : List ℕ) (o n : ℕ) → n ≤ 8 → take (o + 88) w′ ≡ take (o + 88) w → testsIn w′ o n ≡ testsIn w o n
 tests-kept w w′ o n h e = in-same testIn test-like w′ w o n (λ j l. below-get (o + 88) w w′ e j (omega arith))
-
--- and so do the words below o
-pub kept-less : (w w′ : List ℕ) (o : ℕ) → take (o + 88) w′ ≡ take (o + 88) w → take o w′ ≡ take o w
-kept-less w w′ o e = let h : o ≤ o + 88 = omega arith in sym (take-take o (o + 88) w′ h) ∙ ap (take o) e ∙ take-take o (o + 88) w h

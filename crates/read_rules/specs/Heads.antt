@@ -1,8 +1,8 @@
 -- The head of a rule as it was read, and a rule by its four words.
-use Prim.Native.Nat.{ℕ, _+_, _*_, _≤_, _<_}
+use Prim.Native.Nat.{ℕ, _*_, _≤_}
 use mathlib.Core.Path.{_≡_}
 use mathlib.Core.List.{List}
-use lib.ListN.{length, getD, take}
+use lib.ListN.{length, getD}
 use Rattle.meaning.specs.Model.{Rule}
 use Rattle.meaning.specs.Image.{Head, utilityOf, rule}
 use Rattle.layout.specs.declared.Walk.{Walk}
@@ -15,23 +15,21 @@ use Rattle.read_rules.specs.declared.RuleRead.{RuleRead}
 abbrev pub headIn : HeadRead → Head
 headIn r = record { utility = r .utility; tests = r .tests; actions = r .actions; variables = r .variables }
 
--- a rule by its four words and the rows from o on
-abbrev pub ruleBy : List ℕ → List ℕ → ℕ → Rule
-ruleBy four w o = record { utility = utilityOf (getD four 2 0); tests = testsIn w o (getD four 0 0); actions = actionsIn w (o + 88) (getD four 1 0) }
+-- a rule by its four words and the rows of its own
+abbrev pub ruleBy : List ℕ → List ℕ → Rule
+ruleBy four own = record { utility = utilityOf (getD four 2 0); tests = testsIn own 0 (getD four 0 0); actions = actionsIn own 88 (getD four 1 0) }
 
 -- what holds of the four words of a rule that was read
-pub record RuleFits (four w : List ℕ) (o : ℕ) : Type 0 where
+pub record RuleFits (four own : List ℕ) : Type 0 where
   pub tests-few : getD four 0 0 ≤ 8
   pub actions-few : getD four 1 0 ≤ 8
-  pub mask-is : getD four 3 0 ≡ testedMask (testsIn w o (getD four 0 0))
+  pub mask-is : getD four 3 0 ≡ testedMask (testsIn own 0 (getD four 0 0))
 
--- what the reading of one rule gives: the definition's rule or refusal; a place within the image; the words below o as they were;
--- and of a rule that was read, that its four words fit
-pub record RuleMet (r : RuleRead) (image : List ℕ) (p buffers : ℕ) (types before after : List ℕ) (o : ℕ) : Type 0 where
-  pub reads : answer (r .walk) (ruleBy (r .words) after o) ≡ rule (sizes buffers types) image p
+-- what the reading of one rule gives: the definition's rule or refusal; a place within the image; and of a rule that was read, that its four words fit
+pub record RuleMet (r : RuleRead) (image : List ℕ) (p buffers : ℕ) (types own : List ℕ) : Type 0 where
+  pub reads : answer (r .walk) (ruleBy (r .words) own) ≡ rule (sizes buffers types) image p
   pub within : Within (r .walk) (8 * length image)
-  pub kept : take o after ≡ take o before
-  pub fits : (q : ℕ) → r .walk ≡ Next q → RuleFits (r .words) after o
+  pub fits : (q : ℕ) → r .walk ≡ Next q → RuleFits (r .words) own
 
 -- what holds of the rules where all were read
 abbrev pub LaidIf : Walk → List ℕ → List ℕ → ℕ → Type 0
