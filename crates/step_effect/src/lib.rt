@@ -3,11 +3,16 @@ ghost use Prim.Native.Nat.{_+_, _*_, _≤_, _<_};
 ghost use lib.ListN.{length, getD};
 ghost use Rattle.meaning.specs.State.{nilAfter};
 ghost use Rattle.meaning.specs.Retrieval.{retrieve, retrieved};
-ghost use Rattle.layout.specs.Rows.{maskedIn, factsIn};
+ghost use Rattle.layout.specs.Rows.{maskedIn};
 ghost use Rattle.layout.specs.StateWords.{bufferIn};
-ghost use Rattle.step_retrieve.specs.Chains.{Chained};
+ghost use Rattle.layout.specs.Plans.{factsOn, rowsOn, Planned};
+ghost use Rattle.step_retrieve.specs.Chains.{ChainsOn};
 ghost use Rattle.step_wait.specs.Remade.{Remade};
 ghost use Rattle.step_effect.specs.Deeds.{chunkIn, modified};
+use layout::BUFFER_WORDS;
+use layout::FACTS_AT;
+use layout::Plan;
+use layout::ROW_WORDS;
 use step_retrieve::Found;
 
 // Writes a chunk over buffer k: its type, eight words of `from` that start at `at`, and its delay.
@@ -17,11 +22,11 @@ fn fill(state: &mut [u16], k: usize, isa: u16, from: &[u16], at: usize, delay: u
 {
     let mut b = 0;
     while b < 8 {
-        state[10 * k + 1 + b] = from[at + b];
+        state[BUFFER_WORDS * k + 1 + b] = from[at + b];
         b += 1;
     }
-    state[10 * k] = isa;
-    state[10 * k + 9] = delay;
+    state[BUFFER_WORDS * k] = isa;
+    state[BUFFER_WORDS * k + 9] = delay;
 }
 
 // Writes nil over buffer k, visible after some ms.
@@ -42,35 +47,29 @@ pub fn modify(state: &mut [u16], k: usize, words: &[u16], q: usize, nine: &[u16]
     let mut b = 0;
     while b < 8 {
         if (mask >> (7 - b)) & 1 == 1 {
-            state[10 * k + 1 + b] = step_retrieve::value_of(nine, words[q + 3 + b]);
+            state[BUFFER_WORDS * k + 1 + b] = step_retrieve::value_of(nine, words[q + 3 + b]);
         }
         b += 1;
     }
-    state[10 * k + 9] = 0;
+    state[BUFFER_WORDS * k + 9] = 0;
 }
 
-// Writes over buffer k the fact that the request at q finds, with its latency as the delay; or nil with the failure latency.
-pub fn request(
-    state: &mut [u16],
-    k: usize,
-    words: &[u16],
-    q: usize,
-    nine: &[u16],
-    facts: &[u16],
-    index: &[u16],
-    n: usize,
-    failure: u16,
-)
-    requires { ⌜ (80 ≤ length (now state)) × (k < 8) × (q + 11 ≤ length (now words)) × (9 ≤ length (now nine)) × (n ≤ 512) × (11 * n ≤ length (now facts)) × Chained (now index) (now facts) n ⌝ }
-    ensures { λ _. ⌜ Remade (now (state .entry)) (now (state .exit)) k (retrieved failure (retrieve (factsIn (now (facts .entry)) n) (getD (now (words .entry)) (q + 1) 0) (maskedIn (now (words .entry)) q) (now (nine .entry)))) ⌝ }
+// Writes over buffer k the fact that the request at q of the rows finds, with its latency as the delay; or nil with the failure latency.
+pub fn request(state: &mut [u16], k: usize, plan: Plan, tape: &[u16], q: usize, nine: &[u16])
+    requires { ⌜ (80 ≤ length (now state)) × (k < 8) × (q + 11 ≤ length (rowsOn plan (now tape))) × (9 ≤ length (now nine)) × Planned plan (now tape) × ChainsOn plan (now tape) ⌝ }
+    ensures { λ _. ⌜ Remade (now (state .entry)) (now (state .exit)) k (retrieved (plan .failure) (retrieve (factsOn plan (now (tape .entry))) (getD (rowsOn plan (now (tape .entry))) (q + 1) 0) (maskedIn (rowsOn plan (now (tape .entry))) q) (now (nine .entry)))) ⌝ }
 {
-    match step_retrieve::retrieve(facts, index, n, words, q, nine) {
+    let rows = plan.rows;
+    let chains = plan.chains;
+    let n = plan.facts as usize;
+    let facts = &tape[FACTS_AT..];
+    match step_retrieve::retrieve(facts, &tape[chains..], n, &tape[rows..], q, nine) {
         Found::Fact(i) => {
-            let f = 11 * i;
+            let f = ROW_WORDS * i;
             fill(state, k, facts[f], facts, f + 3, facts[f + 2]);
         }
         Found::Nothing => {
-            nil(state, k, failure);
+            nil(state, k, plan.failure);
         }
     }
 }
