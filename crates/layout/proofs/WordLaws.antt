@@ -1,11 +1,11 @@
 -- Laws of words written one after the other.
-use Prim.Native.Nat.{ℕ, zero, suc, _+_, _≤_, _<_}
+use Prim.Native.Nat.{ℕ, zero, suc, _+_, _-_, _≤_, _<_}
 use mathlib.Core.Path.{_≡_, refl, sym, ap, _∙_}
-use mathlib.Core.List.{List, [], _∷_, _++_}
+use mathlib.Core.List.{List, [], _∷_, _++_, append-nil}
 use native.Mathlib.Omega.{arith}
 use native.Mathlib.Numerals.{add-one}
-use lib.ListN.{length, getD, set, take, drop, length-set, length-drop}
-use lib.Seq.{sets, drop-cons, getD-set-same, getD-set-other, getD-take, take-set-le, drop-set-lt, take-at, drop-at, length-take-le}
+use lib.ListN.{length, getD, set, take, drop, length-set, length-drop, drop-of-length-le}
+use lib.Seq.{sets, drop-cons, getD-set-same, getD-set-other, getD-take, take-set-le, drop-set-lt, take-at, drop-at, take-add, length-take-le}
 
 -- one word of a list more, in a loop that counts i up to its length
 pub sets-step : (w : List ℕ) (o i : ℕ) (xs : List ℕ) → i < length xs → sets (set w (o + i) (getD xs i 0)) (o + (i + 1)) (drop (i + 1) xs) ≡ sets w (o + i) (drop i xs)
@@ -46,17 +46,29 @@ pub sets-drop : (o : ℕ) (w : List ℕ) (q : ℕ) (ws : List ℕ) → q + lengt
 sets-drop o w q [] h = refl
 sets-drop o w q (x ∷ ws) h = sets-drop o (set w q x) (suc q) ws (omega arith) ∙ drop-set-lt o w q x (omega arith)
 
--- a list whose words from o on are others has them there, and below o its own
-module _ (o : ℕ) (w own : List ℕ) (h : o ≤ length w) where
-  pub part-below : take o (take o w ++ own) ≡ take o w
-  part-below = take-at (take o w) own o (length-take-le o w h)
+-- a list whose words from o on were lent to the end and came back as others: it has them there, and below o its own
+module _ (o : ℕ) (w own : List ℕ) where
+  pub part-put : take o w ++ (own ++ drop (length w - o) (drop o w)) ≡ take o w ++ own
+  part-put =
+      let none : drop (length w - o) (drop o w) ≡ [] = drop-of-length-le (drop o w) {i = length w - o} (omega (arith, length-drop o w)) in
+      ap (λ (l : List ℕ). take o w ++ (own ++ l)) none ∙ ap (λ (l : List ℕ). take o w ++ l) (append-nil own)
 
-  pub part-own : drop o (take o w ++ own) ≡ own
-  part-own = drop-at (take o w) own o (length-take-le o w h)
+  pub part-below : o ≤ length w → take o (take o w ++ own) ≡ take o w
+  part-below h = take-at (take o w) own o (length-take-le o w h)
+
+  pub part-own : o ≤ length w → drop o (take o w ++ own) ≡ own
+  part-own h = drop-at (take o w) own o (length-take-le o w h)
 
 -- two lists with the same beginning have the same words in it
 pub below-get : (o : ℕ) (w w′ : List ℕ) → take o w′ ≡ take o w → (j : ℕ) → j < o → getD w′ j 0 ≡ getD w j 0
 below-get o w w′ e j h = sym (getD-take o w′ j 0 h) ∙ ap (λ (l : List ℕ). getD l j 0) e ∙ getD-take o w j 0 h
+
+-- and so have their parts in it
+pub below-part : (r m : ℕ) (w w′ : List ℕ) → take (r + m) w′ ≡ take (r + m) w → r ≤ length w → r ≤ length w′ → take m (drop r w′) ≡ take m (drop r w)
+below-part r m w w′ e h h′ =
+    sym (drop-at (take r w′) (take m (drop r w′)) r (length-take-le r w′ h′))
+    ∙ ap (drop r) (sym (take-add r m w′) ∙ e ∙ take-add r m w)
+    ∙ drop-at (take r w) (take m (drop r w)) r (length-take-le r w h)
 
 -- ---- a list of a known length is its elements in a row
 

@@ -4,11 +4,12 @@ use mathlib.Core.Path.{_≡_, refl, sym, ap, ap₂, _∙_}
 use mathlib.Core.List.{List, [], _∷_, _++_}
 use native.Mathlib.Omega.{arith}
 use native.Mathlib.Decide.{ℕ-discrete}
-use lib.ListN.{length, getD, take, drop}
+use lib.ListN.{length, getD, take, drop, length-drop}
+use lib.Seq.{sets, length-sets, drop-drop}
 use Rattle.meaning.specs.Model.{Test, Action, Rule}
 use Rattle.meaning.specs.Image.{utilityOf}
 use Rattle.layout.specs.Rows.{rowsIn, testIn, actionIn, testsIn, actionsIn, ruleIn, rulesIn, testedMask, Laid}
-use Rattle.layout.proofs.WordLaws.{below-get}
+use Rattle.layout.proofs.WordLaws.{below-get, below-part, sets-below, sets-at, sets-drop, part-below, part-own}
 use Rattle.layout.proofs.RowLaws.{rows-more, rows-same, in-same, in-drop, test-like, action-like}
 use Rattle.read_rules.specs.Heads.{ruleBy, RuleFits}
 
@@ -74,6 +75,35 @@ module _ (heads heads′ words words′ four own : List ℕ) (k : ℕ) (laid : L
               by j l (λ g. old-head j 3 g (omega arith) ∙ laid .masks j g ∙ ap testedMask (sym (old-tests j g)))
               (λ e. rw e (new-head 3 (omega arith) ∙ f .mask-is ∙ ap testedMask (sym (ap (testsIn words′ (176 * k)) first-new ∙ new-tests (getD four 0 0)))));
         }
+
+-- heads and rows stand on one tape: rule k's own words came back from rows + 176 k on, and then its head was written
+module _ (w w₁ w₂ four own : List ℕ) (rows k n : ℕ) (laid : Laid w (drop rows w) k) (h : k < n) (hr : 4 * n ≤ rows) (wr : rows + 176 * n ≤ length w)
+    (lf : length four ≡ 4) (e : w₁ ≡ take (rows + 176 * k) w ++ own) (as-long : length w₁ ≡ length w) (e₂ : w₂ ≡ sets w₁ (4 * k) four) where
+  below : take (rows + 176 * k) w₁ ≡ take (rows + 176 * k) w
+  below = ap (take (rows + 176 * k)) e ∙ part-below (rows + 176 * k) w own (omega arith)
+
+  rows-after : drop rows w₂ ≡ drop rows w₁
+  rows-after = ap (drop rows) e₂ ∙ sets-drop rows w₁ (4 * k) four (omega arith)
+
+  old : (j i : ℕ) → j < k → i < 4 → getD w₂ (4 * j + i) 0 ≡ getD w (4 * j + i) 0
+  old j i a b = ap (λ (l : List ℕ). getD l (4 * j + i) 0) e₂ ∙ sets-below w₁ (4 * k) four (4 * j + i) (omega arith) ∙ below-get (rows + 176 * k) w w₁ below (4 * j + i) (omega arith)
+
+  new : (i : ℕ) → i < 4 → getD w₂ (4 * k + i) 0 ≡ getD four i 0
+  new i b = ap (λ (l : List ℕ). getD l (4 * k + i) 0) e₂ ∙ sets-at w₁ (4 * k) four i (omega arith) (omega arith)
+
+  kept : take (176 * k) (drop rows w₂) ≡ take (176 * k) (drop rows w)
+  kept = ap (take (176 * k)) rows-after ∙ below-part rows (176 * k) w w₁ below (omega arith) (omega arith)
+
+  is-own : drop (176 * k) (drop rows w₂) ≡ own
+  is-own = ap (drop (176 * k)) rows-after ∙ drop-drop (176 * k) rows w₁ ∙ ap (drop (rows + 176 * k)) e ∙ part-own (rows + 176 * k) w own (omega arith)
+
+  pub tape-more : rulesIn w₂ (drop rows w₂) (k + 1) ≡ rulesIn w (drop rows w) k ++ (ruleBy four own ∷ [])
+  tape-more = rules-more w w₂ (drop rows w) (drop rows w₂) four own k laid old new kept is-own
+
+  pub tape-laid : n ≤ 256 → RuleFits four own → Laid w₂ (drop rows w₂) (k + 1)
+  tape-laid few f =
+      let l : length w₂ ≡ length w₁ = ap length e₂ ∙ length-sets w₁ (4 * k) four in
+      laid-more w w₂ (drop rows w) (drop rows w₂) four own k laid old new kept is-own n h few (omega arith) (omega (arith, length-drop rows w₂)) f
 
 -- no rule yet
 pub laid-none : (heads words : List ℕ) → Laid heads words 0
