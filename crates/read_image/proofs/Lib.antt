@@ -1,2 +1,3 @@
 -- Laws of the whole image.
 pub mod WholeLaws
+pub mod TapeLaws

@@ -25,11 +25,17 @@ use Rattle.layout.specs.declared.Walk.the-variants.{Next, Bad}
 use Rattle.layout.specs.Walks.{answer, mapped, Small}
 use Rattle.layout.specs.Rows.{sizes}
 use Rattle.layout.proofs.WalkLaws.{answer-bad, answer-next, bad-within, bad-never}
-use Rattle.read_opening.specs.Parts.{aHeader, openingState}
-use Rattle.read_image.specs.declared.ImageRead.{ImageRead}
-use Rattle.read_image.specs.Whole.{beginningIn, beginningOf, NoImage, Begun, verdict, chunkIn, chunksIn}
+use Rattle.layout.specs.declared.Plan.{Plan}
+use Rattle.layout.specs.declared.PlanRead.{PlanRead}
+use Rattle.layout.specs.Plans.{planOf, chunkIn}
+use Rattle.read_opening.specs.Parts.{HeaderMet, headerIn, openingState}
+use Rattle.read_image.specs.Whole.{headerOf, Begun, verdict}
 
 -- ---- the opening state and its chunks
+
+-- the chunks of the first n buffers of a state
+abbrev pub chunksIn : State → ℕ → List Chunk
+chunksIn s n = map chunkIn (take n (s .buffers))
 
 chunks-back : (chunks : List Chunk) → map chunkIn (map opens chunks) ≡ chunks
 chunks-back [] = refl
@@ -98,23 +104,41 @@ module _ (s : List ℕ) where
             let k : o ≡ z = cc in
             rw (← k, ← t, ← e) (last w)
 
-pub not-long : (s : List ℕ) → length s ≤ 65536 → beginning s 0 ≡ beginningOf s
+-- ---- the header, after the image's length
+
+pub too-long : (s : List ℕ) → 65536 < length s → Refused 1 0 ≡ headerOf s
+too-long s h = rw (lt-ltb 65536 (length s) h)
+
+pub not-long : (s : List ℕ) → length s ≤ 65536 → header s 0 ≡ headerOf s
 not-long s h = rw (le-ltb 65536 (length s) h)
 
--- a refusal of the beginning
-pub refused-begun : (r : ImageRead) (x y : ℕ) (s : List ℕ) → NoImage r x y → Refused x y ≡ beginningOf s → Begun r s
-refused-begun r x y s n e =
+-- a refusal, with the plan for nothing
+pub refused-begun : (r : PlanRead) (x y : ℕ) (s : List ℕ) → r .walk ≡ Bad x y → r .plan ≡ planOf 0 0 0 0 0 → Refused x y ≡ headerOf s → Begun r s
+refused-begun r x y s n p e =
     record {
-      reads = answer-bad (r .walk) (beginningIn r) x y (n .refused) ∙ e;
-      within = bad-within (r .walk) x y (8 * length s) (n .refused);
-      short = bad-never (r .walk) x y (n .refused);
-      few-rules = omega (arith, n .no-rules);
-      few-facts = omega (arith, n .no-facts);
-      fits = bad-never (r .walk) x y (n .refused);
+      reads = answer-bad (r .walk) (headerIn (r .plan)) x y n ∙ e;
+      within = bad-within (r .walk) x y (8 * length s) n;
+      short = bad-never (r .walk) x y n;
+      in-bounds = bad-never (r .walk) x y n;
+      fits = let z = ap (λ (p : Plan). p .end) p in omega arith;
     }
 
-pub too-long : (s : List ℕ) → 65536 < length s → Refused 1 0 ≡ beginningOf s
-too-long s h = rw (lt-ltb 65536 (length s) h)
+-- a header that is refused for what it says
+pub header-refused : (r : PlanRead) (x y : ℕ) (s : List ℕ) → HeaderMet r s → length s ≤ 65536 → r .walk ≡ Bad x y → Refused x y ≡ headerOf s
+header-refused r x y s met h e = sym (answer-bad (r .walk) (headerIn (r .plan)) x y e) ∙ met .reads ∙ not-long s h
+
+-- a header that was read
+pub header-begun : (r : PlanRead) (q : ℕ) (s : List ℕ) → HeaderMet r s → length s ≤ 65536 → r .walk ≡ Next q → Begun r s
+header-begun r q s met h e =
+    let b = met .bounds q e in
+    let end = ap (λ (p : Plan). p .end) (met .starts) in
+    record {
+      reads = met .reads ∙ not-long s h;
+      within = met .within;
+      short = λ q g. h;
+      in-bounds = λ q g. record { starts = met .starts; bounds = b };
+      fits = omega (arith, b .most-rules, b .most-facts);
+    }
 
 -- the first of small types are small
 pub small-take : (n : ℕ) (types : List ℕ) → Small types → Small (take n types)
@@ -152,47 +176,28 @@ aModel b c = record { buffers = b .head .buffers; types = b .types; failure = b 
 abbrev restOf : Beginning → Reader Model
 restOf b s q = follow (contents (sizes (b .head .buffers) (b .types)) (b .head .facts) (b .head .rules) s q) (λ c z. Got (aModel b c) z)
 
-decode-short : (s : List ℕ) → length s ≤ 65536 → decode s ≡ follow (beginningOf s) (λ b q. restOf b s q)
-unfolding decode model
-decode-short s h = rw (le-ltb 65536 (length s) h)
-
-pub decode-refused : (s : List ℕ) (x y : ℕ) → Refused x y ≡ beginningOf s → Refused x y ≡ decode s
-unfolding decode model
+-- a refusal of the header, by length or by what it says
+pub decode-refused : (s : List ℕ) (x y : ℕ) → Refused x y ≡ headerOf s → Refused x y ≡ decode s
+unfolding decode model beginning
 decode-refused s x y e =
-    (elim (ltb 65536 (length s)) as (λ t. Refused x y ≡ (if t then Refused 1 0 else beginning s 0) → Refused x y ≡ (if t then Refused 1 0 else model s 0)) [
+    (elim (ltb 65536 (length s)) as (λ t. Refused x y ≡ (if t then Refused 1 0 else header s 0) → Refused x y ≡ (if t then Refused 1 0 else model s 0)) [
       | true ↦ λ g. cc
       | false ↦ λ g. rw (← g)
     ]) e
 
-pub decode-on : (s : List ℕ) (b : Beginning) (p : ℕ) (w : Walk) (c : Contents) → length s ≤ 65536 → Got b p ≡ beginningOf s
-    → answer w c ≡ contents (sizes (b .head .buffers) (b .types)) (b .head .facts) (b .head .rules) s p → answer w (aModel b c) ≡ decode s
-decode-on s b p (Next q) c h e₁ e = rw (decode-short s h, ← e₁, ← e)
-decode-on s b p (Bad x y) c h e₁ e = rw (decode-short s h, ← e₁, ← e)
+module _ (s : List ℕ) (h : length s ≤ 65536) where
+  decode-short : decode s ≡ follow (beginning s 0) (λ b q. restOf b s q)
+  unfolding decode model
+  decode-short = rw (le-ltb 65536 (length s) h)
 
--- ---- how many rules an accepted image has
+  -- a refusal of what follows the header, and the contents
+  pub decode-beginning : (x y : ℕ) → Refused x y ≡ beginning s 0 → Refused x y ≡ decode s
+  decode-beginning x y e = rw (decode-short, ← e)
 
-contents-many : (z : Sizes) (n m : ℕ) (s : List ℕ) (p : ℕ) (c : Contents) (q : ℕ) → contents z n m s p ≡ Got c q → length (c .rules) ≡ m
-unfolding contents
-contents-many z n m s p c q e =
-    split (times n (fact (z .types)) s p) _ e λ facts n₁ e₁ k₁.
-    split (times m (rule z) s n₁) _ k₁ λ rules n₂ e₂ k₂.
-    split (ending s n₂) _ k₂ λ u n₃ e₃ k₃.
-    let same : someContents facts rules ≡ c = cc in
-    rw (← same) (times-all (rule z) (λ r. true) (λ image at a next e. refl) m s n₁ rules n₂ e₂ .1)
-
--- as many as its beginning says
-pub decode-many : (r : ImageRead) (s : List ℕ) (m : Model) (q : ℕ) → Begun r s → decode s ≡ Got m q → length (m .rules) ≡ r .rules
-decode-many r s m q b e = go (r .walk) refl
-  where
-    go : (w : Walk) → r .walk ≡ w → length (m .rules) ≡ r .rules
-    go (Bad x y) g = let z : Refused x y ≡ Got m q = decode-refused s x y (sym (answer-bad (r .walk) (beginningIn r) x y g) ∙ b .reads) ∙ e in absurd (no-got x y m q z)
-    go (Next p) g =
-        let h : Got (beginningIn r) p ≡ beginningOf s = sym (answer-next (r .walk) (beginningIn r) p g) ∙ b .reads in
-        let d : follow (beginningOf s) (λ b q. restOf b s q) ≡ Got m q = sym (decode-short s (b .short p g)) ∙ e in
-        let d′ : restOf (beginningIn r) s p ≡ Got m q = ap (λ (x : Read Beginning). follow x (λ b q. restOf b s q)) h ∙ d in
-        split (contents (sizes (r .buffers) (beginningIn r .types)) (r .facts) (r .rules) s p) _ d′ λ c n₁ e₁ k₁.
-        let same : aModel (beginningIn r) c ≡ m = cc in
-        rw (← same) (contents-many (sizes (r .buffers) (beginningIn r .types)) (r .facts) (r .rules) s p c n₁ e₁)
+  pub decode-on : (b : Beginning) (p : ℕ) (w : Walk) (c : Contents) → Got b p ≡ beginning s 0
+      → answer w c ≡ contents (sizes (b .head .buffers) (b .types)) (b .head .facts) (b .head .rules) s p → answer w (aModel b c) ≡ decode s
+  decode-on b p (Next q) c e₁ e = rw (decode-short, ← e₁, ← e)
+  decode-on b p (Bad x y) c e₁ e = rw (decode-short, ← e₁, ← e)
 
 -- an answer to a reading, without its value
 pub verdict-of : {A : Type 0} (w : Walk) (x : A) (r : Read A) → answer w x ≡ r → answer w tt ≡ verdict r

@@ -1,91 +1,63 @@
--- A model as it stands in words, and what the reading of an image promises.
+-- What the reading of an image promises.
 use Prim.Native.Nat.{ℕ, _+_, _*_, _≤_}
 use mathlib.Core.Path.{_≡_}
-use mathlib.Core.List.{List, map}
+use mathlib.Core.List.{List}
 use lib.Dec.{ltb}
-use lib.ListN.{length, take}
-use Rattle.meaning.specs.declared.Buffer.{Buffer}
-use Rattle.meaning.specs.declared.State.{State}
+use lib.ListN.{length, take, drop}
 use Rattle.meaning.specs.Base.{if_then_else_}
-use Rattle.meaning.specs.Model.{Model, Chunk}
+use Rattle.meaning.specs.Numbers.{too-long}
 use Rattle.meaning.specs.Read.{Read, Refused, Got}
-use Rattle.meaning.specs.Image.{Beginning, beginning, Contents, decode}
+use Rattle.meaning.specs.Image.{Header, header, Beginning, beginning, Contents, decode}
 use Rattle.layout.specs.declared.Walk.{Walk}
-use Rattle.layout.specs.declared.Walk.the-variants.{Next, Bad}
+use Rattle.layout.specs.declared.Walk.the-variants.{Next}
+use Rattle.layout.specs.declared.Plan.{Plan}
+use Rattle.layout.specs.declared.PlanRead.{PlanRead}
 use Rattle.layout.specs.Walks.{answer, Within, Small}
-use Rattle.layout.specs.Rows.{factsIn, rulesIn, Laid}
-use Rattle.read_opening.specs.Parts.{openingState}
-use Rattle.read_image.specs.declared.ImageRead.{ImageRead}
+use Rattle.layout.specs.StateWords.{stateIn}
+use Rattle.layout.specs.Plans.{planOf, typesOn, openingOn, factsOn, rulesOn, modelOn, Planned}
+use Rattle.read_opening.specs.declared.TypesRead.{TypesRead}
+use Rattle.read_opening.specs.Parts.{Bounds, headerIn, openingState}
 
--- ---- what the code's answers say
+-- ---- the parts of a model on a tape
 
-abbrev pub contentsIn : List ℕ → List ℕ → List ℕ → ℕ → ℕ → Contents
-contentsIn facts heads words n m = record { facts = factsIn facts n; rules = rulesIn heads words m }
+abbrev pub beginningOn : Plan → List ℕ → Beginning
+beginningOn p tape = record { head = headerIn p; types = typesOn p tape; opening = openingOn p tape }
 
-abbrev pub typesIn : ImageRead → List ℕ
-typesIn r = take (r .declared + 1) (r .types)
-
--- the chunks of the first n buffers of a state
-abbrev pub chunkIn : Buffer → Chunk
-chunkIn b = record { isa = b .isa; slots = b .slots }
-
-abbrev pub chunksIn : State → ℕ → List Chunk
-chunksIn s n = map chunkIn (take n (s .buffers))
-
-abbrev pub beginningIn : ImageRead → Beginning
-beginningIn r =
-    record {
-      head = record { buffers = r .buffers; declared = r .declared; rules = r .rules; facts = r .facts; failure = r .failure };
-      types = typesIn r;
-      opening = chunksIn (r .state) (r .buffers);
-    }
-
--- the model that stands in an answer and in words
-abbrev pub modelIn : ImageRead → List ℕ → List ℕ → List ℕ → Model
-modelIn r facts heads words =
-    record {
-      buffers = r .buffers;
-      types = typesIn r;
-      failure = r .failure;
-      opening = chunksIn (r .state) (r .buffers);
-      facts = factsIn facts (r .facts);
-      rules = rulesIn heads words (r .rules);
-    }
+abbrev pub contentsOn : Plan → List ℕ → Contents
+contentsOn p tape = record { facts = factsOn p tape; rules = rulesOn p tape }
 
 -- ---- what is promised
 
--- a refusal, with no rules and facts
-pub record NoImage (r : ImageRead) (number at : ℕ) : Type 0 where
-  pub refused : r .walk ≡ Bad number at
-  pub no-rules : r .rules ≡ 0
-  pub no-facts : r .facts ≡ 0
-
--- of a beginning that was read: its counts, its types, and that the state is the opening one
-pub record Fits (r : ImageRead) : Type 0 where
-  pub some-buffers : 1 ≤ r .buffers
-  pub most-buffers : r .buffers ≤ 8
-  pub most-declared : r .declared ≤ 63
-  pub small : Small (typesIn r)
-  pub many : length (typesIn r) ≡ r .declared + 1
-  pub opens : r .state ≡ openingState (r .buffers) (chunksIn (r .state) (r .buffers))
+-- the sections of a plan follow each other, and its counts are those that an image may have
+pub record InBounds (p : Plan) : Type 0 where
+  pub starts : p ≡ planOf (p .buffers) (p .declared) (p .rules) (p .facts) (p .failure)
+  pub bounds : Bounds (p .buffers) (p .declared) (p .rules) (p .facts)
 
 -- "image over 65,536 bytes" comes first
-abbrev pub beginningOf : List ℕ → Read Beginning
-beginningOf image = if ltb 65536 (length image) then Refused 1 0 else beginning image 0
+abbrev pub headerOf : List ℕ → Read Header
+headerOf image = if ltb 65536 (length image) then Refused too-long 0 else header image 0
 
-pub record Begun (r : ImageRead) (image : List ℕ) : Type 0 where
-  pub reads : answer (r .walk) (beginningIn r) ≡ beginningOf image
+-- a header that was read as a plan: whatever it says, the plan has room on the larger tape
+pub record Begun (r : PlanRead) (image : List ℕ) : Type 0 where
+  pub reads : answer (r .walk) (headerIn (r .plan)) ≡ headerOf image
   pub within : Within (r .walk) (8 * length image)
   pub short : (q : ℕ) → r .walk ≡ Next q → length image ≤ 65536
-  pub few-rules : r .rules ≤ 256
-  pub few-facts : r .facts ≤ 512
-  pub fits : (q : ℕ) → r .walk ≡ Next q → Fits r
+  pub in-bounds : (q : ℕ) → r .walk ≡ Next q → InBounds (r .plan)
+  pub fits : r .plan .end ≤ 52960
 
--- the answer with what stands in the words is what the definition decodes; and of an accepted image, the rules are laid and the beginning fits
-pub record LaidOut (r : Walk) (begun : ImageRead) (image facts heads words : List ℕ) : Type 0 where
-  pub reads : answer r (modelIn begun facts heads words) ≡ decode image
-  pub laid : (q : ℕ) → r ≡ Next q → Laid heads words (begun .rules)
-  pub fits : (q : ℕ) → r ≡ Next q → Fits begun
+-- slot counts and opening chunks that were laid out: the definition's beginning or refusal; a place within the image;
+-- and of those that were not refused, that the types given back are those on the tape, with at most eight slots each, and the opening section is the opening state
+pub record OpeningMet (r : TypesRead) (p : Plan) (image tape : List ℕ) : Type 0 where
+  pub reads : answer (r .walk) (beginningOn p tape) ≡ beginning image 0
+  pub within : Within (r .walk) (8 * length image)
+  pub types : (q : ℕ) → r .walk ≡ Next q → typesOn p tape ≡ take (p .declared + 1) (r .types)
+  pub small : (q : ℕ) → r .walk ≡ Next q → Small (typesOn p tape)
+  pub opens : (q : ℕ) → r .walk ≡ Next q → stateIn (drop 64 tape) 0 ≡ openingState (p .buffers) (openingOn p tape)
+
+-- the answer with what stands on the tape is what the definition decodes; and of an accepted image, plan and tape are as `Planned` says
+pub record LaidOut (r : Walk) (p : Plan) (image tape : List ℕ) : Type 0 where
+  pub reads : answer r (modelOn p tape) ≡ decode image
+  pub planned : (q : ℕ) → r ≡ Next q → Planned p tape
 
 -- an answer without its value: the refusal, or the position after
 abbrev pub verdict : {A : Type 0} → Read A → Read (Unit {0})

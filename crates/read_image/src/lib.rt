@@ -1,82 +1,77 @@
-// A whole image: accepted, and laid out in words; or refused by number and place. Each field is judged when it is read, in reading order.
+// A whole image: accepted, and laid out on a tape; or refused by number and place. Each field is judged when it is read, in reading order.
 ghost use mathlib.Core.Path.{_≡_};
-ghost use Prim.Native.Nat.{_+_, _*_, _≤_, _<_};
-ghost use lib.ListN.{length};
-ghost use lib.Dec.{leb};
-ghost use mathlib.Core.Bool.{_&&_};
-ghost use Rattle.meaning.specs.Image.{ending, contents, decode};
-ghost use Rattle.layout.specs.Walks.{answer, Small};
+ghost use Prim.Native.Nat.{_*_, _≤_, _<_};
+ghost use lib.ListN.{length, take};
+ghost use Rattle.meaning.specs.Read.{Got};
+ghost use Rattle.meaning.specs.Image.{header, contents, ending, decode};
+ghost use Rattle.layout.specs.Walks.{answer, Within, Small};
 ghost use Rattle.layout.specs.Rows.{sizes};
+ghost use Rattle.layout.specs.Plans.{planOf, headsOn, rowsOn};
+ghost use Rattle.read_opening.specs.Parts.{headerIn};
 ghost use Rattle.read_rules.specs.Heads.{LaidIf};
-ghost use Rattle.read_image.specs.Whole.{contentsIn, NoImage, Begun, LaidOut, verdict};
+ghost use Rattle.read_image.specs.Whole.{contentsOn, InBounds, Begun, OpeningMet, LaidOut, verdict};
+use layout::FACTS_AT;
+use layout::HEAD_WORDS;
+use layout::LARGE_TAPE;
+use layout::OPENING_AT;
+use layout::Plan;
+use layout::PlanRead;
+use layout::SMALL_TAPE;
+use layout::TYPES_AT;
 use layout::Walk;
-use meaning::State;
+use meaning::numbers::BAD_END;
+use meaning::numbers::TOO_LONG;
+use read_opening::TypesRead;
 
-// What an image says besides its facts and rules: counts, the failure latency, the slot count of each type, the opening state; or a refusal.
-pub struct ImageRead {
-    pub walk: Walk,
-    pub buffers: u16,
-    pub declared: u16,
-    pub rules: u16,
-    pub facts: u16,
-    pub failure: u16,
-    pub types: [u16; 64],
-    pub state: State,
-}
-
-fn no_image(number: u8, at: usize) -> ImageRead
-    ensures { λ r. ⌜ NoImage r number at ⌝ }
+// No plan: a refusal, with nothing to lay out.
+fn no_plan(number: u8, at: usize) -> PlanRead
+    ensures { λ r. ⌜ (r .walk ≡ Walk.Bad number at) × (r .plan ≡ planOf 0 0 0 0 0) ⌝ }
 {
-    let nothing = meaning::zero_state();
-    ImageRead {
+    let nothing = layout::plan_for(0, 0, 0, 0, 0);
+    PlanRead {
         walk: Walk::Bad(number, at),
-        buffers: 0,
-        declared: 0,
-        rules: 0,
-        facts: 0,
-        failure: 0,
-        types: [0; 64],
-        state: nothing,
+        plan: nothing,
     }
 }
 
-// The beginning of an image of any length and content: the header, the slot counts and the opening chunks.
-pub fn begin(image: &[u8]) -> ImageRead
+// The beginning of an image of any length and content: its header, as a plan.
+pub fn begin(image: &[u8]) -> PlanRead
     ensures { λ r. ⌜ Begun r (now (image .entry)) ⌝ }
 {
     if 65536 < image.len() {
-        return no_image(1, 0);
+        return no_plan(TOO_LONG, 0);
     }
-    let h = read_opening::header(image);
-    let after_header = h.walk;
-    let q = match after_header {
-        Walk::Next(q) => q,
-        Walk::Bad(number, at) => {
-            return no_image(number, at);
-        }
-    };
-    let t = read_opening::slot_counts(image, q, h.declared);
+    let read = read_opening::header(image);
+    let walk = read.walk;
+    if let Walk::Bad(number, at) = walk {
+        return no_plan(number, at);
+    }
+    read
+}
+
+// The slot counts and the opening chunks, from p on: laid on the tape; the slot counts are given back too, to read the rest by.
+fn lay_opening(image: &[u8], p: usize, plan: Plan, tape: &mut [u16]) -> TypesRead
+    requires { ⌜ (length (now image) ≤ 65536) × (p ≤ 8 * length (now image)) × (Got (headerIn plan) p ≡ header (now image) 0) × InBounds plan × (144 ≤ length (now tape)) ⌝ }
+    ensures { λ r. ⌜ OpeningMet r plan (now (image .entry)) (now (tape .exit)) ⌝ }
+{
+    let t = read_opening::slot_counts(image, p, plan.declared);
     let after_types = t.walk;
     let o = match after_types {
         Walk::Next(o) => o,
-        Walk::Bad(number, at) => {
-            return no_image(number, at);
+        Walk::Bad(_, _) => {
+            return t;
         }
     };
     let types = t.types;
-    let end = h.declared as usize + 1;
-    let opened = read_opening::opening(image, o, &types[..end], h.buffers);
+    let end = plan.declared as usize + 1;
+    let opened = read_opening::opening(image, o, &types[..end], plan.buffers);
     let walk = opened.walk;
     let state = opened.state;
-    ImageRead {
+    layout::copy_into(tape, TYPES_AT, &types);
+    layout_state::lay_state(state, &mut tape[OPENING_AT..]);
+    TypesRead {
         walk: walk,
-        buffers: h.buffers,
-        declared: h.declared,
-        rules: h.rules,
-        facts: h.facts,
-        failure: h.failure,
         types: types,
-        state: state,
     }
 }
 
@@ -87,38 +82,33 @@ fn finish(image: &[u8], at: usize) -> Walk
 {
     let padding = (8 - at % 8) % 8;
     if read_fields::bits(image, at, padding) != 0 {
-        return Walk::Bad(4, 0);
+        return Walk::Bad(BAD_END, 0);
     }
     if at + padding != 8 * image.len() {
-        return Walk::Bad(4, 0);
+        return Walk::Bad(BAD_END, 0);
     }
     Walk::Next(at)
 }
 
-// n facts, m rules and the end, from p on: laid out in words.
-fn contents(
-    image: &[u8],
-    p: usize,
-    types: &[u16],
-    buffers: u16,
-    n: usize,
-    m: usize,
-    facts: &mut [u16],
-    heads: &mut [u16],
-    words: &mut [u16],
-) -> Walk
-    requires { ⌜ (length (now image) ≤ 65536) × (p ≤ 8 * length (now image)) × Small (now types) × (0 < length (now types)) × (buffers ≤ 8) × (m ≤ 256) × (11 * n ≤ length (now facts)) × (4 * m ≤ length (now heads)) × (176 * m ≤ length (now words)) ⌝ }
-    ensures { λ r. ⌜ answer r (contentsIn (now (facts .exit)) (now (heads .exit)) (now (words .exit)) n m) ≡ contents (sizes buffers (now (types .entry))) n m (now (image .entry)) p ⌝ }
-    ensures laid { λ r. ⌜ LaidIf r (now (heads .exit)) (now (words .exit)) m ⌝ }
+// The facts and rules of a plan and the end, from p on: laid on the tape after what is there.
+fn contents(image: &[u8], p: usize, types: &[u16], plan: Plan, tape: &mut [u16]) -> Walk
+    requires { ⌜ (length (now image) ≤ 65536) × (p ≤ 8 * length (now image)) × Small (now types) × (0 < length (now types)) × InBounds plan × (plan .end ≤ length (now tape)) ⌝ }
+    ensures { λ r. ⌜ answer r (contentsOn plan (now (tape .exit))) ≡ contents (sizes (plan .buffers) (now (types .entry))) (plan .facts) (plan .rules) (now (image .entry)) p ⌝ }
+    ensures kept { λ r. ⌜ take 144 (now (tape .exit)) ≡ take 144 (now (tape .entry)) ⌝ }
+    ensures laid { λ r. ⌜ LaidIf r (headsOn plan (now (tape .exit))) (rowsOn plan (now (tape .exit))) (plan .rules) ⌝ }
 {
-    let after_facts = read_facts::facts(image, p, types, n, facts);
+    let n = plan.facts as usize;
+    let after_facts = read_facts::facts(image, p, types, n, &mut tape[FACTS_AT..]);
     let q = match after_facts {
         Walk::Next(q) => q,
         Walk::Bad(number, at) => {
             return Walk::Bad(number, at);
         }
     };
-    let after_rules = read_rules::rules(image, q, m, buffers, types, heads, words);
+    let m = plan.rules as usize;
+    let heads = plan.heads;
+    let rows = HEAD_WORDS * m;
+    let after_rules = read_rules::rules(image, q, m, plan.buffers, types, &mut tape[heads..], rows);
     let o = match after_rules {
         Walk::Next(o) => o,
         Walk::Bad(number, at) => {
@@ -128,16 +118,10 @@ fn contents(
     finish(image, o)
 }
 
-// The rest of an image that begins so: its facts and rules laid out in words, or a refusal.
-pub fn lay_out(
-    image: &[u8],
-    begun: ImageRead,
-    facts: &mut [u16],
-    heads: &mut [u16],
-    words: &mut [u16],
-) -> Walk
-    requires { ⌜ Begun begun (now image) × (11 * begun .facts ≤ length (now facts)) × (4 * begun .rules ≤ length (now heads)) × (176 * begun .rules ≤ length (now words)) ⌝ }
-    ensures { λ r. ⌜ LaidOut r begun (now (image .entry)) (now (facts .exit)) (now (heads .exit)) (now (words .exit)) ⌝ }
+// An image that begins so: laid out on a tape that has room for its plan, or a refusal.
+pub fn lay_out(image: &[u8], begun: PlanRead, tape: &mut [u16]) -> Walk
+    requires { ⌜ Begun begun (now image) × (begun .plan .end ≤ length (now tape)) ⌝ }
+    ensures { λ r. ⌜ LaidOut r (begun .plan) (now (image .entry)) (now (tape .exit)) ⌝ }
 {
     let began = begun.walk;
     let p = match began {
@@ -146,61 +130,30 @@ pub fn lay_out(
             return Walk::Bad(number, at);
         }
     };
-    let types = begun.types;
-    let end = begun.declared as usize + 1;
-    let n = begun.facts as usize;
-    let m = begun.rules as usize;
-    contents(
-        image,
-        p,
-        &types[..end],
-        begun.buffers,
-        n,
-        m,
-        facts,
-        heads,
-        words,
-    )
-}
-
-// Whether a beginning is that of a small image: one whose facts and rules fit the smaller arrays, which cost less to clear.
-pub fn is_small(begun: ImageRead) -> bool
-    ensures { λ r. ⌜ r ≡ (leb (begun .facts) 64 && leb (begun .rules) 16) ⌝ }
-{
-    if 64 < begun.facts {
-        return false;
-    }
-    begun.rules <= 16
-}
-
-fn check_small(image: &[u8], begun: ImageRead) -> Walk
-    requires { ⌜ Begun begun (now image) × (begun .facts ≤ 64) × (begun .rules ≤ 16) ⌝ }
-    ensures { λ r. ⌜ answer r tt ≡ verdict (decode (now (image .entry))) ⌝ }
-{
-    let mut facts = [0u16; 704];
-    let mut heads = [0u16; 64];
-    let mut words = [0u16; 2816];
-    lay_out(image, begun, &mut facts, &mut heads, &mut words)
-}
-
-fn check_large(image: &[u8], begun: ImageRead) -> Walk
-    requires { ⌜ Begun begun (now image) ⌝ }
-    ensures { λ r. ⌜ answer r tt ≡ verdict (decode (now (image .entry))) ⌝ }
-{
-    let mut facts = [0u16; 5632];
-    let mut heads = [0u16; 1024];
-    let mut words = [0u16; 45056];
-    lay_out(image, begun, &mut facts, &mut heads, &mut words)
+    let plan = begun.plan;
+    let t = lay_opening(image, p, plan, tape);
+    let after_opening = t.walk;
+    let q = match after_opening {
+        Walk::Next(q) => q,
+        Walk::Bad(number, at) => {
+            return Walk::Bad(number, at);
+        }
+    };
+    let types = t.types;
+    let end = plan.declared as usize + 1;
+    contents(image, q, &types[..end], plan, tape)
 }
 
 // Whether an image that was begun is accepted, of any length and content: where its last field ends, or the number and place of its refusal.
-pub fn check(image: &[u8], begun: ImageRead) -> Walk
+pub fn check(image: &[u8], begun: PlanRead) -> Walk
     requires { ⌜ Begun begun (now image) ⌝ }
     ensures { λ r. ⌜ answer r tt ≡ verdict (decode (now (image .entry))) ⌝ }
 {
-    if is_small(begun) {
-        check_small(image, begun)
-    } else {
-        check_large(image, begun)
+    let plan = begun.plan;
+    if plan.end <= SMALL_TAPE {
+        let mut tape = [0u16; SMALL_TAPE];
+        return lay_out(image, begun, &mut tape);
     }
+    let mut tape = [0u16; LARGE_TAPE];
+    lay_out(image, begun, &mut tape)
 }

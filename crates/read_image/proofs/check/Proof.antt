@@ -1,37 +1,35 @@
--- `read_image::check` meets its contract: the arrays are large enough either way.
-use mathlib.Core.Path.{_≡_, sym, _∙_}
-use mathlib.Core.Bool.{true, _&&_}
-use lib.Dec.{leb}
-use borrow.Author.Tests.{leb-true}
-use Rattle.laws.specs.BoolLaws.{and-left, and-right}
+-- `read_image::check` meets its contract: on either tape, what is laid out is the verdict.
+use native.Mathlib.Omega.{arith}
+use Rattle.read_image.proofs.WholeLaws.{verdict-of}
 use borrow.Author.Needs.{needs}
 use Rattle.read_image.proofs.check.Statement.{statement}
 use Rattle.read_image.proofs.check.Tie as tie
 
-is-small-requires : tie.Need-is-small-requires
-is-small-requires c κs = search needs
+slice-aggregate-lay-out : tie.Need-slice-aggregate-lay-out
+slice-aggregate-lay-out c = search needs
 
-check-small-requires : tie.Need-check-small-requires
-check-small-requires c κs =
-    let r = c .before .before .before .args .begun in
-    let small : (leb (r .facts) 64 && leb (r .rules) 16) ≡ true = sym (c .before .is-small .ensures) ∙ c .if1 .taken in
-    (c .before .before .before .pre, leb-true (r .facts) 64 (and-left (leb (r .facts) 64) (leb (r .rules) 16) small), leb-true (r .rules) 16 (and-right (leb (r .facts) 64) (leb (r .rules) 16) small))
-
-check-large-requires : tie.Need-check-large-requires
-check-large-requires c κs = search needs
+lay-out-requires : tie.Need-lay-out-requires
+lay-out-requires c κs = search needs
 
 returns : tie.Need-returns
-returns c = search needs
+returns c = let l = c .before in verdict-of (l .lay-out .result) _ _ (l .lay-out .ensures .reads)
+
+slice-aggregate-lay-out-2 : tie.Need-slice-aggregate-lay-out-2
+slice-aggregate-lay-out-2 c = search needs
+
+lay-out-requires-2 : tie.Need-lay-out-requires-2
+lay-out-requires-2 c κs = search needs
 
 returns-2 : tie.Need-returns-2
-returns-2 c = search needs
+returns-2 c = let l = c .before in verdict-of (l .lay-out2 .result) _ _ (l .lay-out2 .ensures .reads)
 
 pub check-spec : {M : Type 1} → statement M
 check-spec =
     tie.close
     (tie.spec
-    is-small-requires
-    check-small-requires
-    check-large-requires
+    slice-aggregate-lay-out
+    lay-out-requires
     returns
+    slice-aggregate-lay-out-2
+    lay-out-requires-2
     returns-2)
