@@ -10,13 +10,13 @@ use Rattle.meaning.specs.Refresh.{refresh}
 use Rattle.layout.specs.Rows.{rulesIn, factsIn}
 use Rattle.layout.specs.StateWords.{stateIn}
 use Rattle.match_choice.specs.Ranks.{Led}
-use Rattle.step_run.proofs.RunLaws.{Going, going-start, going-turn, going-stop, going-end}
+use Rattle.step_run.proofs.RunLaws.{SoFar, going-start, going-turn, going-stop, going-end}
 use Rattle.step_run.proofs.advance.Statement.{statement}
 use Rattle.step_run.proofs.advance.Tie as tie
 
 abbrev Inv-loop : tie.InvT-loop
 Inv-loop state₀ clock table₀ heads words n facts index m failure steps events₀ gates unions leads₀ now₀ made₀ state table events leads now made =
-    (made ≤ steps) × (now ≤ 4294967295) × (steps ≤ 65535) × (length state ≡ length state₀) × (length table ≡ 9 * n) × (length events ≡ length events₀) × ((mo : Model) → mo .rules ≡ rulesIn heads words n → mo .facts ≡ factsIn facts m → mo .failure ≡ failure → Going mo steps state₀ clock table₀ events₀ made state now table events) × (length leads ≡ length leads₀) × Led heads table n leads
+    (made ≤ steps) × (now ≤ 4294967295) × (steps ≤ 65535) × (length state ≡ length state₀) × (length table ≡ 9 * n) × (length events ≡ length events₀) × ((mo : Model) → mo .rules ≡ rulesIn heads words n → mo .facts ≡ factsIn facts m → mo .failure ≡ failure → SoFar mo steps state₀ clock table₀ events₀ made state now table events) × (length leads ≡ length leads₀) × Led heads table n leads
 
 abbrev μ-loop : tie.MeasureT-loop
 μ-loop state₀ clock table₀ heads words n facts index m failure steps events₀ gates unions leads₀ now₀ made₀ state table events leads now made = steps - made
