@@ -1,4 +1,5 @@
-// How what is read of an image is laid out in words: rows of eleven, three words and eight, all alike.
+// How what is read of an image is laid out in words: a tape with a section for each part of a model, and a plan that says where each begins.
+// The rows of facts, tests and actions have eleven words, three and eight, all alike.
 // A fact: type, activation, latency, eight slot values. A test: buffer, type, mask, eight terms at their slots.
 // An action: buffer, deed, mask, eight terms at their slots; the deed is 0 to modify, a type to request, 64 to clear.
 ghost use mathlib.Core.Path.{_≡_};
@@ -6,6 +7,70 @@ ghost use mathlib.Core.List.{_∷_};
 ghost use Prim.Native.Nat.{_+_, _≤_};
 ghost use lib.ListN.{length};
 ghost use lib.Seq.{sets};
+ghost use Rattle.layout.specs.Plans.{planOf};
+
+// How many words stand for one thing: a row; one side of a rule, its tests or its actions, eight rows; both sides; a rule's head; an entry of the table.
+pub const ROW_WORDS: usize = 11;
+
+pub const SIDE_WORDS: usize = 88;
+
+pub const RULE_WORDS: usize = 176;
+
+pub const HEAD_WORDS: usize = 4;
+
+pub const ENTRY_WORDS: usize = 9;
+
+// The words of a buffer, and of the eight of a state.
+pub const BUFFER_WORDS: usize = 10;
+
+pub const STATE_WORDS: usize = 80;
+
+// Where the first sections of every tape begin: the slot counts of 64 types, the opening state, the facts.
+pub const TYPES_AT: usize = 0;
+
+pub const OPENING_AT: usize = 64;
+
+pub const FACTS_AT: usize = 144;
+
+// A model's counts and failure latency, and where its sections begin on a tape: heads, rows, chains, gates, unions, and the end.
+pub struct Plan {
+    pub buffers: u16,
+    pub declared: u16,
+    pub rules: u16,
+    pub facts: u16,
+    pub failure: u16,
+    pub heads: usize,
+    pub rows: usize,
+    pub chains: usize,
+    pub gates: usize,
+    pub unions: usize,
+    pub end: usize,
+}
+
+// The plan for a model with these counts: each section as long as it must be, one after the other.
+pub fn plan_for(buffers: u16, declared: u16, rules: u16, facts: u16, failure: u16) -> Plan
+    ensures { λ r. ⌜ r ≡ planOf buffers declared rules facts failure ⌝ }
+{
+    let n = rules as usize;
+    let heads = FACTS_AT + ROW_WORDS * (facts as usize);
+    let rows = heads + HEAD_WORDS * n;
+    let chains = rows + RULE_WORDS * n;
+    let gates = chains + 64 + facts as usize;
+    let unions = gates + 2 * n;
+    Plan {
+        buffers: buffers,
+        declared: declared,
+        rules: rules,
+        facts: facts,
+        failure: failure,
+        heads: heads,
+        rows: rows,
+        chains: chains,
+        gates: gates,
+        unions: unions,
+        end: unions + 16,
+    }
+}
 
 // Where the next thing starts; or the number of a refusal, and where the refused field starts.
 pub enum Walk {

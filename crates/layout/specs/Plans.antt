@@ -1,0 +1,84 @@
+-- A plan and a tape, and the model that they mean. Every plan and every tape mean some model, so that whoever reads them needs no fact that they are valid.
+use Prim.Native.Nat.{ℕ, _+_, _*_, _≤_}
+use mathlib.Core.Path.{_≡_}
+use mathlib.Core.List.{List, map}
+use lib.ListN.{length, take, drop}
+use Rattle.meaning.specs.declared.Buffer.{Buffer}
+use Rattle.meaning.specs.Model.{Model, Chunk, Fact, Rule}
+use Rattle.meaning.specs.Calls.{openState}
+use Rattle.layout.specs.Walks.{Small}
+use Rattle.layout.specs.Rows.{factsIn, rulesIn, Laid}
+use Rattle.layout.specs.StateWords.{buffersIn, stateIn}
+use Rattle.layout.specs.declared.Plan.{Plan}
+
+-- the sections one after the other: 64 slot counts, 80 words of the opening state, a row for each fact, a head and sixteen rows for each rule;
+-- and what a run lays out besides: 64 chains with a word for each fact, two words a rule for its gate, 16 unions
+abbrev pub planOf : ℕ → ℕ → ℕ → ℕ → ℕ → Plan
+planOf buffers declared rules facts failure =
+    record {
+      buffers = buffers;
+      declared = declared;
+      rules = rules;
+      facts = facts;
+      failure = failure;
+      heads = 144 + 11 * facts;
+      rows = 144 + 11 * facts + 4 * rules;
+      chains = 144 + 11 * facts + 4 * rules + 176 * rules;
+      gates = 144 + 11 * facts + 4 * rules + 176 * rules + 64 + facts;
+      unions = 144 + 11 * facts + 4 * rules + 176 * rules + 64 + facts + 2 * rules;
+      end = 144 + 11 * facts + 4 * rules + 176 * rules + 64 + facts + 2 * rules + 16;
+    }
+
+-- ---- the model that stands on a tape
+
+-- the slot count of each type from 0 to T
+abbrev pub typesOn : Plan → List ℕ → List ℕ
+typesOn p tape = take (p .declared + 1) tape
+
+-- the chunk of a buffer
+abbrev pub chunkIn : Buffer → Chunk
+chunkIn b = record { isa = b .isa; slots = b .slots }
+
+abbrev pub openingOn : Plan → List ℕ → List Chunk
+openingOn p tape = map chunkIn (take (p .buffers) (buffersIn (drop 64 tape)))
+
+abbrev pub factsOn : Plan → List ℕ → List Fact
+factsOn p tape = factsIn (drop 144 tape) (p .facts)
+
+abbrev pub headsOn : Plan → List ℕ → List ℕ
+headsOn p tape = drop (p .heads) tape
+
+abbrev pub rowsOn : Plan → List ℕ → List ℕ
+rowsOn p tape = drop (p .rows) tape
+
+abbrev pub rulesOn : Plan → List ℕ → List Rule
+rulesOn p tape = rulesIn (headsOn p tape) (rowsOn p tape) (p .rules)
+
+unfoldable pub modelOn : Plan → List ℕ → Model
+modelOn p tape =
+    record {
+      buffers = p .buffers;
+      types = typesOn p tape;
+      failure = p .failure;
+      opening = openingOn p tape;
+      facts = factsOn p tape;
+      rules = rulesOn p tape;
+    }
+
+-- ---- what holds of a plan and a tape on which an accepted image was laid out
+
+pub record Planned (p : Plan) (tape : List ℕ) : Type 0 where
+  -- the sections follow each other, and the tape has room for them
+  pub starts : p ≡ planOf (p .buffers) (p .declared) (p .rules) (p .facts) (p .failure)
+  pub room : p .end ≤ length tape
+  -- the counts are those that an image may have
+  pub some-buffers : 1 ≤ p .buffers
+  pub most-buffers : p .buffers ≤ 8
+  pub most-declared : p .declared ≤ 63
+  pub most-facts : p .facts ≤ 512
+  -- no type has more than eight slots
+  pub small : Small (typesOn p tape)
+  -- the rules stand in heads and rows
+  pub laid : Laid (headsOn p tape) (rowsOn p tape) (p .rules)
+  -- the opening section is the opening state
+  pub opens : stateIn (drop 64 tape) 0 ≡ openState (modelOn p tape)
