@@ -2,6 +2,8 @@
 ghost use mathlib.Core.Path.{_≡_};
 ghost use Rattle.meaning.specs.State.{nilAfter, zeroState};
 
+pub mod numbers;
+
 // One buffer: the type of its chunk, eight slot values, and the ms until it is visible.
 // (`isa` is ACT-R's own word for a chunk's type; Rattle keeps the word `type` for itself.)
 pub struct Buffer {
