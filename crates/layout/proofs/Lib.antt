@@ -1,4 +1,4 @@
--- Laws of words, rows, loops and fetched fields, which every layer that reads an image cites.
+-- Laws of words, rows, loops, fetched fields and the sections of a tape, which the layers above cite.
 pub mod WalkLaws
 pub mod WordLaws
 pub mod RowLaws
@@ -6,3 +6,4 @@ pub mod LoopLaws
 pub mod FieldReads
 pub mod StateLaws
 pub mod BestLaws
+pub mod PlanLaws

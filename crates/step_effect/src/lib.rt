@@ -3,11 +3,15 @@ ghost use Prim.Native.Nat.{_+_, _*_, _≤_, _<_};
 ghost use lib.ListN.{length, getD};
 ghost use Rattle.meaning.specs.State.{nilAfter};
 ghost use Rattle.meaning.specs.Retrieval.{retrieve, retrieved};
-ghost use Rattle.layout.specs.Rows.{maskedIn, factsIn};
+ghost use Rattle.layout.specs.Rows.{maskedIn};
 ghost use Rattle.layout.specs.StateWords.{bufferIn};
-ghost use Rattle.step_retrieve.specs.Chains.{Chained};
+ghost use Rattle.layout.specs.Plans.{factsOn, rowsOn, Planned};
+ghost use Rattle.step_retrieve.specs.Chains.{ChainsOn};
 ghost use Rattle.step_wait.specs.Remade.{Remade};
 ghost use Rattle.step_effect.specs.Deeds.{chunkIn, modified};
+use layout::FACTS_AT;
+use layout::Plan;
+use layout::ROW_WORDS;
 use step_retrieve::Found;
 
 // Writes a chunk over buffer k: its type, eight words of `from` that start at `at`, and its delay.
@@ -49,28 +53,22 @@ pub fn modify(state: &mut [u16], k: usize, words: &[u16], q: usize, nine: &[u16]
     state[10 * k + 9] = 0;
 }
 
-// Writes over buffer k the fact that the request at q finds, with its latency as the delay; or nil with the failure latency.
-pub fn request(
-    state: &mut [u16],
-    k: usize,
-    words: &[u16],
-    q: usize,
-    nine: &[u16],
-    facts: &[u16],
-    index: &[u16],
-    n: usize,
-    failure: u16,
-)
-    requires { ⌜ (80 ≤ length (now state)) × (k < 8) × (q + 11 ≤ length (now words)) × (9 ≤ length (now nine)) × (n ≤ 512) × (11 * n ≤ length (now facts)) × Chained (now index) (now facts) n ⌝ }
-    ensures { λ _. ⌜ Remade (now (state .entry)) (now (state .exit)) k (retrieved failure (retrieve (factsIn (now (facts .entry)) n) (getD (now (words .entry)) (q + 1) 0) (maskedIn (now (words .entry)) q) (now (nine .entry)))) ⌝ }
+// Writes over buffer k the fact that the request at q of the rows finds, with its latency as the delay; or nil with the failure latency.
+pub fn request(state: &mut [u16], k: usize, plan: Plan, tape: &[u16], q: usize, nine: &[u16])
+    requires { ⌜ (80 ≤ length (now state)) × (k < 8) × (q + 11 ≤ length (rowsOn plan (now tape))) × (9 ≤ length (now nine)) × Planned plan (now tape) × ChainsOn plan (now tape) ⌝ }
+    ensures { λ _. ⌜ Remade (now (state .entry)) (now (state .exit)) k (retrieved (plan .failure) (retrieve (factsOn plan (now (tape .entry))) (getD (rowsOn plan (now (tape .entry))) (q + 1) 0) (maskedIn (rowsOn plan (now (tape .entry))) q) (now (nine .entry)))) ⌝ }
 {
-    match step_retrieve::retrieve(facts, index, n, words, q, nine) {
+    let rows = plan.rows;
+    let chains = plan.chains;
+    let n = plan.facts as usize;
+    let facts = &tape[FACTS_AT..];
+    match step_retrieve::retrieve(facts, &tape[chains..], n, &tape[rows..], q, nine) {
         Found::Fact(i) => {
-            let f = 11 * i;
+            let f = ROW_WORDS * i;
             fill(state, k, facts[f], facts, f + 3, facts[f + 2]);
         }
         Found::Nothing => {
-            nil(state, k, failure);
+            nil(state, k, plan.failure);
         }
     }
 }

@@ -2,7 +2,8 @@
 use Prim.Native.Nat.{ℕ, _+_, _*_, _%_, _≤_, _<_}
 use mathlib.Core.Path.{_≡_}
 use mathlib.Core.List.{List}
-use lib.ListN.{length, getD}
+use lib.ListN.{length, getD, drop}
+use Rattle.layout.specs.declared.Plan.{Plan}
 
 -- the chain that fact k is in
 abbrev pub chainOf : List ℕ → ℕ → ℕ
@@ -20,3 +21,7 @@ pub record Chained (index facts : List ℕ) (n : ℕ) : Type 0 where
   pub room : 64 + n ≤ length index
   pub starts : (h : ℕ) → h < 64 → Leap facts n h 0 (getD index h 0)
   pub goes-on : (k : ℕ) → k < n → Leap facts n (chainOf facts k) (k + 1) (getD index (64 + k) 0)
+
+-- the chains of a plan's facts stand in the tape's section for them
+abbrev pub ChainsOn : Plan → List ℕ → Type 0
+ChainsOn p tape = Chained (drop (p .chains) tape) (drop 144 tape) (p .facts)

@@ -1,0 +1,41 @@
+-- Where the sections of a plan stand: each begins within the tape, and those whose length the plan gives end there too.
+use Prim.Native.Nat.{ℕ, _+_, _-_, _*_, _≤_}
+use mathlib.Core.Path.{_≡_, ap}
+use mathlib.Core.List.{List}
+use native.Mathlib.Omega.{arith}
+use lib.ListN.{length, take, drop, length-drop}
+use lib.Seq.{take-all}
+use Rattle.layout.specs.declared.Plan.{Plan}
+use Rattle.layout.specs.Plans.{Planned}
+
+pub record Sections (p : Plan) (tape : List ℕ) : Type 0 where
+  pub facts-end : 144 + 11 * p .facts ≤ length tape
+  pub facts-room : 11 * p .facts ≤ length (drop 144 tape)
+  pub heads-end : p .heads + 4 * p .rules ≤ length tape
+  pub rows-end : p .rows + 176 * p .rules ≤ length tape
+  pub chains-end : p .chains + 64 + p .facts ≤ length tape
+  pub gates-end : p .gates + 2 * p .rules ≤ length tape
+  pub unions-end : p .unions + 16 ≤ length tape
+
+pub sections : {p : Plan} {tape : List ℕ} → Planned p tape → Sections p tape
+sections {p} {tape} planned =
+    let e = planned .starts in
+    let heads = ap (λ p. p .heads) e in
+    let rows = ap (λ p. p .rows) e in
+    let chains = ap (λ p. p .chains) e in
+    let gates = ap (λ p. p .gates) e in
+    let unions = ap (λ p. p .unions) e in
+    let end = ap (λ p. p .end) e in
+    record {
+      facts-end = omega (arith, planned .room);
+      facts-room = omega (arith, planned .room, length-drop 144 tape);
+      heads-end = omega (arith, planned .room);
+      rows-end = omega (arith, planned .room);
+      chains-end = omega (arith, planned .room);
+      gates-end = omega (arith, planned .room);
+      unions-end = omega (arith, planned .room);
+    }
+
+-- a part that goes to the tape's end, as a section is handed on, is what the section's start leaves
+pub to-end : (at : ℕ) (tape : List ℕ) → take (length tape - at) (drop at tape) ≡ drop at tape
+to-end at tape = take-all (length tape - at) (drop at tape) (omega (arith, length-drop at tape))
