@@ -9,6 +9,7 @@ ghost use Rattle.layout.specs.Plans.{factsOn, rowsOn, Planned};
 ghost use Rattle.step_retrieve.specs.Chains.{ChainsOn};
 ghost use Rattle.step_wait.specs.Remade.{Remade};
 ghost use Rattle.step_effect.specs.Deeds.{chunkIn, modified};
+use layout::BUFFER_WORDS;
 use layout::FACTS_AT;
 use layout::Plan;
 use layout::ROW_WORDS;
@@ -21,11 +22,11 @@ fn fill(state: &mut [u16], k: usize, isa: u16, from: &[u16], at: usize, delay: u
 {
     let mut b = 0;
     while b < 8 {
-        state[10 * k + 1 + b] = from[at + b];
+        state[BUFFER_WORDS * k + 1 + b] = from[at + b];
         b += 1;
     }
-    state[10 * k] = isa;
-    state[10 * k + 9] = delay;
+    state[BUFFER_WORDS * k] = isa;
+    state[BUFFER_WORDS * k + 9] = delay;
 }
 
 // Writes nil over buffer k, visible after some ms.
@@ -46,11 +47,11 @@ pub fn modify(state: &mut [u16], k: usize, words: &[u16], q: usize, nine: &[u16]
     let mut b = 0;
     while b < 8 {
         if (mask >> (7 - b)) & 1 == 1 {
-            state[10 * k + 1 + b] = step_retrieve::value_of(nine, words[q + 3 + b]);
+            state[BUFFER_WORDS * k + 1 + b] = step_retrieve::value_of(nine, words[q + 3 + b]);
         }
         b += 1;
     }
-    state[10 * k + 9] = 0;
+    state[BUFFER_WORDS * k + 9] = 0;
 }
 
 // Writes over buffer k the fact that the request at q of the rows finds, with its latency as the delay; or nil with the failure latency.

@@ -7,11 +7,14 @@ ghost use lib.ListN.{length};
 ghost use Rattle.meaning.specs.Model.{Rule};
 ghost use Rattle.meaning.specs.Fire.{done, deedOn, after, fire};
 ghost use Rattle.meaning.specs.Mark.{actedOn, markOf};
-ghost use Rattle.layout.specs.Rows.{actionIn, actionsIn, factsIn};
+ghost use Rattle.layout.specs.Rows.{actionIn, actionsIn};
 ghost use Rattle.layout.specs.StateWords.{bufferIn, stateIn};
-ghost use Rattle.step_retrieve.specs.Chains.{Chained};
+ghost use Rattle.layout.specs.Plans.{factsOn, rowsOn, Planned};
+ghost use Rattle.step_retrieve.specs.Chains.{ChainsOn};
 ghost use Rattle.step_wait.specs.Remade.{Remade, arrives};
 ghost use Rattle.step_fire.specs.Acts.{deedAt, RowWithin};
+use layout::Plan;
+use layout::ROW_WORDS;
 
 // Where the row of the action on a buffer starts, if there is one.
 pub enum OnBuffer {
@@ -27,7 +30,7 @@ fn action_on(words: &[u16], o: usize, m: usize, k: usize) -> OnBuffer
 {
     let mut i = 0;
     while i < m {
-        let q = o + 11 * i;
+        let q = o + ROW_WORDS * i;
         if (words[q] % 8) as usize == k {
             return OnBuffer::Row(q);
         }
@@ -36,28 +39,20 @@ fn action_on(words: &[u16], o: usize, m: usize, k: usize) -> OnBuffer
     OnBuffer::NoAction
 }
 
-// Does the action at q on buffer k.
-fn perform(
-    state: &mut [u16],
-    k: usize,
-    words: &[u16],
-    q: usize,
-    nine: &[u16],
-    facts: &[u16],
-    index: &[u16],
-    n: usize,
-    failure: u16,
-)
-    requires { ⌜ (80 ≤ length (now state)) × (k < 8) × (q + 11 ≤ length (now words)) × (9 ≤ length (now nine)) × (n ≤ 512) × (11 * n ≤ length (now facts)) × Chained (now index) (now facts) n ⌝ }
-    ensures { λ _. ⌜ Remade (now (state .entry)) (now (state .exit)) k (done failure (factsIn (now (facts .entry)) n) (now (nine .entry)) (bufferIn (now (state .entry)) k) (actionIn (now (words .entry)) q .deed)) ⌝ }
+// Does the action at q of the rows on buffer k.
+fn perform(state: &mut [u16], k: usize, plan: Plan, tape: &[u16], q: usize, nine: &[u16])
+    requires { ⌜ (80 ≤ length (now state)) × (k < 8) × (q + 11 ≤ length (rowsOn plan (now tape))) × (9 ≤ length (now nine)) × Planned plan (now tape) × ChainsOn plan (now tape) ⌝ }
+    ensures { λ _. ⌜ Remade (now (state .entry)) (now (state .exit)) k (done (plan .failure) (factsOn plan (now (tape .entry))) (now (nine .entry)) (bufferIn (now (state .entry)) k) (actionIn (rowsOn plan (now (tape .entry))) q .deed)) ⌝ }
 {
+    let rows = plan.rows;
+    let words = &tape[rows..];
     let deed = words[q + 1];
     if deed == 0 {
         step_effect::modify(state, k, words, q, nine);
         return;
     }
     if deed < 64 {
-        step_effect::request(state, k, words, q, nine, facts, index, n, failure);
+        step_effect::request(state, k, plan, tape, q, nine);
         return;
     }
     step_effect::nil(state, k, 0);
@@ -68,22 +63,20 @@ fn perform(
 fn act(
     state: &mut [u16],
     k: usize,
-    words: &[u16],
+    plan: Plan,
+    tape: &[u16],
     o: usize,
     m: usize,
     nine: &[u16],
-    facts: &[u16],
-    index: &[u16],
-    n: usize,
-    failure: u16,
 ) -> bool
-    requires { ⌜ (80 ≤ length (now state)) × (k < 8) × (o + 11 * m ≤ length (now words)) × (9 ≤ length (now nine)) × (n ≤ 512) × (11 * n ≤ length (now facts)) × Chained (now index) (now facts) n ⌝ }
-    ensures { λ _. ⌜ Remade (now (state .entry)) (now (state .exit)) k (after failure (factsIn (now (facts .entry)) n) (now (nine .entry)) (bufferIn (now (state .entry)) k) (deedOn (actionsIn (now (words .entry)) o m) k)) ⌝ }
-    ensures mark { λ r. ⌜ r ≡ (actedOn (actionsIn (now (words .entry)) o m) k || arrives (bufferIn (now (state .entry)) k) (after failure (factsIn (now (facts .entry)) n) (now (nine .entry)) (bufferIn (now (state .entry)) k) (deedOn (actionsIn (now (words .entry)) o m) k))) ⌝ }
+    requires { ⌜ (80 ≤ length (now state)) × (k < 8) × (o + 11 * m ≤ length (rowsOn plan (now tape))) × (9 ≤ length (now nine)) × Planned plan (now tape) × ChainsOn plan (now tape) ⌝ }
+    ensures { λ _. ⌜ Remade (now (state .entry)) (now (state .exit)) k (after (plan .failure) (factsOn plan (now (tape .entry))) (now (nine .entry)) (bufferIn (now (state .entry)) k) (deedOn (actionsIn (rowsOn plan (now (tape .entry))) o m) k)) ⌝ }
+    ensures mark { λ r. ⌜ r ≡ (actedOn (actionsIn (rowsOn plan (now (tape .entry))) o m) k || arrives (bufferIn (now (state .entry)) k) (after (plan .failure) (factsOn plan (now (tape .entry))) (now (nine .entry)) (bufferIn (now (state .entry)) k) (deedOn (actionsIn (rowsOn plan (now (tape .entry))) o m) k))) ⌝ }
 {
-    match action_on(words, o, m, k) {
+    let rows = plan.rows;
+    match action_on(&tape[rows..], o, m, k) {
         OnBuffer::Row(q) => {
-            perform(state, k, words, q, nine, facts, index, n, failure);
+            perform(state, k, plan, tape, q, nine);
             true
         }
         OnBuffer::NoAction => step_wait::lower(state, k, 50),
@@ -91,26 +84,16 @@ fn act(
 }
 
 // Fires a rule with the m actions from o on and the nine words of its entry; the mark of the buffers acted on or arrived.
-pub fn fire(
-    state: &mut [u16],
-    words: &[u16],
-    o: usize,
-    m: usize,
-    nine: &[u16],
-    facts: &[u16],
-    index: &[u16],
-    n: usize,
-    failure: u16,
-) -> u16
-    requires { ⌜ (80 ≤ length (now state)) × (o + 11 * m ≤ length (now words)) × (m ≤ 8) × (9 ≤ length (now nine)) × (n ≤ 512) × (11 * n ≤ length (now facts)) × Chained (now index) (now facts) n ⌝ }
-    ensures { λ _. ⌜ ((clock : ℕ) (r : Rule) → r .actions ≡ actionsIn (now (words .entry)) o m → stateIn (now (state .exit)) (clock + 50) ≡ fire failure (factsIn (now (facts .entry)) n) r (now (nine .entry)) (stateIn (now (state .entry)) clock)) ⌝ }
-    ensures mark { λ r. ⌜ ((clock clock′ : ℕ) → r ≡ markOf (actionsIn (now (words .entry)) o m) (stateIn (now (state .entry)) clock) (stateIn (now (state .exit)) clock′)) ⌝ }
+pub fn fire(state: &mut [u16], plan: Plan, tape: &[u16], o: usize, m: usize, nine: &[u16]) -> u16
+    requires { ⌜ (80 ≤ length (now state)) × (o + 11 * m ≤ length (rowsOn plan (now tape))) × (m ≤ 8) × (9 ≤ length (now nine)) × Planned plan (now tape) × ChainsOn plan (now tape) ⌝ }
+    ensures { λ _. ⌜ ((clock : ℕ) (r : Rule) → r .actions ≡ actionsIn (rowsOn plan (now (tape .entry))) o m → stateIn (now (state .exit)) (clock + 50) ≡ fire (plan .failure) (factsOn plan (now (tape .entry))) r (now (nine .entry)) (stateIn (now (state .entry)) clock)) ⌝ }
+    ensures mark { λ r. ⌜ ((clock clock′ : ℕ) → r ≡ markOf (actionsIn (rowsOn plan (now (tape .entry))) o m) (stateIn (now (state .entry)) clock) (stateIn (now (state .exit)) clock′)) ⌝ }
 {
     let mut mark = 0u16;
     let mut weight = 1u16;
     let mut k = 0;
     while k < 8 {
-        if act(state, k, words, o, m, nine, facts, index, n, failure) {
+        if act(state, k, plan, tape, o, m, nine) {
             mark += weight;
         }
         weight *= 2;

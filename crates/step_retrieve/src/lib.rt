@@ -7,6 +7,7 @@ ghost use Rattle.meaning.specs.Retrieval.{valueOf, fits, retrieve};
 ghost use Rattle.layout.specs.Rows.{wordTerm, maskedIn, factIn, factsIn};
 ghost use Rattle.step_retrieve.specs.Found.{factOf, Below};
 ghost use Rattle.step_retrieve.specs.Chains.{Chained};
+use layout::ROW_WORDS;
 
 // The number of the fact that is found.
 pub enum Found {
@@ -68,7 +69,7 @@ pub fn chain(index: &mut [u16], facts: &[u16], n: usize)
     let mut k = n;
     while 0 < k {
         k -= 1;
-        let h = (facts[11 * k + 3] % 64) as usize;
+        let h = (facts[ROW_WORDS * k + 3] % 64) as usize;
         index[64 + k] = index[h];
         index[h] = k as u16;
     }
@@ -104,7 +105,7 @@ pub fn retrieve(
     let mut least = 0;
     let mut k = leap(index, (first % 64) as usize, chained, 0);
     while k < n {
-        let f = 11 * k;
+        let f = ROW_WORDS * k;
         if facts[f] == isa {
             let activation = facts[f + 1] as u32;
             if least <= activation {

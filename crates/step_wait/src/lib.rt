@@ -8,6 +8,7 @@ ghost use Rattle.meaning.specs.Wait.{sooner, soonest, wait};
 ghost use Rattle.meaning.specs.Mark.{markOf};
 ghost use Rattle.layout.specs.StateWords.{bufferIn, buffersIn, stateIn};
 ghost use Rattle.step_wait.specs.Remade.{Remade, arrives};
+use layout::BUFFER_WORDS;
 
 // The smaller of two delays, where 0 does not count.
 fn sooner(ms: u16, delay: u16) -> u16
@@ -30,7 +31,7 @@ pub fn soonest(state: &[u16]) -> u16
     let mut ms = 0u16;
     let mut k = 0;
     while k < 8 {
-        ms = sooner(ms, state[10 * k + 9]);
+        ms = sooner(ms, state[BUFFER_WORDS * k + 9]);
         k += 1;
     }
     ms
@@ -41,7 +42,7 @@ pub fn lower(state: &mut [u16], k: usize, ms: u16) -> bool
     requires { ⌜ (80 ≤ length (now state)) × (k < 8) ⌝ }
     ensures { λ r. ⌜ Remade (now (state .entry)) (now (state .exit)) k (later ms (bufferIn (now (state .entry)) k)) × (r ≡ arrives (bufferIn (now (state .entry)) k) (later ms (bufferIn (now (state .entry)) k))) ⌝ }
 {
-    let at = 10 * k + 9;
+    let at = BUFFER_WORDS * k + 9;
     let delay = state[at];
     if delay <= ms {
         state[at] = 0;

@@ -2,30 +2,59 @@
 use borrow.Author.Needs.{needs}
 use Prim.Native.Nat.{_+_}
 use native.Mathlib.Omega.{arith}
-use lib.ListN.{getD}
-use Rattle.layout.specs.Rows.{maskedIn, factsIn}
+use lib.ListN.{getD, length-drop}
+use Rattle.layout.specs.Rows.{maskedIn}
 use Rattle.layout.specs.StateWords.{bufferIn}
+use Rattle.layout.specs.Plans.{factsOn, rowsOn}
+use Rattle.layout.proofs.PlanLaws.{sections, to-end}
 use Rattle.step_fire.proofs.ActLaws.{done-modify, done-request, done-clear}
 use Rattle.step_fire.proofs.perform.Statement.{statement}
 use Rattle.step_fire.proofs.perform.Tie as tie
 
+mul-words : tie.Need-mul-words
+mul-words c = let s = sections (c .before .before .before .pre .4) in search needs
+
+sub-words : tie.Need-sub-words
+sub-words c = let s = sections (c .before .before .before .pre .4) in search needs
+
+part-words-start : tie.Need-part-words-start
+part-words-start c = let s = sections (c .before .before .before .pre .4) in search needs
+
+part-words-end : tie.Need-part-words-end
+part-words-end c = search needs
+
 add-deed : tie.Need-add-deed
-add-deed c = search needs
+add-deed c =
+    let a = c .before .before .before .before .args in
+    let room = length-drop (a .plan .rows) (a .tape .now) in
+    search needs
 
 mul-deed : tie.Need-mul-deed
-mul-deed c = search needs
+mul-deed c =
+    let a = c .before .before .before .before .args in
+    let room = length-drop (a .plan .rows) (a .tape .now) in
+    search needs
 
 shared-slice-read-deed : tie.Need-shared-slice-read-deed
-shared-slice-read-deed c = search needs
+shared-slice-read-deed c =
+    let a = c .before .before .before .before .before .args in
+    let room = length-drop (a .plan .rows) (a .tape .now) in
+    search needs
 
 modify-requires : tie.Need-modify-requires
-modify-requires c κs = search needs
+modify-requires c κs =
+    let pre = c .before .before .before .before .before .before .before .pre in
+    simp to-end (pre .0, pre .1, pre .2, pre .3)
 
 same-length : tie.Need-same-length
 same-length c = search needs
 
 returns : tie.Need-returns
-returns c = let a = c .before .before .before .before .before .before .before .before .before .before .before .args in rw (done-modify (a .failure) (factsIn (a .facts .now) (a .n)) (a .nine .now) (bufferIn (a .state .now) (a .k)) (getD (a .words .now) (a .q + 1) 0) (maskedIn (a .words .now) (a .q)) (c .before .before .before .before .if1 .taken)) (c .before .before .modify .ensures)
+returns c =
+    let a = c .before .before .before .before .before .before .before .before .before .before .args in
+    let rows = rowsOn (a .plan) (a .tape .now) in
+    let is-modify = done-modify (a .plan .failure) (factsOn (a .plan) (a .tape .now)) (a .nine .now) (bufferIn (a .state .now) (a .k)) (getD rows (a .q + 1) 0) (maskedIn rows (a .q)) in
+    rw (is-modify (simp to-end at (c .before .before .before .before .if1 .taken))) (simp to-end at (c .before .before .modify .ensures))
 
 request-requires : tie.Need-request-requires
 request-requires c κs = search needs
@@ -34,7 +63,13 @@ same-length-2 : tie.Need-same-length-2
 same-length-2 c = search needs
 
 returns-2 : tie.Need-returns-2
-returns-2 c = let a = c .before .before .before .before .before .before .before .before .before .before .before .before .args in rw (done-request (a .failure) (factsIn (a .facts .now) (a .n)) (a .nine .now) (bufferIn (a .state .now) (a .k)) (getD (a .words .now) (a .q + 1) 0) (maskedIn (a .words .now) (a .q)) (c .before .before .before .before .before .if1 .left) (omega arith)) (c .before .before .request .ensures)
+returns-2 c =
+    let a = c .before .before .before .before .before .before .before .before .before .before .before .args in
+    let no-modify = c .before .before .before .before .before .if1 .left in
+    let below = c .before .before .before .before .if2 .taken in
+    let rows = rowsOn (a .plan) (a .tape .now) in
+    let is-request = done-request (a .plan .failure) (factsOn (a .plan) (a .tape .now)) (a .nine .now) (bufferIn (a .state .now) (a .k)) (getD rows (a .q + 1) 0) (maskedIn rows (a .q)) in
+    rw (is-request (simp to-end at no-modify) (simp to-end at below)) (c .before .before .request .ensures)
 
 nil-requires : tie.Need-nil-requires
 nil-requires c κs = search needs
@@ -43,12 +78,22 @@ same-length-3 : tie.Need-same-length-3
 same-length-3 c = search needs
 
 returns-3 : tie.Need-returns-3
-returns-3 c = let a = c .before .before .before .before .before .before .before .before .before .before .before .before .args in rw (done-clear (a .failure) (factsIn (a .facts .now) (a .n)) (a .nine .now) (bufferIn (a .state .now) (a .k)) (getD (a .words .now) (a .q + 1) 0) (maskedIn (a .words .now) (a .q)) (c .before .before .before .before .before .if1 .left) (omega arith)) (c .before .before .nil .ensures)
+returns-3 c =
+    let a = c .before .before .before .before .before .before .before .before .before .before .before .args in
+    let no-modify = c .before .before .before .before .before .if1 .left in
+    let no-request = c .before .before .before .before .if2 .left in
+    let rows = rowsOn (a .plan) (a .tape .now) in
+    let is-clear = done-clear (a .plan .failure) (factsOn (a .plan) (a .tape .now)) (a .nine .now) (bufferIn (a .state .now) (a .k)) (getD rows (a .q + 1) 0) (maskedIn rows (a .q)) in
+    rw (is-clear (simp to-end at no-modify) (simp to-end at no-request)) (c .before .before .nil .ensures)
 
 pub perform-spec : {M : Type 1} → statement M
 perform-spec =
     tie.close
     (tie.spec
+    mul-words
+    sub-words
+    part-words-start
+    part-words-end
     add-deed
     mul-deed
     shared-slice-read-deed
