@@ -8,11 +8,10 @@ use Rattle.meaning.specs.Model.{Model}
 use Rattle.meaning.specs.Read.{Read, Refused, Got}
 use Rattle.meaning.specs.Image.{decode}
 use Rattle.meaning.specs.Match.{freshTable}
-use Rattle.meaning.specs.Calls.{accepted, wordsFor, tableLength, Opened, openState, openedBy, openOf}
-use Rattle.meaning.specs.Print.{End, printedBy, printed}
+use Rattle.meaning.specs.Calls.{accepted, wordsFor, tableLength, Opened, openState, openedBy, openOf, traceOf}
+use Rattle.meaning.specs.Print.{End, linesOf, printedBy, printed}
 use Rattle.laws.specs.EntryLaws.{fresh-length}
 use Rattle.laws.specs.OpenLaws.{open-well}
-use Rattle.actr.specs.Lines.{linesOf}
 
 module _ (image table : List ℕ) (room : length table ≡ tableLength image) where
   -- the table has the right length, so the image alone decides
@@ -23,8 +22,8 @@ module _ (image table : List ℕ) (room : length table ≡ tableLength image) wh
       let l : length table ≡ 9 * length (m .rules) = room ∙ ap wordsFor e in
       rw (e, eq-eqb (length table) (9 * length (m .rules)) l)
 
-  lines-as : (r : Read Model) → decode image ≡ r → linesOf image (openedBy table r .state) (openedBy table r .table) 1000 ≡ printedBy r
-  unfolding linesOf accepted
+  lines-as : (r : Read Model) → decode image ≡ r → linesOf (traceOf image (openedBy table r .state) (openedBy table r .table) 1000) ≡ printedBy r
+  unfolding traceOf accepted
   lines-as (Refused n at) e = rw e
   lines-as (Got m at) e =
       let table′ : List ℕ = freshTable (m .rules) (openState m) in
@@ -32,9 +31,9 @@ module _ (image table : List ℕ) (room : length table ≡ tableLength image) wh
 
   module _ (o : Opened) (is : o ≡ openOf image table) where
     -- the run from what open gives has the lines that are printed
-    pub printed-run : linesOf image (o .state) (o .table) 1000 ≡ printed image
+    pub printed-run : linesOf (traceOf image (o .state) (o .table) 1000) ≡ printed image
     unfolding printed
-    printed-run = ap (λ (o : Opened). linesOf image (o .state) (o .table) 1000) (is ∙ opened-as (decode image) refl) ∙ lines-as (decode image) refl
+    printed-run = ap (λ (o : Opened). linesOf (traceOf image (o .state) (o .table) 1000)) (is ∙ opened-as (decode image) refl) ∙ lines-as (decode image) refl
 
     -- "A refused opening prints that line alone."
     pub printed-refused : (o .number ≡ 0 → ⊥) → End (o .number) 0 ∷ [] ≡ printed image

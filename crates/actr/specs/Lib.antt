@@ -2,4 +2,3 @@
 pub mod Text
 pub mod Examples
 pub mod Written
-pub mod Lines

@@ -5,11 +5,10 @@ ghost use mathlib.Core.Path.{_≡_};
 ghost use Prim.Native.Nat.{_≤_};
 ghost use lib.ListN.{length, take};
 ghost use Rattle.io.specs.Counts.{Counts};
-ghost use Rattle.meaning.specs.Print.{printed};
-ghost use Rattle.meaning.specs.Calls.{tableLength};
+ghost use Rattle.meaning.specs.Print.{linesOf, printed};
+ghost use Rattle.meaning.specs.Calls.{tableLength, traceOf};
 ghost use Rattle.actr.specs.Text.{text as Text·text};
 ghost use Rattle.actr.specs.Written.{Written};
-ghost use Rattle.actr.specs.Lines.{linesOf};
 use lines::put_end;
 use lines::put_steps;
 use meaning::State;
@@ -17,7 +16,7 @@ use meaning::State;
 // Runs at most 1,000 steps from a state, and puts a line of at most 27 letters for each and the last line, of at most 26.
 fn print_run(image: &[u8], state: State, table: &mut [u16], text: &mut [u8]) -> usize
     requires { ⌜ 27026 ≤ length (now text) ⌝ }
-    ensures { λ r. ⌜ Written (now (text .entry)) 0 (now (text .exit)) r 27026 (Text·text (linesOf (now (image .entry)) state (now (table .entry)) 1000)) ⌝ }
+    ensures { λ r. ⌜ Written (now (text .entry)) 0 (now (text .exit)) r 27026 (Text·text (linesOf (traceOf (now (image .entry)) state (now (table .entry)) 1000))) ⌝ }
 {
     let mut events = [0u32; 3000];
     let done = calls::trace(image, state, table, 1000, &mut events);

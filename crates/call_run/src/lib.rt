@@ -4,12 +4,12 @@ ghost use Prim.Native.Nat.{_*_, _≤_};
 ghost use lib.ListN.{length};
 ghost use Rattle.meaning.specs.Model.{Model};
 ghost use Rattle.meaning.specs.Read.{Got};
-ghost use Rattle.meaning.specs.Calls.{accepted, runOf};
+ghost use Rattle.meaning.specs.Calls.{accepted, traceOf, runOf};
 ghost use Rattle.layout.specs.Rows.{Laid};
 ghost use Rattle.read_image.specs.Whole.{Begun};
 ghost use Rattle.step_run.specs.Events.{inscribed};
 ghost use Rattle.call_accept.specs.Acceptance.{Room, Small};
-ghost use Rattle.call_run.specs.Answers.{Stands, RunMet, ranBack, eventsOf};
+ghost use Rattle.call_run.specs.Answers.{Stands, RunMet, ranBack};
 use call_accept::Taken;
 use meaning::State;
 use read_image::ImageRead;
@@ -191,7 +191,7 @@ pub fn trace(
     steps: u16,
     events: &mut [u32],
 ) -> RunDone
-    ensures { λ r. ⌜ (ranBack r (now (table .exit)) ≡ runOf (now (image .entry)) state (now (table .entry)) steps) × (now (events .exit) ≡ inscribed (now (events .entry)) 0 (eventsOf (now (image .entry)) state (now (table .entry)) steps)) ⌝ }
+    ensures { λ r. ⌜ (ranBack r (now (table .exit)) ≡ runOf (now (image .entry)) state (now (table .entry)) steps) × (now (events .exit) ≡ inscribed (now (events .entry)) 0 (traceOf (now (image .entry)) state (now (table .entry)) steps .events)) ⌝ }
 {
     let begun = read_image::begin(image);
     if read_image::is_small(begun) {

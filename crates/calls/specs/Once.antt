@@ -3,14 +3,14 @@ use mathlib.Core.Path.{_≡_, sym, ap, _∙_}
 use mathlib.Core.List.{List}
 use Prim.Native.Nat.{ℕ}
 use Rattle.meaning.specs.declared.State.{State}
-use Rattle.meaning.specs.Calls.{Opened, openOf, Ran, runOf, Refreshed, refreshOf, tableLength}
+use Rattle.meaning.specs.Calls.{Opened, openOf, Ran, traceOf, runOf, Refreshed, refreshOf, tableLength}
 use Rattle.step_run.specs.Events.{inscribed}
 use Rattle.call_open.specs.declared.OpenDone.{OpenDone}
 use Rattle.call_open.specs.Answers.{openedIn}
 use Rattle.call_refresh.specs.declared.RefreshDone.{RefreshDone}
 use Rattle.call_refresh.specs.Answers.{refreshedIn}
 use Rattle.call_run.specs.declared.RunDone.{RunDone}
-use Rattle.call_run.specs.Answers.{ranBack, eventsOf}
+use Rattle.call_run.specs.Answers.{ranBack}
 
 -- the words that a table needs
 pub length-once : (image : List ℕ) (r r′ : ℕ) → r ≡ tableLength image → r′ ≡ tableLength image → r ≡ r′
@@ -32,7 +32,7 @@ run-once image s table steps r r′ left left′ p q =
 
 -- what trace notes besides: every word of the events, those past the steps made among them
 pub events-once : (image : List ℕ) (s : State) (table : List ℕ) (steps : ℕ) (events noted noted′ : List ℕ)
-    → noted ≡ inscribed events 0 (eventsOf image s table steps) → noted′ ≡ inscribed events 0 (eventsOf image s table steps) → noted ≡ noted′
+    → noted ≡ inscribed events 0 (traceOf image s table steps .events) → noted′ ≡ inscribed events 0 (traceOf image s table steps .events) → noted ≡ noted′
 events-once image s table steps events noted noted′ p q = p ∙ sym q
 
 -- what refresh gives: number and count; and the table that it leaves

@@ -1,11 +1,11 @@
 // The calls: open, run and refresh, and the length of the table that they need. Each takes whatever it is handed,
 // and does its work or refuses by number; none has a `requires`.
 ghost use mathlib.Core.Path.{_≡_};
-ghost use Rattle.meaning.specs.Calls.{tableLength, openOf, runOf, refreshOf};
+ghost use Rattle.meaning.specs.Calls.{tableLength, openOf, traceOf, runOf, refreshOf};
 ghost use Rattle.step_run.specs.Events.{inscribed};
 ghost use Rattle.call_open.specs.Answers.{openedIn};
 ghost use Rattle.call_refresh.specs.Answers.{refreshedIn};
-ghost use Rattle.call_run.specs.Answers.{ranBack, eventsOf};
+ghost use Rattle.call_run.specs.Answers.{ranBack};
 pub use call_open::OpenDone;
 pub use call_refresh::RefreshDone;
 pub use call_run::RunDone;
@@ -46,7 +46,7 @@ pub fn trace(
     steps: u16,
     events: &mut [u32],
 ) -> RunDone
-    ensures { λ r. ⌜ (ranBack r (now (table .exit)) ≡ runOf (now (image .entry)) state (now (table .entry)) steps) × (now (events .exit) ≡ inscribed (now (events .entry)) 0 (eventsOf (now (image .entry)) state (now (table .entry)) steps)) ⌝ }
+    ensures { λ r. ⌜ (ranBack r (now (table .exit)) ≡ runOf (now (image .entry)) state (now (table .entry)) steps) × (now (events .exit) ≡ inscribed (now (events .entry)) 0 (traceOf (now (image .entry)) state (now (table .entry)) steps .events)) ⌝ }
 {
     call_run::trace(image, state, table, steps, events)
 }

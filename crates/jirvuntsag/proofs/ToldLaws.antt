@@ -11,9 +11,9 @@ use Rattle.meaning.specs.Base.{if_then_else_}
 use Rattle.meaning.specs.Model.{Model}
 use Rattle.meaning.specs.State.{wellFormed}
 use Rattle.meaning.specs.Read.{Read, Refused, Got}
-use Rattle.meaning.specs.Calls.{accepted, Opened, openOf, Ran, runOf, ranBy, Refreshed, refreshOf, refreshedBy}
+use Rattle.meaning.specs.Run.{going, Run, ends}
+use Rattle.meaning.specs.Calls.{accepted, Opened, openOf, Ran, tracedBy, traceOf, ranBy, runOf, Refreshed, refreshOf, refreshedBy}
 use Rattle.step_run.specs.Events.{inscribed}
-use Rattle.call_run.specs.Answers.{eventsOf, eventsBy}
 use Rattle.jirvuntsag.specs.Words.{stateOf, wordsOf, fits, unfitState, givenBy}
 use Rattle.jirvuntsag.specs.Told.{answer, unfitBy, told, toldOpen, toldRun, toldRefresh, openIn, runIn, refreshIn, eventsIn}
 
@@ -28,22 +28,15 @@ unfit m = rw (and-none (ltb 0 (length (m .types))))
 answer-none : (n : ℕ) → answer n 0 ≡ n
 answer-none n = omega arith
 
-abbrev ranNone : ℕ → List ℕ → Ran
-ranNone n table = record { number = n; state = unfitState; table = table; made = 0 }
-
 abbrev refreshedNone : ℕ → List ℕ → Refreshed
 refreshedNone n table = record { number = n; count = 0; table = table }
 
 -- ---- what the calls answer on the unfit state
 
 module _ (table : List ℕ) (k : ℕ) where
-  unfit-ran : (r : Read Model) → ranBy unfitState table k r ≡ ranNone (unfitBy r) table
+  unfit-ran : (r : Read Model) → tracedBy (going unfitState table) k r ≡ ends (unfitBy r) (going unfitState table)
   unfit-ran (Refused n at) = refl
   unfit-ran (Got m at) = rw (unfit m)
-
-  unfit-events : (r : Read Model) → eventsBy unfitState table k r ≡ []
-  unfit-events (Refused n at) = refl
-  unfit-events (Got m at) = rw (unfit m)
 
   unfit-refreshed : (r : Read Model) → refreshedBy unfitState k table r ≡ refreshedNone (unfitBy r) table
   unfit-refreshed (Refused n at) = refl
@@ -62,10 +55,10 @@ module _ (image w table : List ℕ) (k : ℕ) where
   run-by : (b : Bool) (r : Ran) → r ≡ runOf image (if b then stateOf w else unfitState) table k
       → told (answer (r .number) (r .made)) (if b then wordsOf (r .state) else w) (r .table)
       ≡ (if b then toldRun (runOf image (stateOf w) table k) else told (unfitBy (accepted image table)) w table)
-  unfolding runOf
+  unfolding runOf traceOf
   run-by true r e = ap toldRun e
   run-by false r e =
-      ap (λ (r : Ran). told (answer (r .number) (r .made)) w (r .table)) (e ∙ unfit-ran table k (accepted image table))
+      ap (λ (r : Ran). told (answer (r .number) (r .made)) w (r .table)) (e ∙ ap ranBy (unfit-ran table k (accepted image table)))
       ∙ ap (λ (n : ℕ). told n w table) (answer-none (unfitBy (accepted image table)))
 
   pub run-told : (b : Bool) (s : State) (r : Ran) (a : ℕ) (w′ : List ℕ) → b ≡ fits w → s ≡ givenBy w → r ≡ runOf image s table k
@@ -74,15 +67,15 @@ module _ (image w table : List ℕ) (k : ℕ) where
   run-told b s r a w′ f g e l n =
       rw (n, l, f) (run-by (fits w) r (e ∙ ap (λ (s : State). runOf image s table k) g))
 
-  events-by : (b : Bool) → eventsOf image (if b then stateOf w else unfitState) table k ≡ (if b then eventsOf image (stateOf w) table k else [])
-  unfolding eventsOf
+  events-by : (b : Bool) → traceOf image (if b then stateOf w else unfitState) table k .events ≡ (if b then traceOf image (stateOf w) table k .events else [])
+  unfolding traceOf
   events-by true = refl
-  events-by false = unfit-events table k (accepted image table)
+  events-by false = ap (λ (r : Run). r .events) (unfit-ran table k (accepted image table))
 
-  pub events-told : (s : State) (lent lent′ : List ℕ) → s ≡ givenBy w → lent′ ≡ inscribed lent 0 (eventsOf image s table k)
+  pub events-told : (s : State) (lent lent′ : List ℕ) → s ≡ givenBy w → lent′ ≡ inscribed lent 0 (traceOf image s table k .events)
       → lent′ ≡ inscribed lent 0 (eventsIn image w table k)
   unfolding eventsIn
-  events-told s lent lent′ g e = e ∙ ap (inscribed lent 0) (ap (λ (s : State). eventsOf image s table k) g ∙ events-by (fits w))
+  events-told s lent lent′ g e = e ∙ ap (inscribed lent 0) (ap (λ (s : State). traceOf image s table k .events) g ∙ events-by (fits w))
 
   refresh-by : (b : Bool) (r : Refreshed) → r ≡ refreshOf image (if b then stateOf w else unfitState) k table
       → toldRefresh w r ≡ (if b then toldRefresh w (refreshOf image (stateOf w) k table) else told (unfitBy (accepted image table)) w table)

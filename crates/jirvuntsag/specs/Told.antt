@@ -5,8 +5,8 @@ use Rattle.meaning.specs.Base.{if_then_else_}
 use Rattle.meaning.specs.Numbers.{ill-formed}
 use Rattle.meaning.specs.Model.{Model}
 use Rattle.meaning.specs.Read.{Read, Refused, Got}
-use Rattle.meaning.specs.Calls.{accepted, Opened, openOf, Ran, runOf, Refreshed, refreshOf}
-use Rattle.call_run.specs.Answers.{eventsOf}
+use Rattle.meaning.specs.Run.{Timed}
+use Rattle.meaning.specs.Calls.{accepted, Opened, openOf, Ran, traceOf, runOf, Refreshed, refreshOf}
 use Rattle.jirvuntsag.specs.Words.{stateOf, wordsOf, fits}
 
 abbrev pub answer : ℕ → ℕ → ℕ
@@ -49,5 +49,5 @@ refreshIn image w mark table =
     if fits w then toldRefresh w (refreshOf image (stateOf w) mark table) else told (unfitBy (accepted image table)) w table
 
 -- the events of a run, none if it is refused
-unfoldable pub eventsIn : List ℕ → List ℕ → List ℕ → ℕ → List (List ℕ)
-eventsIn image w table steps = if fits w then eventsOf image (stateOf w) table steps else []
+unfoldable pub eventsIn : List ℕ → List ℕ → List ℕ → ℕ → List Timed
+eventsIn image w table steps = if fits w then traceOf image (stateOf w) table steps .events else []

@@ -1,7 +1,7 @@
 -- "Calls and their numbers": open, run and refresh, for all that they could be handed.
 use mathlib.Core.Bool.{Bool, not}
 use mathlib.Core.List.{List, _++_, map}
-use Prim.Native.Nat.{ℕ, zero, suc, _+_, _-_, _*_, _^_}
+use Prim.Native.Nat.{ℕ, _-_, _*_, _^_}
 use lib.Dec.{leb, eqb}
 use lib.ListN.{length, replicate}
 use Rattle.meaning.specs.declared.Buffer.{Buffer}
@@ -13,8 +13,8 @@ use Rattle.meaning.specs.State.{nilAfter, zeroState, wellFormed}
 use Rattle.meaning.specs.Read.{Read, Refused, Got}
 use Rattle.meaning.specs.Image.{decode}
 use Rattle.meaning.specs.Match.{freshTable}
-use Rattle.meaning.specs.Step.{Step, Stopped, Made, stepOf}
 use Rattle.meaning.specs.Refresh.{refresh, refreshCount}
+use Rattle.meaning.specs.Run.{Going, going, Run, ends, runFrom}
 
 -- "Order: 1; then 2 and 3, the earlier in reading order; 4; 5": what all three calls look at first
 abbrev pub fitting : List ℕ → Read Model → Read Model
@@ -56,30 +56,27 @@ openOf image table = openedBy table (accepted image table)
 
 -- ---- "Run: image, state, table, steps asked (0 to 65,535); gives a number, the state and the steps made."
 
+-- the run that a call makes, with its events: "Numbers 1 to 6 and 10 return count 0, the state as handed in .. and an unaltered table."
+-- "Run with 0 steps asked answers 0 after checks 1 to 6."
+abbrev pub tracedBy : Going → ℕ → Read Model → Run
+tracedBy g steps (Refused n at) = ends n g
+tracedBy g steps (Got m at) = if wellFormed m (g .state) then runFrom m steps g else (ends ill-formed g)
+
+unfoldable pub traceOf : List ℕ → State → List ℕ → ℕ → Run
+traceOf image s table steps = tracedBy (going s table) steps (accepted image table)
+
 pub record Ran : Type 0 where
   pub number : ℕ
   pub state : State
   pub table : List ℕ
   pub made : ℕ
 
--- one step, and what follows it: "After each step the table is refreshed with that mark."
--- "Numbers 7, 8 and 9 return the state, table and count after the steps already made; the step in question changes nothing."
-abbrev pub goOn : Model → State → List ℕ → ℕ → (State → List ℕ → ℕ → Ran) → Step → Ran
-goOn m s table made next (Stopped n) = record { number = n; state = s; table = table; made = made }
-goOn m s table made next (Made e s′ mark) = next s′ (refresh (m .rules) s′ mark table) (made + 1)
-
-unfoldable pub runFrom : Model → ℕ → State → List ℕ → ℕ → Ran
-runFrom m zero s table made = record { number = all-done; state = s; table = table; made = made }
-runFrom m (suc n) s table made = goOn m s table made (λ s′ table′ made′. runFrom m n s′ table′ made′) (stepOf m s table)
-
--- "Numbers 1 to 6 and 10 return count 0, the state as handed in .. and an unaltered table." "Run with 0 steps asked answers 0 after checks 1 to 6."
-abbrev pub ranBy : State → List ℕ → ℕ → Read Model → Ran
-ranBy s table steps (Refused n at) = record { number = n; state = s; table = table; made = 0 }
-ranBy s table steps (Got m at) =
-    if wellFormed m s then runFrom m steps s table 0 else (record { number = ill-formed; state = s; table = table; made = 0 })
+-- what the call gives back of it, and how it leaves the table
+abbrev pub ranBy : Run → Ran
+ranBy r = record { number = r .number; state = r .left .state; table = r .left .table; made = length (r .events) }
 
 unfoldable pub runOf : List ℕ → State → List ℕ → ℕ → Ran
-runOf image s table steps = ranBy s table steps (accepted image table)
+runOf image s table steps = ranBy (traceOf image s table steps)
 
 -- ---- "Refresh: image, state, mark (16 bits), table; .. gives a number and how many rules test a marked buffer."
 

@@ -4,14 +4,15 @@ use mathlib.Core.Path.{_≡_, refl}
 use mathlib.Core.List.{List, [], _∷_, _++_, map}
 use Prim.Native.Nat.{ℕ}
 use lib.ListN.{getD, replicate, take, drop}
-use lib.IntN.{ℤ, natAbs}
+use lib.IntN.{ℤ, pos, natAbs}
 use lib.Signed.{nonNeg}
 use Rattle.meaning.specs.declared.Buffer.{Buffer}
 use Rattle.meaning.specs.declared.State.{State}
 use Rattle.meaning.specs.Base.{if_then_else_}
+use Rattle.meaning.specs.Model.{Model, Rule, Test, Action, Deed, Modify, Request, Clear, Named, Term, Variable, Chunk, Fact}
 use Rattle.meaning.specs.State.{wellFormed, bufferOf}
 use Rattle.meaning.specs.Bits.{fieldAt}
-use Rattle.meaning.specs.Read.{field, times, rising}
+use Rattle.meaning.specs.Read.{Got, field, times, rising}
 use Rattle.meaning.specs.Image.{header, chunk, fact, utilityOf, slotsIn, terms, masked, head, test, deed, action, body, rule, ending, beginning, contents, model, decode}
 use Rattle.meaning.specs.Match.{places, valueIn, matches, entryOf, freshTable}
 use Rattle.meaning.specs.Choice.{candidates, choose}
@@ -21,12 +22,13 @@ use Rattle.meaning.specs.Wait.{soonest, wait}
 use Rattle.meaning.specs.Mark.{markOf}
 use Rattle.meaning.specs.Step.{Event, Fired, Waited, fireStep, step}
 use Rattle.meaning.specs.Refresh.{refresh, refreshCount}
-use Rattle.meaning.specs.Calls.{accepted, tableLength, Opened, openState, openOf, Ran, runFrom, runOf, Refreshed, refreshOf}
-use Rattle.meaning.specs.Print.{Line, Stepped, End, linesFrom, printed}
+use Rattle.meaning.specs.Run.{runFrom}
+use Rattle.meaning.specs.Calls.{accepted, tableLength, Opened, openState, openOf, traceOf, Ran, runOf, Refreshed, refreshOf}
+use Rattle.meaning.specs.Print.{Line, Stepped, End, printed}
 
 -- `unfolding everything` opens each definition of document 01
 unfoldable pub everything : Unit {0}
-unfolding wellFormed fieldAt field times rising header chunk fact slotsIn terms masked head test deed action body rule ending beginning contents model decode places valueIn matches entryOf freshTable candidates choose retrieve put done deedOn change fire soonest wait markOf fireStep step refresh refreshCount accepted tableLength openState openOf runFrom runOf refreshOf linesFrom printed
+unfolding wellFormed fieldAt field times rising header chunk fact slotsIn terms masked head test deed action body rule ending beginning contents model decode places valueIn matches entryOf freshTable candidates choose retrieve put done deedOn change fire soonest wait markOf fireStep step refresh refreshCount accepted tableLength openState openOf runFrom traceOf runOf refreshOf printed
 everything = tt
 
 -- P1's image
@@ -40,6 +42,68 @@ modelA =
     ∷ 0x00 ∷ 0xc8 ∷ 0x08 ∷ 0x01 ∷ 0x00 ∷ 0x18 ∷ 0x00 ∷ 0x50 ∷ 0x03 ∷ 0x20 ∷ 0x00 ∷ 0x01 ∷ 0x08 ∷ 0x80 ∷ 0xa0 ∷ 0x20 ∷ 0x00 ∷ 0x40
     ∷ 0x00 ∷ 0x28 ∷ 0x30 ∷ 0x10 ∷ 0x00 ∷ 0x00 ∷ 0x00 ∷ 0x22 ∷ 0x20 ∷ 0x14 ∷ 0x04 ∷ 0x00 ∷ 0x08 ∷ 0x38 ∷ 0x10 ∷ 0x00 ∷ 0x80 ∷ 0x08
     ∷ 0x20 ∷ 0x20 ∷ 0x02 ∷ 0x50 ∷ 0x60 ∷ 0x20 ∷ 0x02 ∷ 0x07 ∷ 0xd0 ∷ 0x22 ∷ 0x20 ∷ 0x2c ∷ 0x08 ∷ 0x00 ∷ 0x40 ∷ 0x00 ∷ 0x40 ∷ []
+
+-- ---- model A as document 01 tells it
+
+abbrev pair : ℕ → ℕ → ℕ → Chunk
+pair isa x y = record { isa = isa; slots = x ∷ y ∷ replicate 6 0 }
+
+-- slot 0 with variable v, and slots 0 and 1 with variables v and w
+abbrev one : ℕ → List Named
+one v = record { slot = 0; term = Variable v } ∷ []
+
+abbrev two : ℕ → ℕ → List Named
+two v w = record { slot = 0; term = Variable v } ∷ record { slot = 1; term = Variable w } ∷ []
+
+-- "Facts of type 1: (1, 2) and (2, 3), each activation 10, latency 100."
+abbrev follows : ℕ → ℕ → Fact
+follows x y = record { chunk = pair 1 x y; activation = 10; latency = 100 }
+
+-- "Rule 0, utility 0: goal type 2 current v0; retrieval type 0; request retrieval type 1 first v0."
+abbrev rule0 : Rule
+rule0 =
+    record {
+      utility = pos 0;
+      tests = record { buffer = 0; isa = 2; named = one 0 } ∷ record { buffer = 1; isa = 0; named = [] } ∷ [];
+      actions = record { buffer = 1; deed = Request 1 (one 0) } ∷ [];
+    }
+
+-- "Rule 1, utility 0: goal type 2 current v0; retrieval type 1 first v0, second v1; modify goal current v1; request retrieval type 1 first v1."
+abbrev rule1 : Rule
+rule1 =
+    record {
+      utility = pos 0;
+      tests = record { buffer = 0; isa = 2; named = one 0 } ∷ record { buffer = 1; isa = 1; named = two 0 1 } ∷ [];
+      actions = record { buffer = 0; deed = Modify (one 1) } ∷ record { buffer = 1; deed = Request 1 (one 1) } ∷ [];
+    }
+
+-- "Rule 2, utility 1,000: goal type 2 current v0, target v0; clear goal."
+abbrev rule2 : Rule
+rule2 =
+    record {
+      utility = pos 1000;
+      tests = record { buffer = 0; isa = 2; named = two 0 0 } ∷ [];
+      actions = record { buffer = 0; deed = Clear } ∷ [];
+    }
+
+-- "buffers 0 goal, 1 retrieval. Type 1 has slots first, second; type 2 has current, target. Failure latency 200. .. Opening: goal is type 2 (1, 3), retrieval nil."
+unfoldable pub toldA : Model
+toldA =
+    record {
+      buffers = 2;
+      types = 0 ∷ 2 ∷ 2 ∷ [];
+      failure = 200;
+      opening = pair 2 1 3 ∷ pair 0 0 0 ∷ [];
+      facts = follows 1 2 ∷ follows 2 3 ∷ [];
+      rules = rule0 ∷ rule1 ∷ rule2 ∷ [];
+    }
+
+-- its 71 bytes stand for it, whole: no bit of them can be another
+pub modelA-is : decode modelA ≡ Got toldA 563
+unfolding everything modelA toldA
+modelA-is = refl
+
+-- ---- P1 to P12
 
 -- answers as words: a buffer is its type, eight slots and delay; a run its number, count and clock; a signed number a sign and its size
 abbrev bufferWords : Buffer → List ℕ

@@ -15,6 +15,7 @@ pub mod Wait
 pub mod Mark
 pub mod Step
 pub mod Refresh
+pub mod Run
 pub mod Calls
 pub mod Print
 pub mod Examples

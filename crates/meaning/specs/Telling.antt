@@ -8,9 +8,12 @@ use Rattle.meaning.specs.declared.Buffer.{Buffer}
 use Rattle.meaning.specs.declared.State.{State}
 use Rattle.meaning.specs.Model.{Model, Rule, Test, Action, Deed, Modify, Request, Clear, Named, Term, Symbol, Variable, Fact}
 use Rattle.meaning.specs.State.{nilAfter, bufferOf}
+use Rattle.meaning.specs.Read.{Read, Refused, Got}
+use Rattle.meaning.specs.Image.{decode}
 use Rattle.meaning.specs.Match.{entryOf, freshTable}
 use Rattle.meaning.specs.Step.{Event, Fired, Waited, Step, Stopped, Made, stepOf}
 use Rattle.meaning.specs.Refresh.{refresh, refreshCount}
+use Rattle.meaning.specs.Calls.{openState}
 use Rattle.meaning.specs.Examples.{everything, Row}
 
 -- ---- a small model: two buffers, type 1 with two slots
@@ -67,6 +70,16 @@ stepWords (Made (Waited ms) s mark) = 2 ∷ ms ∷ after s mark
 abbrev fresh : Model → State → List ℕ
 fresh m s = stepWords (stepOf m s (freshTable (m .rules) s))
 
+-- the step from the opening of an image, or why it is refused
+abbrev opening : Read Model → List ℕ
+opening (Refused n at) = 0 ∷ n ∷ []
+opening (Got m at) = fresh m (openState m)
+
+-- an image with one buffer, and two rules that test it for nil and do nothing; their utility fields are FFFF and 0001 hex
+unfoldable signs : List ℕ
+signs =
+    0x01 ∷ 0x10 ∷ 0x00 ∷ 0x40 ∷ 0x00 ∷ 0x00 ∷ 0x00 ∷ 0x1f ∷ 0xff ∷ 0xe2 ∷ 0x00 ∷ 0x00 ∷ 0x00 ∷ 0x00 ∷ 0x01 ∷ 0x10 ∷ 0x00 ∷ 0x00 ∷ 0x00 ∷ []
+
 abbrev row : List ℕ → List ℕ → Row
 row g s = record { given = g; said = s }
 
@@ -96,7 +109,7 @@ abbrev twice : Rule
 twice = rule (pos 0) (tests1 0 (two v0 v0) ∷ []) (act 0 Clear ∷ [])
 
 unfoldable pub rows : List Row
-unfolding everything
+unfolding everything signs
 rows =
     -- "Marking only buffers acted on: a chunk that arrives during the 50 ms is missed." Buffer 1 was pending and is visible: mark 2
     row (fresh (model [] (idle (pos 0) ∷ [])) (both (holds 5 6 0) (holds 7 8 50))) (1 ∷ 0 ∷ 1050 ∷ 2 ∷ 1 ∷ 5 ∷ 6 ∷ 0 ∷ 1 ∷ 7 ∷ 8 ∷ 0 ∷ [])
@@ -122,6 +135,8 @@ rows =
     -- "the highest utility is chosen, then the lowest number": the first of equals; a utility below 0 is the lower one
     ∷ row (take 2 (fresh (model [] (idle (pos 3) ∷ idle (pos 4) ∷ idle (pos 4) ∷ [])) (both (holds 5 6 0) (nilAfter 0)))) (1 ∷ 1 ∷ [])
     ∷ row (take 2 (fresh (model [] (idle (negsuc 0) ∷ idle (pos 0) ∷ [])) (both (holds 5 6 0) (nilAfter 0)))) (1 ∷ 1 ∷ [])
+    -- and so it is for utilities that an image gives: FFFF hex, -1, is below 0001
+    ∷ row (take 2 (opening (decode signs))) (1 ∷ 1 ∷ [])
     -- "the highest activation, then the lowest fact number"
     ∷ row (drop 8 (fresh (model (fact 5 1 3 10 ∷ fact 5 2 4 20 ∷ fact 5 3 4 30 ∷ []) (asks ∷ [])) (both (holds 5 6 0) (nilAfter 0)))) (1 ∷ 5 ∷ 2 ∷ 20 ∷ [])
     -- a pending buffer fails every test, "A test of type 0" too: so the step waits

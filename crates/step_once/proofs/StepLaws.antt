@@ -8,15 +8,16 @@ use borrow.Author.Tests.{le-leb, lt-leb}
 use lib.ListN.{take, drop}
 use Rattle.meaning.specs.declared.State.{State}
 use Rattle.meaning.specs.Base.{same}
-use Rattle.meaning.specs.Model.{Model, Fact}
+use Rattle.meaning.specs.Model.{Fact}
 use Rattle.meaning.specs.Match.{entryOf}
 use Rattle.meaning.specs.Choice.{Candidate, choose, utilities}
 use Rattle.meaning.specs.Fire.{fire}
 use Rattle.meaning.specs.Wait.{soonest, wait}
 use Rattle.meaning.specs.Mark.{markOf}
 use Rattle.meaning.specs.Step as meaning
-use Rattle.layout.specs.Rows.{rulesIn, factsIn}
+use Rattle.layout.specs.declared.Plan.{Plan}
 use Rattle.layout.specs.StateWords.{buffersIn, stateIn}
+use Rattle.layout.specs.Plans.{factsOn, headsOn, rowsOn, rulesOn, modelOn}
 use Rattle.match_choice.specs.declared.Chosen.{Chosen}
 use Rattle.match_choice.specs.declared.Chosen.the-variants.{Rule, NoRule}
 use Rattle.match_choice.specs.Chosen.{candidateAt, candidateOf, Below}
@@ -32,26 +33,22 @@ part-is k table = let e : 9 * k + 9 - 9 * k ≡ 9 = omega arith in rw e
 pub rule-below : {r : Chosen} {k n : ℕ} → r ≡ Rule k → Below r n → k < n
 rule-below e h = rw e at h
 
--- the code's answer is this step
-abbrev pub Meets : meaning.Step → StepDone → List ℕ → List ℕ → ℕ → Type 0
-Meets made r w w′ clock = StepMet (λ d. d ≡ made) r w w′ clock
-
-stopped : {made : meaning.Step} {w : List ℕ} {clock : ℕ} (number : ℕ) → made ≡ meaning.Stopped number → Meets made (Stopped number) w w clock
+stopped : {step : meaning.Step} {w : List ℕ} {clock : ℕ} (number : ℕ) → step ≡ meaning.Stopped number → StepMet step (Stopped number) w w clock
 stopped number e = record { is-step = sym e; kept = λ _ _. refl; clock-fits = tt }
 
 -- ---- a firing, with the nine words that the code has of the chosen entry, and its word on whether they are fresh
 
 module _ (failure : ℕ) (memory : List Fact) (c : Candidate) (w : List ℕ) (clock : ℕ) {nine : List ℕ} (part : nine ≡ c .entry) {fresh : Bool} (f : fresh ≡ same nine (entryOf (c .rule) (stateIn w clock))) where
-  pub not-fresh : fresh ≡ false → Meets (meaning.fireStep failure memory (stateIn w clock) c) (Stopped 7) w w clock
+  pub not-fresh : fresh ≡ false → StepMet (meaning.fireStep failure memory (stateIn w clock) c) (Stopped 7) w w clock
   unfolding meaning.fireStep
   not-fresh e = stopped 7 (rw (← part, ← f, e))
 
-  pub full : fresh ≡ true → meaning.largest < clock + 50 → Meets (meaning.fireStep failure memory (stateIn w clock) c) (Stopped 8) w w clock
+  pub full : fresh ≡ true → meaning.largest < clock + 50 → StepMet (meaning.fireStep failure memory (stateIn w clock) c) (Stopped 8) w w clock
   unfolding meaning.fireStep fire
   full e h = stopped 8 (rw (← part, ← f, e, lt-leb (clock + 50) meaning.largest h))
 
   pub fired : fresh ≡ true → clock + 50 ≤ meaning.largest → (mark : ℕ) (w′ : List ℕ) → stateIn w′ (clock + 50) ≡ fire failure memory (c .rule) nine (stateIn w clock) → mark ≡ markOf (c .rule .actions) (stateIn w clock) (stateIn w′ (clock + 50))
-      → Meets (meaning.fireStep failure memory (stateIn w clock) c) (Fired (c .number) mark) w w′ clock
+      → StepMet (meaning.fireStep failure memory (stateIn w clock) c) (Fired (c .number) mark) w w′ clock
   unfolding meaning.fireStep
   fired e h mark w′ s m = record { is-step = rw (← part, ← f, e, ← s, m, le-leb (clock + 50) meaning.largest h); kept = λ number z. (cc); clock-fits = h }
 
@@ -62,30 +59,28 @@ wait-some zero some s = absurd (some refl)
 wait-some (suc n) some s = refl
 
 module _ (w : List ℕ) (clock ms : ℕ) {soonest : ℕ} (is : ms ≡ soonest) where
-  pub nothing-pending : ms ≡ 0 → Meets (meaning.waitStep (stateIn w clock) soonest) (Stopped 9) w w clock
+  pub nothing-pending : ms ≡ 0 → StepMet (meaning.waitStep (stateIn w clock) soonest) (Stopped 9) w w clock
   nothing-pending e = stopped 9 (rw (← is, e))
 
   module _ (some : ms ≡ 0 → ⊥) where
-    pub wait-full : meaning.largest < clock + ms → Meets (meaning.waitStep (stateIn w clock) soonest) (Stopped 8) w w clock
+    pub wait-full : meaning.largest < clock + ms → StepMet (meaning.waitStep (stateIn w clock) soonest) (Stopped 8) w w clock
     unfolding wait
     wait-full h = stopped 8 (rw (← is, wait-some ms some (stateIn w clock), lt-leb (clock + ms) meaning.largest h))
 
     pub waited : clock + ms ≤ meaning.largest → (mark : ℕ) (w′ : List ℕ) → stateIn w′ (clock + ms) ≡ wait ms (stateIn w clock) → mark ≡ markOf [] (stateIn w clock) (stateIn w′ (clock + ms))
-        → Meets (meaning.waitStep (stateIn w clock) soonest) (Waited ms mark) w w′ clock
+        → StepMet (meaning.waitStep (stateIn w clock) soonest) (Waited ms mark) w w′ clock
     waited h mark w′ s m = record { is-step = rw (← is, wait-some ms some (stateIn w clock), ← s, m, le-leb (clock + ms) meaning.largest h); kept = λ number z. (cc); clock-fits = h }
 
 -- ---- one of the two, by the choice
 
-module _ (heads words : List ℕ) (n : ℕ) (table facts : List ℕ) (m failure : ℕ) where
-  -- the code's answer is the step of every model whose rules, facts and failure latency are these
-  abbrev pub Steps : StepDone → List ℕ → List ℕ → ℕ → Type 0
-  Steps r w w′ clock = StepMet (λ d. (mo : Model) → mo .rules ≡ rulesIn heads words n → mo .facts ≡ factsIn facts m → mo .failure ≡ failure → d ≡ meaning.stepOf mo (stateIn w clock) table) r w w′ clock
+module _ (p : Plan) (tape table : List ℕ) {chosen : Chosen} {r : StepDone} {w w′ : List ℕ} {clock : ℕ}
+    (e : choose (rulesOn p tape) (utilities (rulesOn p tape)) table ≡ candidateOf (headsOn p tape) (rowsOn p tape) table chosen) where
+  pub step-fires : (k : ℕ) → chosen ≡ Rule k
+      → StepMet (meaning.fireStep (p .failure) (factsOn p tape) (stateIn w clock) (candidateAt (headsOn p tape) (rowsOn p tape) table k)) r w w′ clock
+      → StepMet (meaning.stepOf (modelOn p tape) (stateIn w clock) table) r w w′ clock
+  unfolding meaning.step modelOn
+  step-fires k g s = record { is-step = s .is-step ∙ rw (e, g); kept = s .kept; clock-fits = s .clock-fits }
 
-  module _ {chosen : Chosen} {r : StepDone} {w w′ : List ℕ} {clock : ℕ} (e : choose (rulesIn heads words n) (utilities (rulesIn heads words n)) table ≡ candidateOf heads words table chosen) where
-    pub step-fires : (k : ℕ) → chosen ≡ Rule k → Meets (meaning.fireStep failure (factsIn facts m) (stateIn w clock) (candidateAt heads words table k)) r w w′ clock → Steps r w w′ clock
-    unfolding meaning.step
-    step-fires k g s = record { is-step = λ mo er ef el. s .is-step ∙ rw (er, ef, el, e, g); kept = s .kept; clock-fits = s .clock-fits }
-
-    pub step-waits : chosen ≡ NoRule → Meets (meaning.waitStep (stateIn w clock) (soonest 0 (buffersIn w))) r w w′ clock → Steps r w w′ clock
-    unfolding meaning.step
-    step-waits g s = record { is-step = λ mo er ef el. s .is-step ∙ rw (er, ef, el, e, g); kept = s .kept; clock-fits = s .clock-fits }
+  pub step-waits : chosen ≡ NoRule → StepMet (meaning.waitStep (stateIn w clock) (soonest 0 (buffersIn w))) r w w′ clock → StepMet (meaning.stepOf (modelOn p tape) (stateIn w clock) table) r w w′ clock
+  unfolding meaning.step modelOn
+  step-waits g s = record { is-step = s .is-step ∙ rw (e, g); kept = s .kept; clock-fits = s .clock-fits }

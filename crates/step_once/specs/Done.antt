@@ -20,9 +20,9 @@ ClockFits (Stopped number) clock = Unit {0}
 ClockFits (Fired rule mark) clock = clock + 50 ≤ meaning.largest
 ClockFits (Waited ms mark) clock = clock + ms ≤ meaning.largest
 
--- what is promised of an answer, with the state's words before and after: it is the step that `Is` asks for,
+-- what is promised of an answer, with the state's words before and after: it is the step that the definitions give,
 -- a refused step changes nothing, and the new clock fits
-pub record StepMet (Is : meaning.Step → Type 0) (r : StepDone) (w w′ : List ℕ) (clock : ℕ) : Type 0 where
-  pub is-step : Is (stepIn r w′ clock)
+pub record StepMet (step : meaning.Step) (r : StepDone) (w w′ : List ℕ) (clock : ℕ) : Type 0 where
+  pub is-step : stepIn r w′ clock ≡ step
   pub kept : (number : ℕ) → r ≡ Stopped number → w′ ≡ w
   pub clock-fits : ClockFits r clock

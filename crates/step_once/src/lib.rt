@@ -3,19 +3,28 @@ ghost use mathlib.Core.Path.{_≡_};
 ghost use Prim.Native.Nat.{ℕ, _+_, _*_, _≤_, _<_};
 ghost use lib.ListN.{length};
 ghost use Rattle.meaning.specs.Base.{same};
-ghost use Rattle.meaning.specs.Model.{Model, Rule};
+ghost use Rattle.meaning.specs.Model.{Rule};
 ghost use Rattle.meaning.specs.Match.{entryOf};
 ghost use Rattle.meaning.specs.Wait.{soonest};
-ghost use Rattle.meaning.specs.Step.{Step, fireStep, waitStep, stepOf};
-ghost use Rattle.layout.specs.Rows.{testsIn, rulesIn, factsIn, Laid};
+ghost use Rattle.meaning.specs.Step.{fireStep, waitStep, stepOf};
+ghost use Rattle.layout.specs.Rows.{testsIn};
 ghost use Rattle.layout.specs.StateWords.{buffersIn, stateIn};
+ghost use Rattle.layout.specs.Plans.{factsOn, headsOn, rowsOn, modelOn, Planned};
 ghost use Rattle.match_choice.specs.Chosen.{candidateAt};
 ghost use Rattle.match_choice.specs.Ranks.{Led};
-ghost use Rattle.step_retrieve.specs.Chains.{Chained};
+ghost use Rattle.step_retrieve.specs.Chains.{ChainsOn};
 ghost use Rattle.step_once.specs.Done.{StepMet};
+use layout::ENTRY_WORDS;
+use layout::HEAD_WORDS;
+use layout::Plan;
+use layout::RULE_WORDS;
+use layout::SIDE_WORDS;
 use match_choice::Chosen;
+use meaning::numbers::CLOCK_FULL;
+use meaning::numbers::HALTED;
+use meaning::numbers::NOT_FRESH;
 
-// Why no step was made (7, 8 or 9); the rule that fired and the mark; the ms waited and the mark.
+// The number that says why no step was made; the rule that fired and the mark; the ms waited and the mark.
 pub enum StepDone {
     Stopped(u8),
     Fired(u16, u16),
@@ -27,102 +36,74 @@ fn is_fresh(nine: &[u16], words: &[u16], o: usize, n: usize, state: &[u16]) -> b
     requires { ⌜ (length (now nine) ≡ 9) × (o + 11 * n ≤ length (now words)) × (80 ≤ length (now state)) ⌝ }
     ensures { λ b. ⌜ ((r : Rule) (clock : ℕ) → r .tests ≡ testsIn (now (words .entry)) o n → b ≡ same (now (nine .entry)) (entryOf r (stateIn (now (state .entry)) clock))) ⌝ }
 {
-    let mut fresh = [0u16; 9];
+    let mut fresh = [0u16; ENTRY_WORDS];
     match_rule::entry_into(&mut fresh, words, o, n, state);
     match_rule::same_entry(nine, &fresh)
 }
 
-// Fires rule k with its nine words of the table, unless these are not its fresh entry (7) or the clock would pass its limit (8).
+// Fires rule k with its nine words of the table, unless these are not its fresh entry or the clock would pass its limit.
 fn fire_step(
     state: &mut [u16],
     clock: u32,
     table: &[u16],
     k: usize,
-    heads: &[u16],
-    words: &[u16],
-    n: usize,
-    facts: &[u16],
-    index: &[u16],
-    m: usize,
-    failure: u16,
+    plan: Plan,
+    tape: &[u16],
 ) -> StepDone
-    requires { ⌜ Laid (now heads) (now words) n × (k < n) × (length (now table) ≡ 9 * n) × (80 ≤ length (now state)) × (m ≤ 512) × (11 * m ≤ length (now facts)) × Chained (now index) (now facts) m ⌝ }
-    ensures { λ r. ⌜ StepMet (λ (d : Step). d ≡ fireStep failure (factsIn (now (facts .entry)) m) (stateIn (now (state .entry)) clock) (candidateAt (now (heads .entry)) (now (words .entry)) (now (table .entry)) k)) r (now (state .entry)) (now (state .exit)) clock ⌝ }
+    requires { ⌜ Planned plan (now tape) × (k < plan .rules) × (length (now table) ≡ 9 * plan .rules) × (80 ≤ length (now state)) × ChainsOn plan (now tape) ⌝ }
+    ensures { λ r. ⌜ StepMet (fireStep (plan .failure) (factsOn plan (now (tape .entry))) (stateIn (now (state .entry)) clock) (candidateAt (headsOn plan (now (tape .entry))) (rowsOn plan (now (tape .entry))) (now (table .entry)) k)) r (now (state .entry)) (now (state .exit)) clock ⌝ }
 {
-    let a = 9 * k;
-    let e = a + 9;
-    let tests = heads[4 * k] as usize;
-    let stale = !is_fresh(&table[a..e], words, 176 * k, tests, state);
+    let heads_at = plan.heads;
+    let heads = &tape[heads_at..];
+    let rows_at = plan.rows;
+    let rows = &tape[rows_at..];
+    let a = ENTRY_WORDS * k;
+    let e = a + ENTRY_WORDS;
+    let tests = heads[HEAD_WORDS * k] as usize;
+    let stale = !is_fresh(&table[a..e], rows, RULE_WORDS * k, tests, state);
     let full = 4294967245 < clock;
     if stale {
-        return StepDone::Stopped(7);
+        return StepDone::Stopped(NOT_FRESH);
     }
     if full {
-        return StepDone::Stopped(8);
+        return StepDone::Stopped(CLOCK_FULL);
     }
-    let o = 176 * k + 88;
-    let actions = heads[4 * k + 1] as usize;
-    let mark = step_fire::fire(
-        state,
-        words,
-        o,
-        actions,
-        &table[a..e],
-        facts,
-        index,
-        m,
-        failure,
-    );
+    let o = RULE_WORDS * k + SIDE_WORDS;
+    let actions = heads[HEAD_WORDS * k + 1] as usize;
+    let mark = step_fire::fire(state, plan, tape, o, actions, &table[a..e]);
     StepDone::Fired(k as u16, mark)
 }
 
-// Waits until the next buffer is visible, unless nothing is pending (9) or the clock would pass its limit (8).
+// Waits until the next buffer is visible, unless nothing is pending or the clock would pass its limit.
 fn wait_step(state: &mut [u16], clock: u32) -> StepDone
     requires { ⌜ 80 ≤ length (now state) ⌝ }
-    ensures { λ r. ⌜ StepMet (λ (d : Step). d ≡ waitStep (stateIn (now (state .entry)) clock) (soonest 0 (buffersIn (now (state .entry))))) r (now (state .entry)) (now (state .exit)) clock ⌝ }
+    ensures { λ r. ⌜ StepMet (waitStep (stateIn (now (state .entry)) clock) (soonest 0 (buffersIn (now (state .entry))))) r (now (state .entry)) (now (state .exit)) clock ⌝ }
 {
     let ms = step_wait::soonest(state);
     if ms == 0 {
-        return StepDone::Stopped(9);
+        return StepDone::Stopped(HALTED);
     }
     if 4294967295 - (ms as u32) < clock {
-        return StepDone::Stopped(8);
+        return StepDone::Stopped(CLOCK_FULL);
     }
     let mark = step_wait::wait(state, ms);
     StepDone::Waited(ms, mark)
 }
 
-// One step of the model whose n rules and m facts stand in words, with its table and its leads; a step that is refused leaves the state as it is.
+// One step of the model that plan and tape mean, with its table and its leads; a step that is refused leaves the state as it is.
 pub fn step(
     state: &mut [u16],
     clock: u32,
     table: &[u16],
-    heads: &[u16],
-    words: &[u16],
-    n: usize,
-    facts: &[u16],
-    index: &[u16],
-    m: usize,
-    failure: u16,
+    plan: Plan,
+    tape: &[u16],
     leads: &[u32],
 ) -> StepDone
-    requires { ⌜ Laid (now heads) (now words) n × (length (now table) ≡ 9 * n) × (80 ≤ length (now state)) × (m ≤ 512) × (11 * m ≤ length (now facts)) × Chained (now index) (now facts) m × Led (now heads) (now table) n (now leads) ⌝ }
-    ensures { λ r. ⌜ StepMet (λ (d : Step). (mo : Model) → mo .rules ≡ rulesIn (now (heads .entry)) (now (words .entry)) n → mo .facts ≡ factsIn (now (facts .entry)) m → mo .failure ≡ failure → d ≡ stepOf mo (stateIn (now (state .entry)) clock) (now (table .entry))) r (now (state .entry)) (now (state .exit)) clock ⌝ }
+    requires { ⌜ Planned plan (now tape) × (length (now table) ≡ 9 * plan .rules) × (80 ≤ length (now state)) × ChainsOn plan (now tape) × Led (headsOn plan (now tape)) (now table) (plan .rules) (now leads) ⌝ }
+    ensures { λ r. ⌜ StepMet (stepOf (modelOn plan (now (tape .entry))) (stateIn (now (state .entry)) clock) (now (table .entry))) r (now (state .entry)) (now (state .exit)) clock ⌝ }
 {
-    match match_choice::choose(leads, n) {
-        Chosen::Rule(k) => fire_step(
-            state,
-            clock,
-            table,
-            k,
-            heads,
-            words,
-            n,
-            facts,
-            index,
-            m,
-            failure,
-        ),
+    match match_choice::choose(leads, plan.rules as usize) {
+        Chosen::Rule(k) => fire_step(state, clock, table, k, plan, tape),
         Chosen::NoRule => wait_step(state, clock),
     }
 }

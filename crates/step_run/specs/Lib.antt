@@ -1,2 +1,3 @@
+pub mod Aided
 pub mod Told
 pub mod Events

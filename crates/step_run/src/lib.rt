@@ -3,14 +3,15 @@ ghost use mathlib.Core.Path.{_≡_};
 ghost use mathlib.Core.List.{_∷_, []};
 ghost use Prim.Native.Nat.{ℕ, _+_, _*_, _≤_, _<_};
 ghost use lib.ListN.{length};
-ghost use Rattle.meaning.specs.Model.{Model};
-ghost use Rattle.layout.specs.Rows.{rulesIn, factsIn, Laid};
-ghost use Rattle.match_gates.specs.Gates.{Gated};
+ghost use Rattle.meaning.specs.Refresh.{refresh};
+ghost use Rattle.layout.specs.StateWords.{stateIn};
+ghost use Rattle.layout.specs.Plans.{headsOn, modelOn, Planned};
 ghost use Rattle.match_choice.specs.Ranks.{Led};
-ghost use Rattle.match_table.specs.Unions.{United};
-ghost use Rattle.step_retrieve.specs.Chains.{Chained};
+ghost use Rattle.step_run.specs.Aided.{Aided};
 ghost use Rattle.step_run.specs.Told.{ToldMet};
 ghost use Rattle.step_run.specs.Events.{noted, WentMet};
+use layout::Plan;
+use meaning::numbers::ALL_DONE;
 use step_once::StepDone;
 
 // What a step did, in numbers: kind 0 a firing, 1 a wait, 2 no step; the rule, the ms, or why no step was made; the mark; the ms that passed.
@@ -76,43 +77,48 @@ fn note(events: &mut [u32], k: u16, clock: u32, kind: u16, value: u16)
     }
 }
 
-// At most `steps` steps from a state in words, with its clock; event k goes to three lent words, as long as there is room.
+// The table and its leads after a step of the model that plan and tape mean, from the state after it and its mark.
+fn renew(table: &mut [u16], leads: &mut [u32], plan: Plan, tape: &[u16], state: &[u16], mark: u16)
+    requires { ⌜ Planned plan (now tape) × (length (now table) ≡ 9 * plan .rules) × (80 ≤ length (now state)) × Aided plan (now tape) × Led (headsOn plan (now tape)) (now table) (plan .rules) (now leads) ⌝ }
+    ensures { λ _. ⌜ ((clock : ℕ) → now (table .exit) ≡ refresh (modelOn plan (now (tape .entry)) .rules) (stateIn (now (state .entry)) clock) mark (now (table .entry))) ⌝ }
+    ensures led { λ _. ⌜ Led (headsOn plan (now (tape .entry))) (now (table .exit)) (plan .rules) (now (leads .exit)) ⌝ }
+{
+    let heads = plan.heads;
+    let rows = plan.rows;
+    let gates = plan.gates;
+    let unions = plan.unions;
+    let n = plan.rules as usize;
+    match_table::renew(
+        table,
+        leads,
+        &tape[heads..],
+        &tape[rows..],
+        n,
+        &tape[gates..],
+        &tape[unions..],
+        state,
+        mark,
+    );
+}
+
+// At most `steps` steps of the model that plan and tape mean, from a state in words with its clock; event k goes to three lent words, as long as there is room.
 pub fn advance(
     state: &mut [u16],
     clock: u32,
     table: &mut [u16],
-    heads: &[u16],
-    words: &[u16],
-    n: usize,
-    facts: &[u16],
-    index: &[u16],
-    m: usize,
-    failure: u16,
+    plan: Plan,
+    tape: &[u16],
     steps: u16,
     events: &mut [u32],
-    gates: &[u16],
-    unions: &[u16],
     leads: &mut [u32],
 ) -> Went
-    requires { ⌜ Laid (now heads) (now words) n × (length (now table) ≡ 9 * n) × (80 ≤ length (now state)) × (m ≤ 512) × (11 * m ≤ length (now facts)) × Chained (now index) (now facts) m × United (now heads) (now unions) n × Led (now heads) (now table) n (now leads) × Gated (now gates) (now heads) (now words) n ⌝ }
-    ensures { λ r. ⌜ ((mo : Model) → mo .rules ≡ rulesIn (now (heads .entry)) (now (words .entry)) n → mo .facts ≡ factsIn (now (facts .entry)) m → mo .failure ≡ failure → WentMet r mo (now (state .entry)) (now (state .exit)) clock (now (table .entry)) (now (table .exit)) steps (now (events .entry)) (now (events .exit))) ⌝ }
+    requires { ⌜ Planned plan (now tape) × (length (now table) ≡ 9 * plan .rules) × (80 ≤ length (now state)) × Aided plan (now tape) × Led (headsOn plan (now tape)) (now table) (plan .rules) (now leads) ⌝ }
+    ensures { λ r. ⌜ WentMet r (modelOn plan (now (tape .entry))) (now (state .entry)) (now (state .exit)) clock (now (table .entry)) (now (table .exit)) steps (now (events .entry)) (now (events .exit)) ⌝ }
 {
     let mut now = clock;
     let mut made = 0;
     while made < steps {
-        let t = tell(step_once::step(
-            state,
-            now,
-            table,
-            heads,
-            words,
-            n,
-            facts,
-            index,
-            m,
-            failure,
-            leads,
-        ));
+        let t = tell(step_once::step(state, now, table, plan, tape, leads));
         if t.kind == 2 {
             return Went {
                 number: (t.value % 256) as u8,
@@ -121,12 +127,12 @@ pub fn advance(
             };
         }
         now += t.elapsed as u32;
-        match_table::renew(table, leads, heads, words, n, gates, unions, state, t.mark);
+        renew(table, leads, plan, tape, state, t.mark);
         note(events, made, now, t.kind, t.value);
         made += 1;
     }
     Went {
-        number: 0,
+        number: ALL_DONE,
         clock: now,
         made: made,
     }

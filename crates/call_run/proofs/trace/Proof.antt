@@ -1,7 +1,6 @@
 -- `call_run::trace` meets its contract: either way the arrays have room.
-use Rattle.meaning.specs.Calls.{runOf}
+use Rattle.meaning.specs.Calls.{traceOf, runOf}
 use Rattle.call_accept.proofs.RoomLaws.{small-by}
-use Rattle.call_run.specs.Answers.{eventsOf}
 use borrow.Author.Needs.{needs}
 use Rattle.call_run.proofs.trace.Statement.{statement}
 use Rattle.call_run.proofs.trace.Tie as tie
@@ -25,7 +24,7 @@ same-length-2 : tie.Need-same-length-2
 same-length-2 c = search needs
 
 returns : tie.Need-returns
-unfolding runOf eventsOf
+unfolding runOf traceOf
 returns c = (c .before .before .before .before .run-small .ensures .is-run, c .before .before .before .before .run-small .ensures .events)
 
 same-length-3 : tie.Need-same-length-3
@@ -35,7 +34,7 @@ same-length-4 : tie.Need-same-length-4
 same-length-4 c = search needs
 
 returns-2 : tie.Need-returns-2
-unfolding runOf eventsOf
+unfolding runOf traceOf
 returns-2 c = (c .before .before .before .before .run-large .ensures .is-run, c .before .before .before .before .run-large .ensures .events)
 
 pub trace-spec : {M : Type 1} → statement M

@@ -2,7 +2,7 @@
 use mathlib.Core.Path.{_≡_, refl}
 use mathlib.Core.Bool.{Bool, true, false}
 use mathlib.Core.List.{List}
-use Prim.Native.Nat.{ℕ, zero, suc, _+_, _*_, _^_}
+use Prim.Native.Nat.{ℕ, zero, suc, _*_, _^_}
 use native.Mathlib.Omega.{arith}
 use lib.Dec.{eqb, leb}
 use lib.ListN.{length}
@@ -16,28 +16,29 @@ use Rattle.meaning.specs.Image.{decode}
 use Rattle.meaning.specs.Match.{freshTable}
 use Rattle.meaning.specs.Step.{Event, Step, Stopped, Made, stepOf}
 use Rattle.meaning.specs.Refresh.{refresh}
-use Rattle.meaning.specs.Calls.{accepted, openState, openedBy, openOf, Ran, goOn, runFrom, ranBy, runOf, refreshedBy, refreshOf}
+use Rattle.meaning.specs.Run.{Going, going, Run, goOn, runFrom}
+use Rattle.meaning.specs.Calls.{accepted, openState, openedBy, openOf, tracedBy, traceOf, runOf, refreshedBy, refreshOf}
 use Rattle.promises.specs.Words.{Reached, opened, ran, refreshed}
 
 module _ (m : Model) (Kept : State → List ℕ → Type 0)
     (steps-keep : (s : State) (table : List ℕ) → Kept s table → (e : Event) (s′ : State) (mark : ℕ) → stepOf m s table ≡ Made e s′ mark → Kept s′ (refresh (m .rules) s′ mark table)) where
   -- ---- a run
 
-  abbrev RanKept : Ran → Type 0
-  RanKept a = Kept (a .state) (a .table)
+  abbrev GoingKept : Going → Type 0
+  GoingKept g = Kept (g .state) (g .table)
 
-  go-on : (s : State) (table : List ℕ) (made : ℕ) (run : State → List ℕ → ℕ → Ran) (st : Step) → Kept s table
-      → ((e : Event) (s′ : State) (mark : ℕ) → st ≡ Made e s′ mark → Kept s′ (refresh (m .rules) s′ mark table))
-      → ((s′ : State) (table′ : List ℕ) (made′ : ℕ) → Kept s′ table′ → RanKept (run s′ table′ made′))
-      → RanKept (goOn m s table made run st)
-  go-on s table made run (Stopped n) h keeps ih = h
-  go-on s table made run (Made e s′ mark) h keeps ih = ih s′ (refresh (m .rules) s′ mark table) (made + 1) (keeps e s′ mark refl)
+  go-on : (g : Going) (run : Going → Run) (st : Step) → GoingKept g
+      → ((e : Event) (s′ : State) (mark : ℕ) → st ≡ Made e s′ mark → Kept s′ (refresh (m .rules) s′ mark (g .table)))
+      → ((g′ : Going) → GoingKept g′ → GoingKept (run g′ .left))
+      → GoingKept (goOn m g run st .left)
+  go-on g run (Stopped n) h keeps ih = h
+  go-on g run (Made e s′ mark) h keeps ih = ih (going s′ (refresh (m .rules) s′ mark (g .table))) (keeps e s′ mark refl)
 
-  run-keeps : (n : ℕ) (s : State) (table : List ℕ) (made : ℕ) → Kept s table → RanKept (runFrom m n s table made)
+  run-keeps : (n : ℕ) (g : Going) → GoingKept g → GoingKept (runFrom m n g .left)
   unfolding runFrom
-  run-keeps zero s table made h = h
-  run-keeps (suc n) s table made h =
-      go-on s table made (λ s′ table′ made′. runFrom m n s′ table′ made′) (stepOf m s table) h (steps-keep s table h) (λ s′ table′ made′ h′. run-keeps n s′ table′ made′ h′)
+  run-keeps zero g h = h
+  run-keeps (suc n) g h =
+      go-on g (λ g′. runFrom m n g′) (stepOf m (g .state) (g .table)) h (steps-keep (g .state) (g .table) h) (λ g′ h′. run-keeps n g′ h′)
 
   -- ---- the calls, over an image that is accepted; the cases are: the table's length, the state, the mark
 
@@ -48,8 +49,9 @@ module _ (m : Model) (Kept : State → List ℕ → Type 0)
     opened-by table at true e = opening-has
     opened-by table at false e = absurd (omega arith)
 
-    ran-by : (s : State) (table : List ℕ) (steps at : ℕ) (t u : Bool) → wellFormed m s ≡ u → Kept s table → RanKept (ranBy s table steps (if t then Got m at else Refused wrong-table 0))
-    ran-by s table steps at true true w h = rw w (run-keeps steps s table 0 h)
+    ran-by : (s : State) (table : List ℕ) (steps at : ℕ) (t u : Bool) → wellFormed m s ≡ u → Kept s table
+        → GoingKept (tracedBy (going s table) steps (if t then Got m at else Refused wrong-table 0) .left)
+    ran-by s table steps at true true w h = rw w (run-keeps steps (going s table) h)
     ran-by s table steps at true false w h = rw w h
     ran-by s table steps at false u w h = h
 
@@ -65,8 +67,8 @@ module _ (m : Model) (Kept : State → List ℕ → Type 0)
       unfolding openOf accepted
       opened-keeps table e = rw d (opened-by table at (eqb (length table) (9 * length (m .rules))) (rw d at e))
 
-      ran-keeps : (s : State) (table : List ℕ) (steps : ℕ) → Kept s table → RanKept (runOf image s table steps)
-      unfolding runOf accepted
+      ran-keeps : (s : State) (table : List ℕ) (steps : ℕ) → Kept s table → Kept (runOf image s table steps .state) (runOf image s table steps .table)
+      unfolding runOf traceOf accepted
       ran-keeps s table steps h = rw d (ran-by s table steps at (eqb (length table) (9 * length (m .rules))) (wellFormed m s) refl h)
 
       refreshed-keeps : (s : State) (mark : ℕ) (table : List ℕ) → Kept s table → Kept s (refreshOf image s mark table .table)

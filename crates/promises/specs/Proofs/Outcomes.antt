@@ -4,8 +4,7 @@ use mathlib.Core.Logic.{_⊎_, inl, inr, ⊎-elim}
 use mathlib.Core.Bool.{true}
 use mathlib.Core.List.{List}
 use mathlib.Core.Option.{Option, none, some}
-use Prim.Native.Nat.{ℕ, zero, suc, _+_, _*_, _≤_, _<_}
-use native.Mathlib.Nat.{add-zero, zero-add}
+use Prim.Native.Nat.{ℕ, zero, suc, _*_, _≤_, _<_}
 use native.Mathlib.Omega.{arith}
 use borrow.Author.Tests.{eq-eqb}
 use lib.ListN.{length}
@@ -17,7 +16,8 @@ use Rattle.meaning.specs.Image.{decode}
 use Rattle.meaning.specs.Match.{freshTable}
 use Rattle.meaning.specs.Choice.{Candidate, choose, utilities}
 use Rattle.meaning.specs.Step.{Event, Step, Stopped, Made, largest, unlessPast, stepOf}
-use Rattle.meaning.specs.Calls.{accepted, Ran, runFrom, runOf}
+use Rattle.meaning.specs.Run.{Going, going, Run, before, runFrom}
+use Rattle.meaning.specs.Calls.{accepted, traceOf, Ran, ranBy, runOf}
 use Rattle.laws.specs.EntryLaws.{fresh-length}
 use Rattle.laws.specs.WindowLaws.{by-lt}
 use Rattle.promises.specs.Words.{Reached}
@@ -108,66 +108,53 @@ module _ (m : Model) (d : Decoded m) (s : State) where
 
 -- ---- a run
 
-record Goes (m : Model) (s : State) (asked before : ℕ) (a : Ran) : Type 0 where
-  steps : ℕ
-  made-is : a .made ≡ before + steps
-  path : Transitions m steps s (a .state)
-  ended : Ended m asked steps (a .state) (a .number)
+abbrev freshly : Model → State → Going
+freshly m s = going s (freshTable (m .rules) s)
 
-one-more : (m : Model) (s s′ : State) (e : Event) (n before : ℕ) (a : Ran) → Transition m s e s′ → s′ .clock ≤ largest → Goes m s′ n (before + 1) a → Goes m s (suc n) before a
-one-more m s s′ e n before a t c g =
-    record { steps = suc (g .steps); made-is = g .made-is ∙ omega arith; path = one-step t c (g .path); ended = longer (g .ended) }
+one-more : (m : Model) (s s′ : State) (e : Event) (n : ℕ) (r : Run) → Transition m s e s′ → s′ .clock ≤ largest → RanOn m s′ n (ranBy r)
+    → RanOn m s (suc n) (ranBy (before (record { clock = s′ .clock; event = e }) r))
+one-more m s s′ e n r t c g = record { path = one-step t c (g .path); ended = longer (g .ended) }
   where
     longer : {k number : ℕ} {x : State} → Ended m n k x number → Ended m (suc n) (suc k) x number
     longer (done q) = done (ap suc q)
     longer (full l p) = full (omega arith) p
     longer (over l p) = over (omega arith) p
 
-stopped-run : (m : Model) (n : ℕ) (s : State) (made number : ℕ) → stepOf m s (freshTable (m .rules) s) ≡ Stopped number → Ended m (suc n) 0 s number
-    → Goes m s (suc n) made (runFrom m (suc n) s (freshTable (m .rules) s) made)
+stopped-run : (m : Model) (n : ℕ) (s : State) (number : ℕ) → stepOf m s (freshTable (m .rules) s) ≡ Stopped number → Ended m (suc n) 0 s number
+    → RanOn m s (suc n) (ranBy (runFrom m (suc n) (freshly m s)))
 unfolding runFrom
-stopped-run m n s made number q h = rw q (record { steps = 0; made-is = sym (add-zero made); path = no-step; ended = h })
+stopped-run m n s number q h = rw q (record { path = no-step; ended = h })
 
-made-run : (m : Model) (n : ℕ) (s : State) (made : ℕ) (e : Event) (s′ : State) (mark : ℕ) → stepOf m s (freshTable (m .rules) s) ≡ Made e s′ mark
-    → runFrom m (suc n) s (freshTable (m .rules) s) made ≡ runFrom m n s′ (freshTable (m .rules) s′) (made + 1)
+made-run : (m : Model) (n : ℕ) (s : State) (e : Event) (s′ : State) (mark : ℕ) → stepOf m s (freshTable (m .rules) s) ≡ Made e s′ mark
+    → runFrom m (suc n) (freshly m s) ≡ before (record { clock = s′ .clock; event = e }) (runFrom m n (freshly m s′))
 unfolding runFrom
-made-run m n s made e s′ mark q =
-    rw q (ap (λ (t : List ℕ). runFrom m n s′ t (made + 1)) (step-fresh m s (freshTable (m .rules) s) refl e s′ mark q))
+made-run m n s e s′ mark q =
+    rw q (ap (λ (t : List ℕ). before (record { clock = s′ .clock; event = e }) (runFrom m n (going s′ t))) (step-fresh m s (freshTable (m .rules) s) refl e s′ mark q))
 
-run-goes : (m : Model) (d : Decoded m) (n : ℕ) (s : State) (made : ℕ) → Goes m s n made (runFrom m n s (freshTable (m .rules) s) made)
+run-goes : (m : Model) (d : Decoded m) (n : ℕ) (s : State) → RanOn m s n (ranBy (runFrom m n (freshly m s)))
 unfolding runFrom
-run-goes m d zero s made = record { steps = 0; made-is = sym (add-zero made); path = no-step; ended = done refl }
-run-goes m d (suc n) s made = by (λ s′. run-goes m d n s′ (made + 1)) (outcome m d s)
+run-goes m d zero s = record { path = no-step; ended = done refl }
+run-goes m d (suc n) s = by (λ s′. run-goes m d n s′) (outcome m d s)
   where
-    by : ((s′ : State) → Goes m s′ n (made + 1) (runFrom m n s′ (freshTable (m .rules) s′) (made + 1))) → Outcome m d s → Goes m s (suc n) made (runFrom m (suc n) s (freshTable (m .rules) s) made)
+    by : ((s′ : State) → RanOn m s′ n (ranBy (runFrom m n (freshly m s′)))) → Outcome m d s → RanOn m s (suc n) (ranBy (runFrom m (suc n) (freshly m s)))
     by ih (goes e s′ mark t q) =
         by-lt largest (s′ .clock)
-        (λ h. stopped-run m n s made 8 (q ∙ unless-full e s′ mark h) (full (omega arith) (record { event = e; state = s′; transition = t; past = h })))
-        (λ h.
-        let made-is : stepOf m s (freshTable (m .rules) s) ≡ Made e s′ mark = q ∙ unless-on e s′ mark h in
-        subst (λ (a : Ran). Goes m s (suc n) made a) (sym (made-run m n s made e s′ mark made-is)) (one-more m s s′ e n made (runFrom m n s′ (freshTable (m .rules) s′) (made + 1)) t h (ih s′)))
-    by ih (stays k z q) = stopped-run m n s made 9 q (over (omega arith) (stays-final m d s k z))
+        (λ h. stopped-run m n s 8 (q ∙ unless-full e s′ mark h) (full (omega arith) (record { event = e; state = s′; transition = t; past = h })))
+        (λ h. subst (λ (r : Run). RanOn m s (suc n) (ranBy r)) (sym (made-run m n s e s′ mark (q ∙ unless-on e s′ mark h))) (one-more m s s′ e n (runFrom m n (freshly m s′)) t h (ih s′)))
+    by ih (stays k z q) = stopped-run m n s 9 q (over (omega arith) (stays-final m d s k z))
 
 -- ---- the call
 
-ran-goes : (m : Model) (s : State) (steps : ℕ) (a : Ran) → Goes m s steps 0 a → RanOn m s steps a
-ran-goes m s steps a g =
-    let e : g .steps ≡ a .made = sym (g .made-is ∙ zero-add (g .steps)) in
-    record {
-      path = subst (λ (k : ℕ). Transitions m k s (a .state)) e (g .path);
-      ended = subst (λ (k : ℕ). Ended m steps k (a .state) (a .number)) e (g .ended);
-    }
-
 fresh-ran : (image : List ℕ) (m : Model) (at : ℕ) → decode image ≡ Got m at → (s : State) (steps : ℕ) → wellFormed m s ≡ true
-    → runOf image s (freshTable (m .rules) s) steps ≡ runFrom m steps s (freshTable (m .rules) s) 0
-unfolding runOf accepted
+    → runOf image s (freshTable (m .rules) s) steps ≡ ranBy (runFrom m steps (freshly m s))
+unfolding runOf traceOf accepted
 fresh-ran image m at d s steps w = rw (d, eq-eqb (length (freshTable (m .rules) s)) (9 * length (m .rules)) (fresh-length (m .rules) s), w) refl
 
 pub chain-runs : (image : List ℕ) (m : Model) (at : ℕ) → decode image ≡ Got m at → {s : State} {table : List ℕ} → Reached image s table → (steps : ℕ) → RanOn m s steps (runOf image s table steps)
 chain-runs image m at d {s} {table} r steps =
     let f : table ≡ freshTable (m .rules) s = chain-fresh image m at d r in
-    let e : runOf image s table steps ≡ runFrom m steps s (freshTable (m .rules) s) 0 = ap (λ (t : List ℕ). runOf image s t steps) f ∙ fresh-ran image m at d s steps (chain-well image m at d r) in
-    subst (λ (a : Ran). RanOn m s steps a) (sym e) (ran-goes m s steps (runFrom m steps s (freshTable (m .rules) s) 0) (run-goes m (decoded image m at d) steps s 0))
+    let e : runOf image s table steps ≡ ranBy (runFrom m steps (freshly m s)) = ap (λ (t : List ℕ). runOf image s t steps) f ∙ fresh-ran image m at d s steps (chain-well image m at d r) in
+    subst (λ (a : Ran). RanOn m s steps a) (sym e) (run-goes m (decoded image m at d) steps s)
 
 pub chain-step : (image : List ℕ) (m : Model) (at : ℕ) → decode image ≡ Got m at → {s : State} {table : List ℕ} → Reached image s table
     → (e : Event) (s′ : State) (mark : ℕ) → stepOf m s table ≡ Made e s′ mark → Transition m s e s′

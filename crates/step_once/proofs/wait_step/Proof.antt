@@ -15,7 +15,8 @@ same-length c = search needs
 returns : tie.Need-returns
 returns c =
     let a = c .before .before .before .before .args in
-    nothing-pending (a .state .now) (a .clock) (c .before .soonest .result) (c .before .soonest .ensures) (omega arith)
+    let soonest = c .before .soonest in
+    nothing-pending (a .state .now) (a .clock) (soonest .result) (soonest .ensures) (omega arith)
 
 cast-if2 : tie.Need-cast-if2
 cast-if2 c = search needs
@@ -29,7 +30,9 @@ same-length-2 c = search needs
 returns-2 : tie.Need-returns-2
 returns-2 c =
     let a = c .before .before .before .before .before .args in
-    wait-full (a .state .now) (a .clock) (c .before .before .soonest .result) (c .before .before .soonest .ensures) (c .before .if1 .left) (omega arith)
+    let soonest = c .before .before .soonest in
+    let some = c .before .if1 .left in
+    wait-full (a .state .now) (a .clock) (soonest .result) (soonest .ensures) some (omega arith)
 
 wait-requires : tie.Need-wait-requires
 wait-requires c κs = search needs
@@ -40,7 +43,11 @@ same-length-3 c = search needs
 returns-3 : tie.Need-returns-3
 returns-3 c =
     let a = c .before .before .before .before .before .before .before .before .before .args in
-    waited (a .state .now) (a .clock) (c .before .before .before .before .before .before .soonest .result) (c .before .before .before .before .before .before .soonest .ensures) (c .before .before .before .before .before .if1 .left) (omega arith) _ _ (c .before .before .wait .ensures .0 (a .clock)) (c .before .before .wait .ensures .1 (a .clock) (a .clock + c .before .before .before .before .before .before .soonest .result))
+    let soonest = c .before .before .before .before .before .before .soonest in
+    let some = c .before .before .before .before .before .if1 .left in
+    let wait = c .before .before .wait .ensures in
+    let mark = wait .1 (a .clock) (a .clock + soonest .result) in
+    waited (a .state .now) (a .clock) (soonest .result) (soonest .ensures) some (omega arith) _ _ (wait .0 (a .clock)) mark
 
 pub wait-step-spec : {M : Type 1} → statement M
 wait-step-spec =
