@@ -1,3 +1,2 @@
--- Laws of an acceptance, and of the room for what is laid out.
+-- Laws of an acceptance.
 pub mod TakenLaws
-pub mod RoomLaws

@@ -13,80 +13,80 @@ use Rattle.meaning.specs.Image.{decode}
 use Rattle.meaning.specs.Calls.{accepted}
 use Rattle.layout.specs.declared.Walk.{Walk}
 use Rattle.layout.specs.declared.Walk.the-variants.{Next, Bad}
+use Rattle.layout.specs.declared.Plan.{Plan}
 use Rattle.layout.specs.Rows.{ruleIn}
+use Rattle.layout.specs.Plans.{headsOn, rowsOn, modelOn}
 use Rattle.layout.proofs.RowLaws.{rows-length}
 use Rattle.layout.proofs.WalkLaws.{answer-bad, answer-next}
-use Rattle.read_image.specs.declared.ImageRead.{ImageRead}
-use Rattle.read_image.specs.Whole.{modelIn, LaidOut}
+use Rattle.read_image.specs.Whole.{LaidOut}
 use Rattle.call_accept.specs.declared.Taken.{Taken}
 use Rattle.call_accept.specs.declared.Taken.the-variants as taken
-use Rattle.call_accept.specs.Acceptance.{unplaced, takenBy, TakenMet}
+use Rattle.call_accept.specs.Acceptance.{settled, takenBy, TakenMet}
 
 -- ---- the definition, by what is decoded
 
 module _ (image table : List ℕ) where
-  accepted-bad : (n at : ℕ) → Refused n at ≡ decode image → Refused n 0 ≡ unplaced (accepted image table)
+  accepted-bad : (n at : ℕ) → Refused n at ≡ decode image → Refused n at ≡ settled (accepted image table)
   unfolding accepted
   accepted-bad n at e = rw (← e)
 
-  accepted-other : (m : Model) (at : ℕ) → Got m at ≡ decode image → (length table ≡ 9 * length (m .rules) → ⊥) → Refused 5 0 ≡ unplaced (accepted image table)
+  accepted-other : (m : Model) (at : ℕ) → Got m at ≡ decode image → (length table ≡ 9 * length (m .rules) → ⊥) → Refused 5 0 ≡ settled (accepted image table)
   unfolding accepted
   accepted-other m at e z = rw (← e, ne-eqb (length table) (9 * length (m .rules)) z)
 
-  accepted-right : (m : Model) (at : ℕ) → Got m at ≡ decode image → length table ≡ 9 * length (m .rules) → Got m 0 ≡ unplaced (accepted image table)
+  accepted-right : (m : Model) (at : ℕ) → Got m at ≡ decode image → length table ≡ 9 * length (m .rules) → Got m 0 ≡ settled (accepted image table)
   unfolding accepted
   accepted-right m at e l = rw (← e, eq-eqb (length table) (9 * length (m .rules)) l)
 
 -- ---- what is taken
 
-never : {C : Type 0} (n : ℕ) → taken.Refused n ≡ taken.Accepted → C
-never n e = let z : _≡_ {A = ℕ} 0 1 = cc in absurd (omega arith)
+never : {C : Type 0} (n at : ℕ) → taken.Refused n at ≡ taken.Accepted → C
+never n at e = let z : _≡_ {A = ℕ} 0 1 = cc in absurd (omega arith)
 
-module _ (begun : ImageRead) (image facts heads words : List ℕ) (w : Walk) (met : LaidOut w begun image facts heads words) (lent : ℕ) where
-  abbrev m : Model
-  m = modelIn begun facts heads words
+module _ (p : Plan) (image tape : List ℕ) (w : Walk) (met : LaidOut w p image tape) (lent : ℕ) where
+  rules-many : length (modelOn p tape .rules) ≡ p .rules
+  unfolding modelOn
+  rules-many = rows-length (ruleIn (headsOn p tape) (rowsOn p tape)) 0 (p .rules)
 
-  rules-many : length (m .rules) ≡ begun .rules
-  rules-many = rows-length (ruleIn heads words) 0 (begun .rules)
-
-  pub taken-bad : (n at : ℕ) → w ≡ Bad n at → TakenMet (taken.Refused n) begun image lent facts heads words
+  pub taken-bad : (n at : ℕ) → w ≡ Bad n at → TakenMet (taken.Refused n at) p image lent tape
   taken-bad n at e =
       record {
-        is-taken = λ table l. accepted-bad image table n at (sym (answer-bad w m n at e) ∙ met .reads);
-        laid = never n;
-        fits = never n;
-        right-length = never n;
+        is-taken = λ table l. accepted-bad image table n at (sym (answer-bad w (modelOn p tape) n at e) ∙ met .reads);
+        planned = never n at;
+        right-length = never n at;
       }
 
-  pub taken-other : (q : ℕ) → w ≡ Next q → (right : Bool) → right ≡ eqb lent (9 * begun .rules) → right ≡ false → TakenMet (taken.Refused 5) begun image lent facts heads words
-  taken-other q e right judged g =
-      let z : lent ≡ 9 * begun .rules → ⊥ = eqb-false lent (9 * begun .rules) (sym judged ∙ g) in
-      record {
-        is-taken = λ table l. accepted-other image table m q (sym (answer-next w m q e) ∙ met .reads) (λ g. z (omega (arith, rules-many)));
-        laid = never 5;
-        fits = never 5;
-        right-length = never 5;
-      }
+  module _ (q : ℕ) (e : w ≡ Next q) (right : Bool) (judged : right ≡ eqb lent (9 * p .rules)) where
+    laid : Got (modelOn p tape) q ≡ decode image
+    laid = sym (answer-next w (modelOn p tape) q e) ∙ met .reads
 
-  pub taken-right : (q : ℕ) → w ≡ Next q → (right : Bool) → right ≡ eqb lent (9 * begun .rules) → right ≡ true → TakenMet taken.Accepted begun image lent facts heads words
-  taken-right q e right judged h =
-      let g : lent ≡ 9 * begun .rules = eqb-true lent (9 * begun .rules) (sym judged ∙ h) in
-      record {
-        is-taken = λ table l. accepted-right image table m q (sym (answer-next w m q e) ∙ met .reads) (omega (arith, rules-many));
-        laid = λ x. met .laid q e;
-        fits = λ x. met .fits q e;
-        right-length = λ x. g;
-      }
+    pub taken-other : right ≡ false → TakenMet (taken.Refused 5 0) p image lent tape
+    taken-other g =
+        let z : lent ≡ 9 * p .rules → ⊥ = eqb-false lent (9 * p .rules) (sym judged ∙ g) in
+        record {
+          is-taken = λ table l. accepted-other image table (modelOn p tape) q laid (λ g. z (omega (arith, rules-many)));
+          planned = never 5 0;
+          right-length = never 5 0;
+        }
 
--- ---- a call by what is taken: f is what it gives, in which the place of a refusal plays no part
+    pub taken-right : right ≡ true → TakenMet taken.Accepted p image lent tape
+    taken-right h =
+        let g : lent ≡ 9 * p .rules = eqb-true lent (9 * p .rules) (sym judged ∙ h) in
+        record {
+          is-taken = λ table l. accepted-right image table (modelOn p tape) q laid (omega (arith, rules-many));
+          planned = λ x. met .planned q e;
+          right-length = λ x. g;
+        }
 
-module _ {B : Type 0} (f : Read Model → B) (same : (a : Read Model) → f a ≡ f (unplaced a))
-    (r : Taken) (begun : ImageRead) (image table facts heads words : List ℕ) (met : TakenMet r begun image (length table) facts heads words) where
-  by-taken : (x : Taken) → r ≡ x → f (takenBy x (modelIn begun facts heads words)) ≡ f (accepted image table)
+-- ---- a call by what is taken: f is what it gives, in which the place where an image ends plays no part
+
+module _ {B : Type 0} (f : Read Model → B) (same : (a : Read Model) → f a ≡ f (settled a))
+    (r : Taken) (p : Plan) (image table tape : List ℕ) (met : TakenMet r p image (length table) tape) where
+  by-taken : (x : Taken) → r ≡ x → f (takenBy x (modelOn p tape)) ≡ f (accepted image table)
   by-taken x e = rw (← e, met .is-taken table refl) (sym (same (accepted image table)))
 
-  pub by-refused : (n : ℕ) → r ≡ taken.Refused n → f (Refused n 0) ≡ f (accepted image table)
-  by-refused n e = by-taken (taken.Refused n) e
+  pub by-refused : (n at : ℕ) → r ≡ taken.Refused n at → f (Refused n at) ≡ f (accepted image table)
+  by-refused n at e = by-taken (taken.Refused n at) e
 
-  pub by-accepted : r ≡ taken.Accepted → f (Got (modelIn begun facts heads words) 0) ≡ f (accepted image table)
+  pub by-accepted : r ≡ taken.Accepted → f (Got (modelOn p tape) 0) ≡ f (accepted image table)
   by-accepted e = by-taken taken.Accepted e

@@ -1,17 +1,18 @@
 // Opening an image: refused by number, or the opening state and the fresh table.
 ghost use mathlib.Core.Path.{_≡_};
-ghost use Prim.Native.Nat.{_*_};
+ghost use Prim.Native.Nat.{_≤_};
 ghost use lib.ListN.{length};
 ghost use Rattle.meaning.specs.State.{zeroState};
-ghost use Rattle.meaning.specs.Match.{freshTable};
 ghost use Rattle.meaning.specs.Calls.{openOf};
-ghost use Rattle.layout.specs.Rows.{rulesIn, Laid};
 ghost use Rattle.read_image.specs.Whole.{Begun};
-ghost use Rattle.call_accept.specs.Acceptance.{Room, Small};
 ghost use Rattle.call_open.specs.Answers.{openedIn};
 use call_accept::Taken;
+use layout::LARGE_TAPE;
+use layout::OPENING_AT;
+use layout::PlanRead;
+use layout::SMALL_TAPE;
 use meaning::State;
-use read_image::ImageRead;
+use meaning::numbers::ALL_DONE;
 
 // What open answers.
 pub struct OpenDone {
@@ -30,61 +31,25 @@ fn no_opening(number: u8) -> OpenDone
     }
 }
 
-// The fresh table of n rules in a state by value.
-fn fresh_for(table: &mut [u16], heads: &[u16], words: &[u16], n: usize, state: State)
-    requires { ⌜ Laid (now heads) (now words) n × (length (now table) ≡ 9 * n) ⌝ }
-    ensures { λ _. ⌜ now (table .exit) ≡ freshTable (rulesIn (now (heads .entry)) (now (words .entry)) n) state ⌝ }
-{
-    let mut now = [0u16; 80];
-    layout_state::lay_state(state, &mut now);
-    match_table::fresh(table, heads, words, n, &now);
-}
-
-// Opening, with the arrays to lay the image out in.
-fn open_in(
-    image: &[u8],
-    begun: ImageRead,
-    table: &mut [u16],
-    facts: &mut [u16],
-    heads: &mut [u16],
-    words: &mut [u16],
-) -> OpenDone
-    requires { ⌜ Begun begun (now image) × Room begun (now facts) (now heads) (now words) ⌝ }
+// Opening, with the tape to lay the image out on.
+fn open_on(image: &[u8], begun: PlanRead, table: &mut [u16], tape: &mut [u16]) -> OpenDone
+    requires { ⌜ Begun begun (now image) × (begun .plan .end ≤ length (now tape)) ⌝ }
     ensures { λ r. ⌜ openedIn r (now (table .exit)) ≡ openOf (now (image .entry)) (now (table .entry)) ⌝ }
 {
-    let taken = call_accept::accept(image, begun, table.len(), facts, heads, words);
-    if let Taken::Refused(number) = taken {
+    let taken = call_accept::accept(image, begun, table.len(), tape);
+    if let Taken::Refused(number, _) = taken {
         return no_opening(number);
     }
-    let state = begun.state;
-    let n = begun.rules as usize;
-    fresh_for(table, heads, words, n, state);
+    let plan = begun.plan;
+    let heads = plan.heads;
+    let rows = plan.rows;
+    let n = plan.rules as usize;
+    match_table::fresh(table, &tape[heads..], &tape[rows..], n, &tape[OPENING_AT..]);
+    let state = layout_state::read_state(&tape[OPENING_AT..], 0);
     OpenDone {
-        number: 0,
+        number: ALL_DONE,
         state: state,
     }
-}
-
-// Opening a small image: in arrays that cost little to clear.
-fn open_small(image: &[u8], begun: ImageRead, table: &mut [u16]) -> OpenDone
-    requires { ⌜ Begun begun (now image) × Small begun ⌝ }
-    ensures { λ r. ⌜ openedIn r (now (table .exit)) ≡ openOf (now (image .entry)) (now (table .entry)) ⌝ }
-{
-    let mut facts = [0u16; 704];
-    let mut heads = [0u16; 64];
-    let mut words = [0u16; 2816];
-    open_in(image, begun, table, &mut facts, &mut heads, &mut words)
-}
-
-// Opening any image: in arrays that have room for the largest.
-fn open_large(image: &[u8], begun: ImageRead, table: &mut [u16]) -> OpenDone
-    requires { ⌜ Begun begun (now image) ⌝ }
-    ensures { λ r. ⌜ openedIn r (now (table .exit)) ≡ openOf (now (image .entry)) (now (table .entry)) ⌝ }
-{
-    let mut facts = [0u16; 5632];
-    let mut heads = [0u16; 1024];
-    let mut words = [0u16; 45056];
-    open_in(image, begun, table, &mut facts, &mut heads, &mut words)
 }
 
 // Opens an image: the number, and the opening state (all zero if it is refused); writes the fresh table if it is accepted.
@@ -92,9 +57,11 @@ pub fn open(image: &[u8], table: &mut [u16]) -> OpenDone
     ensures { λ r. ⌜ openedIn r (now (table .exit)) ≡ openOf (now (image .entry)) (now (table .entry)) ⌝ }
 {
     let begun = read_image::begin(image);
-    if read_image::is_small(begun) {
-        open_small(image, begun, table)
-    } else {
-        open_large(image, begun, table)
+    let plan = begun.plan;
+    if plan.end <= SMALL_TAPE {
+        let mut tape = [0u16; SMALL_TAPE];
+        return open_on(image, begun, table, &mut tape);
     }
+    let mut tape = [0u16; LARGE_TAPE];
+    open_on(image, begun, table, &mut tape)
 }

@@ -15,13 +15,13 @@ use Rattle.meaning.specs.Read.{Read, Refused, Got}
 use Rattle.meaning.specs.Refresh.{refresh, refreshCount}
 use Rattle.meaning.specs.Calls.{Refreshed, refreshedBy, refreshOf}
 use Rattle.layout.specs.StateWords.{buffersIn, stateIn}
-use Rattle.read_image.specs.declared.ImageRead.{ImageRead}
-use Rattle.read_image.specs.Whole.{modelIn}
+use Rattle.layout.specs.declared.Plan.{Plan}
+use Rattle.layout.specs.Plans.{modelOn}
 use Rattle.layout_state.specs.Words.{wellIn}
 use Rattle.layout_state.proofs.ValueLaws.{state-is, well-by}
 use Rattle.call_accept.specs.declared.Taken.{Taken}
 use Rattle.call_accept.specs.declared.Taken.the-variants as taken
-use Rattle.call_accept.specs.Acceptance.{unplaced, TakenMet}
+use Rattle.call_accept.specs.Acceptance.{settled, TakenMet}
 use Rattle.call_accept.proofs.TakenLaws.{by-refused, by-accepted}
 use Rattle.call_refresh.specs.declared.RefreshDone.{RefreshDone}
 use Rattle.call_refresh.specs.Answers.{refreshedIn}
@@ -38,20 +38,20 @@ shifted buffers few = omega (arith, pow-mono {i = buffers} {j = 8} few)
 
 -- ---- by what was accepted
 
-module _ (s : State) (mark : ℕ) (t : Taken) (begun : ImageRead) (image table facts heads words : List ℕ) (met : TakenMet t begun image (length table) facts heads words) where
-  refreshed-unplaced : (a : Read Model) → refreshedBy s mark table a ≡ refreshedBy s mark table (unplaced a)
-  refreshed-unplaced (Refused n at) = refl
-  refreshed-unplaced (Got m at) = refl
+module _ (s : State) (mark : ℕ) (t : Taken) (p : Plan) (image table tape : List ℕ) (met : TakenMet t p image (length table) tape) where
+  refreshed-settled : (a : Read Model) → refreshedBy s mark table a ≡ refreshedBy s mark table (settled a)
+  refreshed-settled (Refused n at) = refl
+  refreshed-settled (Got m at) = refl
 
   -- refused: nothing is done
-  pub refresh-refused : (n : ℕ) → t ≡ taken.Refused n → (r : RefreshDone) → r ≡ none n → refreshedIn r table ≡ refreshOf image s mark table
+  pub refresh-refused : (n at : ℕ) → t ≡ taken.Refused n at → (r : RefreshDone) → r ≡ none n → refreshedIn r table ≡ refreshOf image s mark table
   unfolding refreshOf
-  refresh-refused n e r g = rw g (by-refused (refreshedBy s mark table) refreshed-unplaced t begun image table facts heads words met n e)
+  refresh-refused n at e r g = rw g (by-refused (refreshedBy s mark table) refreshed-settled t p image table tape met n at e)
 
   -- accepted: what is left, for the model that was laid out
-  pub refresh-accepted : t ≡ taken.Accepted → (x : Refreshed) → x ≡ refreshedBy s mark table (Got (modelIn begun facts heads words) 0) → x ≡ refreshOf image s mark table
+  pub refresh-accepted : t ≡ taken.Accepted → (x : Refreshed) → x ≡ refreshedBy s mark table (Got (modelOn p tape) 0) → x ≡ refreshOf image s mark table
   unfolding refreshOf
-  refresh-accepted e x g = g ∙ by-accepted (refreshedBy s mark table) refreshed-unplaced t begun image table facts heads words met e
+  refresh-accepted e x g = g ∙ by-accepted (refreshedBy s mark table) refreshed-settled t p image table tape met e
 
 -- ---- of a model with these buffers and types, whose state stands in the words w
 

@@ -3,16 +3,21 @@ ghost use mathlib.Core.Path.{_≡_};
 ghost use Prim.Native.Nat.{_*_, _^_, _≤_};
 ghost use lib.Dec.{ltb};
 ghost use lib.ListN.{length};
-ghost use Rattle.meaning.specs.Model.{Model};
 ghost use Rattle.meaning.specs.Read.{Got};
 ghost use Rattle.meaning.specs.Calls.{refreshedBy, refreshOf};
-ghost use Rattle.layout.specs.Rows.{rulesIn, Laid};
+ghost use Rattle.layout.specs.Plans.{modelOn, Planned};
 ghost use Rattle.read_image.specs.Whole.{Begun};
-ghost use Rattle.call_accept.specs.Acceptance.{Room, Small};
 ghost use Rattle.call_refresh.specs.Answers.{refreshedIn};
 use call_accept::Taken;
+use layout::LARGE_TAPE;
+use layout::Plan;
+use layout::PlanRead;
+use layout::SMALL_TAPE;
+use layout::STATE_WORDS;
 use meaning::State;
-use read_image::ImageRead;
+use meaning::numbers::ALL_DONE;
+use meaning::numbers::BAD_MARK;
+use meaning::numbers::ILL_FORMED;
 
 // What refresh answers: the number, and how many rules test a marked buffer.
 pub struct RefreshDone {
@@ -41,115 +46,51 @@ fn mark_allowed(mark: u16, buffers: u16) -> bool
 // What is left to refuse once the image and the table's length are accepted, and the refresh.
 fn refresh_for(
     table: &mut [u16],
-    heads: &[u16],
-    words: &[u16],
-    n: usize,
-    types: &[u16],
-    buffers: u16,
+    plan: Plan,
+    tape: &[u16],
     state: State,
     mark: u16,
 ) -> RefreshDone
-    requires { ⌜ Laid (now heads) (now words) n × (length (now table) ≡ 9 * n) × (buffers ≤ 8) ⌝ }
-    ensures { λ r. ⌜ ((m : Model) → m .buffers ≡ buffers → m .types ≡ now (types .entry) → m .rules ≡ rulesIn (now (heads .entry)) (now (words .entry)) n → refreshedIn r (now (table .exit)) ≡ refreshedBy state mark (now (table .entry)) (Got m 0)) ⌝ }
+    requires { ⌜ Planned plan (now tape) × (length (now table) ≡ 9 * plan .rules) ⌝ }
+    ensures { λ r. ⌜ refreshedIn r (now (table .exit)) ≡ refreshedBy state mark (now (table .entry)) (Got (modelOn plan (now (tape .entry))) 0) ⌝ }
 {
-    let mut now = [0u16; 80];
+    let mut now = [0u16; STATE_WORDS];
     layout_state::lay_state(state, &mut now);
-    if !layout_state::well_formed(&now, types, buffers as usize) {
-        return no_refresh(6);
+    let end = plan.declared as usize + 1;
+    if !layout_state::well_formed(&now, &tape[..end], plan.buffers as usize) {
+        return no_refresh(ILL_FORMED);
     }
-    if !mark_allowed(mark, buffers) {
-        return no_refresh(10);
+    if !mark_allowed(mark, plan.buffers) {
+        return no_refresh(BAD_MARK);
     }
-    let count = match_table::refresh(table, heads, words, n, &now, mark);
+    let heads = plan.heads;
+    let rows = plan.rows;
+    let n = plan.rules as usize;
+    let count = match_table::refresh(table, &tape[heads..], &tape[rows..], n, &now, mark);
     RefreshDone {
-        number: 0,
+        number: ALL_DONE,
         count: count,
     }
 }
 
-// Refreshing, with the arrays to lay the image out in.
-fn refresh_in(
+// Refreshing, with the tape to lay the image out on.
+fn refresh_on(
     image: &[u8],
-    begun: ImageRead,
+    begun: PlanRead,
     state: State,
     mark: u16,
     table: &mut [u16],
-    facts: &mut [u16],
-    heads: &mut [u16],
-    words: &mut [u16],
+    tape: &mut [u16],
 ) -> RefreshDone
-    requires { ⌜ Begun begun (now image) × Room begun (now facts) (now heads) (now words) ⌝ }
+    requires { ⌜ Begun begun (now image) × (begun .plan .end ≤ length (now tape)) ⌝ }
     ensures { λ r. ⌜ refreshedIn r (now (table .exit)) ≡ refreshOf (now (image .entry)) state mark (now (table .entry)) ⌝ }
 {
-    let taken = call_accept::accept(image, begun, table.len(), facts, heads, words);
-    if let Taken::Refused(number) = taken {
+    let taken = call_accept::accept(image, begun, table.len(), tape);
+    if let Taken::Refused(number, _) = taken {
         return no_refresh(number);
     }
-    let types = begun.types;
-    let end = begun.declared as usize + 1;
-    let n = begun.rules as usize;
-    refresh_for(
-        table,
-        heads,
-        words,
-        n,
-        &types[..end],
-        begun.buffers,
-        state,
-        mark,
-    )
-}
-
-// Refreshing for a small image: in arrays that cost little to clear.
-fn refresh_small(
-    image: &[u8],
-    begun: ImageRead,
-    state: State,
-    mark: u16,
-    table: &mut [u16],
-) -> RefreshDone
-    requires { ⌜ Begun begun (now image) × Small begun ⌝ }
-    ensures { λ r. ⌜ refreshedIn r (now (table .exit)) ≡ refreshOf (now (image .entry)) state mark (now (table .entry)) ⌝ }
-{
-    let mut facts = [0u16; 704];
-    let mut heads = [0u16; 64];
-    let mut words = [0u16; 2816];
-    refresh_in(
-        image,
-        begun,
-        state,
-        mark,
-        table,
-        &mut facts,
-        &mut heads,
-        &mut words,
-    )
-}
-
-// Refreshing for any image: in arrays that have room for the largest.
-fn refresh_large(
-    image: &[u8],
-    begun: ImageRead,
-    state: State,
-    mark: u16,
-    table: &mut [u16],
-) -> RefreshDone
-    requires { ⌜ Begun begun (now image) ⌝ }
-    ensures { λ r. ⌜ refreshedIn r (now (table .exit)) ≡ refreshOf (now (image .entry)) state mark (now (table .entry)) ⌝ }
-{
-    let mut facts = [0u16; 5632];
-    let mut heads = [0u16; 1024];
-    let mut words = [0u16; 45056];
-    refresh_in(
-        image,
-        begun,
-        state,
-        mark,
-        table,
-        &mut facts,
-        &mut heads,
-        &mut words,
-    )
+    let plan = begun.plan;
+    refresh_for(table, plan, tape, state, mark)
 }
 
 // Makes the entries of the rules that test a marked buffer afresh: the number, and how many these rules are.
@@ -157,9 +98,11 @@ pub fn refresh(image: &[u8], state: State, mark: u16, table: &mut [u16]) -> Refr
     ensures { λ r. ⌜ refreshedIn r (now (table .exit)) ≡ refreshOf (now (image .entry)) state mark (now (table .entry)) ⌝ }
 {
     let begun = read_image::begin(image);
-    if read_image::is_small(begun) {
-        refresh_small(image, begun, state, mark, table)
-    } else {
-        refresh_large(image, begun, state, mark, table)
+    let plan = begun.plan;
+    if plan.end <= SMALL_TAPE {
+        let mut tape = [0u16; SMALL_TAPE];
+        return refresh_on(image, begun, state, mark, table, &mut tape);
     }
+    let mut tape = [0u16; LARGE_TAPE];
+    refresh_on(image, begun, state, mark, table, &mut tape)
 }

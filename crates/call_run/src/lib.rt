@@ -2,17 +2,20 @@
 ghost use mathlib.Core.Path.{_≡_};
 ghost use Prim.Native.Nat.{_*_, _≤_};
 ghost use lib.ListN.{length};
-ghost use Rattle.meaning.specs.Model.{Model};
 ghost use Rattle.meaning.specs.Read.{Got};
 ghost use Rattle.meaning.specs.Calls.{accepted, traceOf, runOf};
-ghost use Rattle.layout.specs.Rows.{Laid};
+ghost use Rattle.layout.specs.Plans.{modelOn, Planned};
 ghost use Rattle.read_image.specs.Whole.{Begun};
 ghost use Rattle.step_run.specs.Events.{inscribed};
-ghost use Rattle.call_accept.specs.Acceptance.{Room, Small};
-ghost use Rattle.call_run.specs.Answers.{Stands, RunMet, ranBack};
+ghost use Rattle.call_run.specs.Answers.{RunMet, ranBack};
 use call_accept::Taken;
+use layout::LARGE_TAPE;
+use layout::Plan;
+use layout::PlanRead;
+use layout::SMALL_TAPE;
+use layout::STATE_WORDS;
 use meaning::State;
-use read_image::ImageRead;
+use meaning::numbers::ILL_FORMED;
 
 // What run answers: the number, the state, and the steps made.
 pub struct RunDone {
@@ -35,49 +38,34 @@ fn no_run(number: u8, state: State) -> RunDone
 // What is left to refuse once the image and the table's length are accepted, and the run.
 fn run_for(
     table: &mut [u16],
-    heads: &[u16],
-    words: &[u16],
-    n: usize,
-    facts: &[u16],
-    m: usize,
-    failure: u16,
-    types: &[u16],
-    buffers: u16,
+    plan: Plan,
+    tape: &mut [u16],
     state: State,
     asked: u16,
     events: &mut [u32],
 ) -> RunDone
-    requires { ⌜ Laid (now heads) (now words) n × (length (now table) ≡ 9 * n) × (m ≤ 512) × (11 * m ≤ length (now facts)) × (buffers ≤ 8) ⌝ }
-    ensures { λ r. ⌜ ((mo : Model) → Stands mo buffers (now (types .entry)) failure (now (facts .entry)) m (now (heads .entry)) (now (words .entry)) n → RunMet r (Got mo 0) state (now (table .entry)) (now (table .exit)) asked (now (events .entry)) (now (events .exit))) ⌝ }
+    requires { ⌜ Planned plan (now tape) × (length (now table) ≡ 9 * plan .rules) ⌝ }
+    ensures { λ r. ⌜ RunMet r (Got (modelOn plan (now (tape .entry))) 0) state (now (table .entry)) (now (table .exit)) asked (now (events .entry)) (now (events .exit)) ⌝ }
 {
-    let mut now = [0u16; 80];
+    let mut now = [0u16; STATE_WORDS];
     layout_state::lay_state(state, &mut now);
-    if !layout_state::well_formed(&now, types, buffers as usize) {
-        return no_run(6, state);
+    let end = plan.declared as usize + 1;
+    if !layout_state::well_formed(&now, &tape[..end], plan.buffers as usize) {
+        return no_run(ILL_FORMED, state);
     }
-    let mut index = [0u16; 576];
-    step_retrieve::chain(&mut index, facts, m);
-    let mut gates = [0u16; 512];
-    match_gates::lay_gates(&mut gates, words, n);
-    let mut unions = [0u16; 16];
-    match_table::unite(&mut unions, heads, n);
+    step_aids::lay_aids(plan, tape);
     let mut leads = [0u32; 16];
-    match_choice::lay_leads(&mut leads, heads, table, n);
+    let heads = plan.heads;
+    let n = plan.rules as usize;
+    match_choice::lay_leads(&mut leads, &tape[heads..], table, n);
     let went = step_run::advance(
         &mut now,
         state.clock,
         table,
-        heads,
-        words,
-        n,
-        facts,
-        &index,
-        m,
-        failure,
+        plan,
+        tape,
         asked,
         events,
-        &gates,
-        &unions,
         &mut leads,
     );
     let after = layout_state::read_state(&now, went.clock);
@@ -88,99 +76,25 @@ fn run_for(
     }
 }
 
-// Running, with the arrays to lay the image out in.
-fn run_in(
+// Running, with the tape to lay the image out on.
+fn run_on(
     image: &[u8],
-    begun: ImageRead,
+    begun: PlanRead,
     state: State,
     table: &mut [u16],
     steps: u16,
     events: &mut [u32],
-    facts: &mut [u16],
-    heads: &mut [u16],
-    words: &mut [u16],
+    tape: &mut [u16],
 ) -> RunDone
-    requires { ⌜ Begun begun (now image) × Room begun (now facts) (now heads) (now words) ⌝ }
+    requires { ⌜ Begun begun (now image) × (begun .plan .end ≤ length (now tape)) ⌝ }
     ensures { λ r. ⌜ RunMet r (accepted (now (image .entry)) (now (table .entry))) state (now (table .entry)) (now (table .exit)) steps (now (events .entry)) (now (events .exit)) ⌝ }
 {
-    let taken = call_accept::accept(image, begun, table.len(), facts, heads, words);
-    if let Taken::Refused(number) = taken {
+    let taken = call_accept::accept(image, begun, table.len(), tape);
+    if let Taken::Refused(number, _) = taken {
         return no_run(number, state);
     }
-    let types = begun.types;
-    let end = begun.declared as usize + 1;
-    let n = begun.rules as usize;
-    let m = begun.facts as usize;
-    run_for(
-        table,
-        heads,
-        words,
-        n,
-        facts,
-        m,
-        begun.failure,
-        &types[..end],
-        begun.buffers,
-        state,
-        steps,
-        events,
-    )
-}
-
-// Running a small image: in arrays that cost little to clear.
-fn run_small(
-    image: &[u8],
-    begun: ImageRead,
-    state: State,
-    table: &mut [u16],
-    steps: u16,
-    events: &mut [u32],
-) -> RunDone
-    requires { ⌜ Begun begun (now image) × Small begun ⌝ }
-    ensures { λ r. ⌜ RunMet r (accepted (now (image .entry)) (now (table .entry))) state (now (table .entry)) (now (table .exit)) steps (now (events .entry)) (now (events .exit)) ⌝ }
-{
-    let mut facts = [0u16; 704];
-    let mut heads = [0u16; 64];
-    let mut words = [0u16; 2816];
-    run_in(
-        image,
-        begun,
-        state,
-        table,
-        steps,
-        events,
-        &mut facts,
-        &mut heads,
-        &mut words,
-    )
-}
-
-// Running any image: in arrays that have room for the largest.
-fn run_large(
-    image: &[u8],
-    begun: ImageRead,
-    state: State,
-    table: &mut [u16],
-    steps: u16,
-    events: &mut [u32],
-) -> RunDone
-    requires { ⌜ Begun begun (now image) ⌝ }
-    ensures { λ r. ⌜ RunMet r (accepted (now (image .entry)) (now (table .entry))) state (now (table .entry)) (now (table .exit)) steps (now (events .entry)) (now (events .exit)) ⌝ }
-{
-    let mut facts = [0u16; 5632];
-    let mut heads = [0u16; 1024];
-    let mut words = [0u16; 45056];
-    run_in(
-        image,
-        begun,
-        state,
-        table,
-        steps,
-        events,
-        &mut facts,
-        &mut heads,
-        &mut words,
-    )
+    let plan = begun.plan;
+    run_for(table, plan, tape, state, steps, events)
 }
 
 // Runs as `run` does, and notes each step in three lent words, as long as there is room: the clock after it, 0 and the rule that fired or 1 and the ms waited.
@@ -194,11 +108,13 @@ pub fn trace(
     ensures { λ r. ⌜ (ranBack r (now (table .exit)) ≡ runOf (now (image .entry)) state (now (table .entry)) steps) × (now (events .exit) ≡ inscribed (now (events .entry)) 0 (traceOf (now (image .entry)) state (now (table .entry)) steps .events)) ⌝ }
 {
     let begun = read_image::begin(image);
-    if read_image::is_small(begun) {
-        run_small(image, begun, state, table, steps, events)
-    } else {
-        run_large(image, begun, state, table, steps, events)
+    let plan = begun.plan;
+    if plan.end <= SMALL_TAPE {
+        let mut tape = [0u16; SMALL_TAPE];
+        return run_on(image, begun, state, table, steps, events, &mut tape);
     }
+    let mut tape = [0u16; LARGE_TAPE];
+    run_on(image, begun, state, table, steps, events, &mut tape)
 }
 
 // Runs at most `steps` steps from a state: the number, the state and the steps made; the table is refreshed after each step.

@@ -23,13 +23,14 @@ use Rattle.laws.specs.ReadLaws.{no-got, split, times-all}
 use Rattle.layout.specs.declared.Walk.{Walk}
 use Rattle.layout.specs.declared.Walk.the-variants.{Next, Bad}
 use Rattle.layout.specs.Walks.{answer, mapped, Small}
-use Rattle.layout.specs.Rows.{sizes}
+use Rattle.layout.specs.Rows.{sizes, ruleIn}
+use Rattle.layout.proofs.RowLaws.{rows-length}
 use Rattle.layout.proofs.WalkLaws.{answer-bad, answer-next, bad-within, bad-never}
 use Rattle.layout.specs.declared.Plan.{Plan}
 use Rattle.layout.specs.declared.PlanRead.{PlanRead}
-use Rattle.layout.specs.Plans.{planOf, chunkIn}
+use Rattle.layout.specs.Plans.{planOf, chunkIn, headsOn, rowsOn, modelOn}
 use Rattle.read_opening.specs.Parts.{HeaderMet, headerIn, openingState}
-use Rattle.read_image.specs.Whole.{headerOf, Begun, verdict}
+use Rattle.read_image.specs.Whole.{headerOf, Begun, verdict, Checked}
 
 -- ---- the opening state and its chunks
 
@@ -200,9 +201,18 @@ module _ (s : List ℕ) (h : length s ≤ 65536) where
   decode-on b p (Bad x y) c e₁ e = rw (decode-short, ← e₁, ← e)
 
 -- an answer to a reading, without its value
-pub verdict-of : {A : Type 0} (w : Walk) (x : A) (r : Read A) → answer w x ≡ r → answer w tt ≡ verdict r
+verdict-of : {A : Type 0} (w : Walk) (x : A) (r : Read A) → answer w x ≡ r → answer w tt ≡ verdict r
 verdict-of (Next q) x r e = rw (← e)
 verdict-of (Bad n p) x r e = rw (← e)
+
+-- what is laid out is checked: the rules of the model are those of its plan
+pub laid-checked : (w : Walk) (p : Plan) (tape s : List ℕ) → answer w (modelOn p tape) ≡ decode s → Checked w p s
+unfolding modelOn
+laid-checked w p tape s e = record { reads = verdict-of w (modelOn p tape) (decode s) e; many = λ m q d. go w m q (e ∙ d) }
+  where
+    go : (w : Walk) (m : Model) (q : ℕ) → answer w (modelOn p tape) ≡ Got m q → length (m .rules) ≡ p .rules
+    go (Next z) m q g = let same : modelOn p tape ≡ m = cc in rw (← same) (rows-length (ruleIn (headsOn p tape) (rowsOn p tape)) 0 (p .rules))
+    go (Bad x y) m q g = absurd (no-got x y m q g)
 
 -- ---- the end
 

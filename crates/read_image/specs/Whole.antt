@@ -6,6 +6,7 @@ use lib.Dec.{ltb}
 use lib.ListN.{length, take, drop}
 use Rattle.meaning.specs.Base.{if_then_else_}
 use Rattle.meaning.specs.Numbers.{too-long}
+use Rattle.meaning.specs.Model.{Model}
 use Rattle.meaning.specs.Read.{Read, Refused, Got}
 use Rattle.meaning.specs.Image.{Header, header, Beginning, beginning, Contents, decode}
 use Rattle.layout.specs.declared.Walk.{Walk}
@@ -63,3 +64,8 @@ pub record LaidOut (r : Walk) (p : Plan) (image tape : List ℕ) : Type 0 where
 abbrev pub verdict : {A : Type 0} → Read A → Read (Unit {0})
 verdict (Refused n at) = Refused n at
 verdict (Got x at) = Got tt at
+
+-- whether an image is accepted, and that it then has as many rules as its plan says
+pub record Checked (r : Walk) (p : Plan) (image : List ℕ) : Type 0 where
+  pub reads : answer r tt ≡ verdict (decode image)
+  pub many : (m : Model) (q : ℕ) → decode image ≡ Got m q → length (m .rules) ≡ p .rules

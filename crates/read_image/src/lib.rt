@@ -3,13 +3,13 @@ ghost use mathlib.Core.Path.{_≡_};
 ghost use Prim.Native.Nat.{_*_, _≤_, _<_};
 ghost use lib.ListN.{length, take};
 ghost use Rattle.meaning.specs.Read.{Got};
-ghost use Rattle.meaning.specs.Image.{header, contents, ending, decode};
+ghost use Rattle.meaning.specs.Image.{header, contents, ending};
 ghost use Rattle.layout.specs.Walks.{answer, Within, Small};
 ghost use Rattle.layout.specs.Rows.{sizes};
 ghost use Rattle.layout.specs.Plans.{planOf, headsOn, rowsOn};
 ghost use Rattle.read_opening.specs.Parts.{headerIn};
 ghost use Rattle.read_rules.specs.Heads.{LaidIf};
-ghost use Rattle.read_image.specs.Whole.{contentsOn, InBounds, Begun, OpeningMet, LaidOut, verdict};
+ghost use Rattle.read_image.specs.Whole.{contentsOn, InBounds, Begun, OpeningMet, LaidOut, Checked};
 use layout::FACTS_AT;
 use layout::HEAD_WORDS;
 use layout::LARGE_TAPE;
@@ -147,7 +147,7 @@ pub fn lay_out(image: &[u8], begun: PlanRead, tape: &mut [u16]) -> Walk
 // Whether an image that was begun is accepted, of any length and content: where its last field ends, or the number and place of its refusal.
 pub fn check(image: &[u8], begun: PlanRead) -> Walk
     requires { ⌜ Begun begun (now image) ⌝ }
-    ensures { λ r. ⌜ answer r tt ≡ verdict (decode (now (image .entry))) ⌝ }
+    ensures { λ r. ⌜ Checked r (begun .plan) (now (image .entry)) ⌝ }
 {
     let plan = begun.plan;
     if plan.end <= SMALL_TAPE {

@@ -1,6 +1,5 @@
 -- `read_image::check` meets its contract: on either tape, what is laid out is the verdict.
-use native.Mathlib.Omega.{arith}
-use Rattle.read_image.proofs.WholeLaws.{verdict-of}
+use Rattle.read_image.proofs.WholeLaws.{laid-checked}
 use borrow.Author.Needs.{needs}
 use Rattle.read_image.proofs.check.Statement.{statement}
 use Rattle.read_image.proofs.check.Tie as tie
@@ -12,7 +11,7 @@ lay-out-requires : tie.Need-lay-out-requires
 lay-out-requires c κs = search needs
 
 returns : tie.Need-returns
-returns c = let l = c .before in verdict-of (l .lay-out .result) _ _ (l .lay-out .ensures .reads)
+returns c = let l = c .before in laid-checked (l .lay-out .result) _ _ _ (l .lay-out .ensures .reads)
 
 slice-aggregate-lay-out-2 : tie.Need-slice-aggregate-lay-out-2
 slice-aggregate-lay-out-2 c = search needs
@@ -21,7 +20,7 @@ lay-out-requires-2 : tie.Need-lay-out-requires-2
 lay-out-requires-2 c κs = search needs
 
 returns-2 : tie.Need-returns-2
-returns-2 c = let l = c .before in verdict-of (l .lay-out2 .result) _ _ (l .lay-out2 .ensures .reads)
+returns-2 c = let l = c .before in laid-checked (l .lay-out2 .result) _ _ _ (l .lay-out2 .ensures .reads)
 
 pub check-spec : {M : Type 1} → statement M
 check-spec =
