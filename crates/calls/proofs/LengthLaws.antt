@@ -7,9 +7,9 @@ use Rattle.meaning.specs.Model.{Model}
 use Rattle.meaning.specs.Read.{Read, Refused, Got}
 use Rattle.meaning.specs.Image.{decode}
 use Rattle.meaning.specs.Calls.{wordsFor, tableLength}
-use Rattle.read_image.specs.declared.ImageRead.{ImageRead}
-use Rattle.read_image.specs.Whole.{Begun, verdict}
-use Rattle.read_image.proofs.WholeLaws.{decode-many}
+use Rattle.layout.specs.declared.Walk.{Walk}
+use Rattle.layout.specs.declared.Plan.{Plan}
+use Rattle.read_image.specs.Whole.{verdict, Checked}
 
 pub length-bad : (image : List ℕ) (x y : ℕ) → Refused x y ≡ verdict (decode image) → 0 ≡ tableLength image
 unfolding tableLength
@@ -19,10 +19,10 @@ length-bad image x y e = go (decode image) e
     go (Refused a b) g = refl
     go (Got m q) g = cc
 
-pub length-next : (begun : ImageRead) (image : List ℕ) (q : ℕ) → Begun begun image → Got tt q ≡ verdict (decode image) → 9 * begun .rules ≡ tableLength image
+pub length-next : (w : Walk) (p : Plan) (image : List ℕ) (q : ℕ) → Checked w p image → Got tt q ≡ verdict (decode image) → 9 * p .rules ≡ tableLength image
 unfolding tableLength
-length-next begun image q b e = go (decode image) refl e
+length-next w p image q checked e = go (decode image) refl e
   where
-    go : (r : Read Model) → decode image ≡ r → Got tt q ≡ verdict r → 9 * begun .rules ≡ wordsFor r
+    go : (r : Read Model) → decode image ≡ r → Got tt q ≡ verdict r → 9 * p .rules ≡ wordsFor r
     go (Refused x y) d g = cc
-    go (Got m z) d g = omega (arith, decode-many begun image m z b d)
+    go (Got m z) d g = omega (arith, checked .many m z d)

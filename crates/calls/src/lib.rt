@@ -17,9 +17,10 @@ pub fn table_length(image: &[u8]) -> u16
     ensures { λ r. ⌜ r ≡ tableLength (now (image .entry)) ⌝ }
 {
     let begun = read_image::begin(image);
+    let plan = begun.plan;
     let walk = read_image::check(image, begun);
     match walk {
-        Walk::Next(_) => 9 * begun.rules,
+        Walk::Next(_) => 9 * plan.rules,
         Walk::Bad(_, _) => 0,
     }
 }
