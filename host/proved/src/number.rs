@@ -88,7 +88,7 @@ impl Number {
         }
     }
 
-    /// What a number of the library means; it gives 0 to 10.
+    /// What a number of the library means. It is proved to give 0 to 10; any other is never told as one of these.
     pub(crate) fn of(number: u16) -> Number {
         match number {
             0 => Number::Ended(End::Done),
@@ -101,7 +101,8 @@ impl Number {
             7 => Number::Ended(End::Stale),
             8 => Number::Ended(End::ClockFull),
             9 => Number::Ended(End::Halted),
-            _ => Number::Refused(Refusal::Mark),
+            10 => Number::Refused(Refusal::Mark),
+            other => unreachable!("the library answered {other}, which is none of its numbers 0 to 10"),
         }
     }
 }
@@ -141,3 +142,20 @@ impl fmt::Display for Number {
 }
 
 impl Error for Refusal {}
+
+#[cfg(test)]
+mod tests {
+    use super::Number;
+
+    #[test]
+    fn each_number_means_itself() {
+        let numbers: Vec<u8> = (0..=10).map(|number| Number::of(number).number()).collect();
+        assert_eq!(numbers, (0..=10).collect::<Vec<u8>>());
+    }
+
+    #[test]
+    #[should_panic(expected = "the library answered 11, which is none of its numbers 0 to 10")]
+    fn a_number_that_is_not_known_is_named() {
+        Number::of(11);
+    }
+}
