@@ -168,7 +168,8 @@ fn read_action(
             action.deed = Deed::Request(isa);
             isa
         }
-        _ => return Some(()),
+        (2, _) => return Some(()),
+        _ => unreachable!("kind {kind} was refused"),
     };
     read_pattern(reader, types, scope, isa, &mut action.pattern)
 }

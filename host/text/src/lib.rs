@@ -8,10 +8,12 @@ mod limits;
 mod model;
 mod names;
 mod parse;
+mod refused;
 mod write;
 
 pub use error::TextError;
-pub use image::{read_image, Refused};
+pub use image::read_image;
 pub use limits::IMAGE_LIMIT;
 pub use model::Model;
 pub use names::{Names, RuleNames, TypeNames, CHUNK, NIL};
+pub use refused::{Flaw, Refused};

@@ -4,9 +4,10 @@ use jirvuntsag_packing::{pack, ModelSpec};
 
 use crate::error::TextError;
 use crate::fit::check_fit;
-use crate::image::{read_image, Refused};
+use crate::image::read_image;
 use crate::names::Names;
 use crate::parse::parse;
+use crate::refused::Refused;
 
 /// A model and its names; its image is one that opens.
 #[derive(Clone, PartialEq, Eq, Debug)]
