@@ -2,7 +2,8 @@
 
 use crate::bits::{Reader, Refusal};
 use crate::memory::Memory;
-use crate::model::{Action, Chunk, Deed, Fact, Model, PackedTerm, Parts, Pattern, RuleHead, Test, Types};
+use crate::model::Model;
+use crate::parts::{Action, Chunk, Deed, Fact, PackedTerm, Parts, Pattern, RuleHead, Test, Types};
 use crate::plan::Plan;
 use crate::{BUFFERS, IMAGE_LIMIT};
 
