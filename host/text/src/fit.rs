@@ -6,7 +6,7 @@ use jirvuntsag_packing::ModelSpec;
 
 use crate::error::TextError;
 use crate::names::{Names, CHUNK, NIL};
-use crate::parse::{buffer_name_fault, name_fault, slot_name_fault, type_name_fault};
+use crate::naming::{buffer_name_fault, name_fault, slot_name_fault, type_name_fault};
 
 /// Refuses names that do not fit the model.
 pub fn check_fit(spec: &ModelSpec, names: &Names) -> Result<(), TextError> {

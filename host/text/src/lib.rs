@@ -7,6 +7,7 @@ mod json;
 mod limits;
 mod model;
 mod names;
+mod naming;
 mod parse;
 mod refused;
 mod write;

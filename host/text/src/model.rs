@@ -5,6 +5,7 @@ use jirvuntsag_packing::{pack, ModelSpec};
 use crate::error::TextError;
 use crate::fit::check_fit;
 use crate::image::read_image;
+use crate::limits::IMAGE_LIMIT;
 use crate::names::Names;
 use crate::parse::parse;
 use crate::refused::Refused;
@@ -17,14 +18,14 @@ pub struct Model {
 }
 
 impl Model {
-    /// A model that was checked, with names that fit it.
-    pub(crate) fn new(spec: ModelSpec, names: Names) -> Model {
-        Model { spec, names }
-    }
-
     /// The model of a text.
     pub fn from_text(text: &str) -> Result<Model, TextError> {
-        parse(text)
+        let (spec, names) = parse(text)?;
+        let model = Model { spec, names };
+        match model.image().len() {
+            0..=IMAGE_LIMIT => Ok(model),
+            bytes => Err(TextError::whole(format!("the image has {bytes} bytes: {IMAGE_LIMIT} are the most"))),
+        }
     }
 
     /// The model of an image, with invented names.

@@ -2,16 +2,12 @@
 
 use jirvuntsag_packing::{ChunkSpec, FactSpec};
 
-use super::lookup::ISA;
-use super::words::{name_fault, whole_number, Line, Word};
+use super::words::{whole_number, Line, Word};
 use super::Parser;
 use crate::error::TextError;
 use crate::limits::{BUFFERS, FACTS, SLOTS, SYMBOL, TYPES};
 use crate::names::TypeNames;
-
-/// Words that end the slots of a fact, so that no slot can be called so.
-const ACTIVATION: &str = "activation";
-const LATENCY: &str = "latency";
+use crate::naming::{buffer_name_fault, slot_name_fault, type_name_fault, ACTIVATION, LATENCY};
 
 impl<'t> Parser<'t> {
     /// `failure latency MS`.
@@ -117,37 +113,4 @@ impl<'t> Parser<'t> {
         }
         Ok(ChunkSpec { isa, slots })
     }
-}
-
-/// Why a type cannot be called so, after the types before it.
-pub fn type_name_fault<'n>(name: &str, mut before: impl Iterator<Item = &'n String>) -> Option<String> {
-    if name == ISA {
-        return Some(format!("'{name}' has a meaning of its own and cannot be a type"));
-    }
-    if before.any(|other| other == name) {
-        return Some(format!("type '{name}' is declared twice"));
-    }
-    name_fault(name)
-}
-
-/// Why a slot cannot be called so, after the slots of its type before it.
-pub fn slot_name_fault(name: &str, before: &[String]) -> Option<String> {
-    if [ISA, ACTIVATION, LATENCY, "-"].contains(&name) {
-        return Some(format!("'{name}' has a meaning of its own and cannot be a slot"));
-    }
-    if before.iter().any(|other| other == name) {
-        return Some(format!("slot '{name}' is named twice"));
-    }
-    name_fault(name)
-}
-
-/// Why a buffer cannot be called so, after the buffers before it.
-pub fn buffer_name_fault(name: &str, before: &[String]) -> Option<String> {
-    if name.contains('>') {
-        return Some("'>' cannot stand in the name of a buffer".into());
-    }
-    if before.iter().any(|other| other == name) {
-        return Some(format!("buffer '{name}' is declared twice"));
-    }
-    name_fault(name)
 }

@@ -4,9 +4,7 @@ use super::words::{Line, Word};
 use super::Parser;
 use crate::error::TextError;
 use crate::names::TypeNames;
-
-/// The word that may stand before a type, as in ACT-R.
-pub const ISA: &str = "isa";
+use crate::naming::ISA;
 
 impl<'t> Parser<'t> {
     /// The number of a type; the word `isa` before it is passed over.

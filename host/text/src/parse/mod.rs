@@ -10,18 +10,14 @@ mod words;
 use jirvuntsag_packing::ModelSpec;
 
 use crate::error::TextError;
-use crate::limits::{BUFFERS, IMAGE_LIMIT};
-use crate::model::Model;
+use crate::limits::BUFFERS;
 use crate::names::Names;
 use draft::Draft;
 use symbols::Symbols;
 use words::{Line, Word};
 
-pub use declare::{buffer_name_fault, slot_name_fault, type_name_fault};
-pub use words::name_fault;
-
-/// The model of a text.
-pub fn parse(text: &str) -> Result<Model, TextError> {
+/// The model of a text, with its names.
+pub fn parse(text: &str) -> Result<(ModelSpec, Names), TextError> {
     let mut parser = Parser::new();
     let text = text.strip_prefix('\u{feff}').unwrap_or(text);
     for (index, line) in text.lines().enumerate() {
@@ -89,17 +85,13 @@ impl<'t> Parser<'t> {
     }
 
     /// What a model must have once the whole text is read.
-    fn finish(mut self) -> Result<Model, TextError> {
+    fn finish(mut self) -> Result<(ModelSpec, Names), TextError> {
         self.end_rule()?;
         if self.spec.opening.is_empty() {
             return Err(TextError::whole(format!("no buffer is declared: a model has 1 to {BUFFERS} buffers")));
         }
         self.names.symbols = self.symbols.into_names();
-        let model = Model::new(self.spec, self.names);
-        match model.image().len() {
-            0..=IMAGE_LIMIT => Ok(model),
-            bytes => Err(TextError::whole(format!("the image has {bytes} bytes: {IMAGE_LIMIT} are the most"))),
-        }
+        Ok((self.spec, self.names))
     }
 }
 

@@ -3,12 +3,12 @@
 use jirvuntsag_packing::{ActionSpec, Deed, PatternSpec, RuleSpec, Term, TestSpec};
 
 use super::draft::{buffer_of, Draft};
-use super::lookup::ISA;
 use super::words::{name, utility, Line, Word};
 use super::Parser;
 use crate::error::TextError;
 use crate::limits::RULES;
 use crate::names::RuleNames;
+use crate::naming::ISA;
 
 impl<'t> Parser<'t> {
     /// `rule NAME utility NUMBER variables ?NAME ..`; the last two parts may be missing.

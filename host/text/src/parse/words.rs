@@ -1,6 +1,7 @@
 //! The words of a line, and what a word may be.
 
 use crate::error::TextError;
+use crate::naming::name_fault;
 
 /// A word and its place.
 #[derive(Clone, Copy, PartialEq, Eq, Debug)]
@@ -86,22 +87,6 @@ impl<'t> Line<'t> {
     /// A fault after the last word.
     pub fn error_at_end(&self, message: impl Into<String>) -> TextError {
         TextError { line: self.number, column: self.end, message: message.into() }
-    }
-}
-
-/// Why a word cannot be a name, if it cannot.
-pub fn name_fault(name: &str) -> Option<String> {
-    if name.starts_with('?') {
-        return Some(format!("'{name}' is a variable, which stands only in rules"));
-    }
-    if let Some(rest) = name.strip_prefix('=') {
-        return Some(format!("'{name}' is no name: a variable is written '?{rest}'"));
-    }
-    let bad = |letter: &char| "()\"#;".contains(*letter) || letter.is_whitespace() || letter.is_control();
-    match name.chars().find(bad) {
-        Some(letter) => Some(format!("'{}' cannot stand in a name", letter.escape_debug())),
-        None if name.is_empty() => Some("a name has at least one character".into()),
-        None => None,
     }
 }
 
