@@ -10,6 +10,7 @@ mod names;
 mod naming;
 mod parse;
 mod refused;
+mod shown;
 mod write;
 
 pub use error::TextError;

@@ -1,5 +1,7 @@
 //! What a text may call things.
 
+use crate::shown::Shown;
+
 /// The word that may stand before a type, as in ACT-R.
 pub const ISA: &str = "isa";
 
@@ -10,10 +12,10 @@ pub const LATENCY: &str = "latency";
 /// Why a word cannot be a name, if it cannot.
 pub fn name_fault(name: &str) -> Option<String> {
     if name.starts_with('?') {
-        return Some(format!("'{name}' is a variable, which stands only in rules"));
+        return Some(format!("'{}' is a variable, which stands only in rules", Shown(name)));
     }
     if let Some(rest) = name.strip_prefix('=') {
-        return Some(format!("'{name}' is no name: a variable is written '?{rest}'"));
+        return Some(format!("'{}' is no name: a variable is written '?{}'", Shown(name), Shown(rest)));
     }
     let bad = |letter: &char| "()\"#;".contains(*letter) || letter.is_whitespace() || letter.is_control();
     match name.chars().find(bad) {
@@ -26,10 +28,10 @@ pub fn name_fault(name: &str) -> Option<String> {
 /// Why a type cannot be called so, after the types before it.
 pub fn type_name_fault<'n>(name: &str, mut before: impl Iterator<Item = &'n String>) -> Option<String> {
     if name == ISA {
-        return Some(format!("'{name}' has a meaning of its own and cannot be a type"));
+        return Some(format!("'{}' has a meaning of its own and cannot be a type", Shown(name)));
     }
     if before.any(|other| other == name) {
-        return Some(format!("type '{name}' is declared twice"));
+        return Some(format!("type '{}' is declared twice", Shown(name)));
     }
     name_fault(name)
 }
@@ -37,10 +39,10 @@ pub fn type_name_fault<'n>(name: &str, mut before: impl Iterator<Item = &'n Stri
 /// Why a slot cannot be called so, after the slots of its type before it.
 pub fn slot_name_fault(name: &str, before: &[String]) -> Option<String> {
     if [ISA, ACTIVATION, LATENCY, "-"].contains(&name) {
-        return Some(format!("'{name}' has a meaning of its own and cannot be a slot"));
+        return Some(format!("'{}' has a meaning of its own and cannot be a slot", Shown(name)));
     }
     if before.iter().any(|other| other == name) {
-        return Some(format!("slot '{name}' is named twice"));
+        return Some(format!("slot '{}' is named twice", Shown(name)));
     }
     name_fault(name)
 }
@@ -51,7 +53,7 @@ pub fn buffer_name_fault(name: &str, before: &[String]) -> Option<String> {
         return Some("'>' cannot stand in the name of a buffer".into());
     }
     if before.iter().any(|other| other == name) {
-        return Some(format!("buffer '{name}' is declared twice"));
+        return Some(format!("buffer '{}' is declared twice", Shown(name)));
     }
     name_fault(name)
 }

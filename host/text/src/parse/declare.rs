@@ -8,6 +8,7 @@ use crate::error::TextError;
 use crate::limits::{BUFFERS, FACTS, SLOTS, SYMBOL, TYPES};
 use crate::names::TypeNames;
 use crate::naming::{buffer_name_fault, slot_name_fault, type_name_fault, ACTIVATION, LATENCY};
+use crate::shown::Shown;
 
 impl<'t> Parser<'t> {
     /// `failure latency MS`.
@@ -48,7 +49,7 @@ impl<'t> Parser<'t> {
                 return Err(word.error(fault));
             }
             if slots.len() == SLOTS {
-                return Err(word.error(format!("more than {SLOTS} slots in type '{own}'")));
+                return Err(word.error(format!("more than {SLOTS} slots in type '{}'", Shown(&own))));
             }
             slots.push(word.text.into());
         }
@@ -105,10 +106,10 @@ impl<'t> Parser<'t> {
             line.next();
             let slot = self.slot_number(word, isa)?;
             if named >> slot & 1 == 1 {
-                return Err(word.error(format!("slot '{}' is named twice", word.text)));
+                return Err(word.error(format!("slot '{word}' is named twice")));
             }
             named |= 1 << slot;
-            let value = line.take(&format!("the value of slot '{}'", word.text))?;
+            let value = line.take(&format!("the value of slot '{word}'"))?;
             slots[slot] = self.symbols.number(value)?;
         }
         Ok(ChunkSpec { isa, slots })

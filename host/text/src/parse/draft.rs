@@ -5,6 +5,7 @@ use jirvuntsag_packing::{ActionSpec, TestSpec};
 use super::words::{name, Line, Word};
 use crate::error::TextError;
 use crate::limits::VARIABLES;
+use crate::shown::Shown;
 
 /// A rule whose lines are being read.
 pub struct Draft<'t> {
@@ -47,10 +48,10 @@ impl<'t> Draft<'t> {
     pub fn list_variables(&mut self, line: &mut Line<'t>) -> Result<(), TextError> {
         while let Some(word) = line.next() {
             if !word.text.starts_with('?') {
-                return Err(word.error(format!("expected a variable, as '?a', found '{}'", word.text)));
+                return Err(word.error(format!("expected a variable, as '?a', found '{word}'")));
             }
             if self.position(word).is_some() {
-                return Err(word.error(format!("variable '{}' is listed twice", word.text)));
+                return Err(word.error(format!("variable '{word}' is listed twice")));
             }
             self.add_variable(word)?;
         }
@@ -65,7 +66,7 @@ impl<'t> Draft<'t> {
     fn add_variable(&mut self, word: Word<'t>) -> Result<usize, TextError> {
         name(Word { text: &word.text[1..], ..word })?;
         if self.variables.len() == VARIABLES {
-            return Err(word.error(format!("more than {VARIABLES} variables in rule '{}'", self.name)));
+            return Err(word.error(format!("more than {VARIABLES} variables in rule '{}'", Shown(self.name))));
         }
         self.variables.push(word);
         Ok(self.variables.len() - 1)
@@ -77,7 +78,7 @@ impl<'t> Draft<'t> {
             Some(number) if !self.turned || self.tested >> number & 1 == 1 => number,
             _ if self.turned => return Err(self.untested(word)),
             _ if self.listed => {
-                let message = format!("variable '{}' is not in the list of rule '{}'", word.text, self.name);
+                let message = format!("variable '{word}' is not in the list of rule '{}'", Shown(self.name));
                 return Err(word.error(message));
             }
             _ => self.add_variable(word)?,
@@ -87,22 +88,22 @@ impl<'t> Draft<'t> {
     }
 
     fn untested(&self, word: Word) -> TextError {
-        word.error(format!("variable '{}' stands in no test of rule '{}'", word.text, self.name))
+        word.error(format!("variable '{word}' stands in no test of rule '{}'", Shown(self.name)))
     }
 
     /// The fault of a second test of a buffer, or a second action on it.
     pub fn twice(&self, what: &str, first: Word, before: Word) -> TextError {
-        let (rule, buffer, line) = (self.name, buffer_of(first), before.line);
+        let (rule, buffer, line) = (Shown(self.name), Shown(buffer_of(first)), before.line);
         first.error(format!("rule '{rule}' {what} buffer '{buffer}' twice, first in line {line}"))
     }
 
     /// `==>`: the tests end here.
     pub fn turn(&mut self, first: Word, mut line: Line) -> Result<(), TextError> {
         if self.turned {
-            return Err(first.error(format!("rule '{}' has two lines '==>'", self.name)));
+            return Err(first.error(format!("rule '{}' has two lines '==>'", Shown(self.name))));
         }
         if self.tests.is_empty() {
-            return Err(first.error(format!("rule '{}' has no test: it needs one at least", self.name)));
+            return Err(first.error(format!("rule '{}' has no test: it needs one at least", Shown(self.name))));
         }
         self.turned = true;
         line.end()
@@ -126,7 +127,9 @@ impl<'t> Draft<'t> {
     /// What can be said only when all lines of the rule are read.
     pub fn check(&self) -> Result<(), TextError> {
         if !self.turned {
-            return Err(self.head.error(format!("rule '{}' has no line '==>' between tests and actions", self.name)));
+            return Err(self
+                .head
+                .error(format!("rule '{}' has no line '==>' between tests and actions", Shown(self.name))));
         }
         let untested = (0..self.variables.len()).find(|number| self.tested >> number & 1 == 0);
         match untested.map(|number| self.variables[number]) {

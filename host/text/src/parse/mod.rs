@@ -12,6 +12,7 @@ use jirvuntsag_packing::ModelSpec;
 use crate::error::TextError;
 use crate::limits::BUFFERS;
 use crate::names::Names;
+use crate::shown::Shown;
 use draft::Draft;
 use symbols::Symbols;
 use words::{Line, Word};
@@ -69,7 +70,7 @@ impl<'t> Parser<'t> {
     /// A line that belongs to a rule.
     fn rule_line(&mut self, first: Word<'t>, line: Line<'t>) -> Result<(), TextError> {
         let Some(mut draft) = self.draft.take() else {
-            return Err(first.error(format!("'{}' stands in no rule: a 'rule' line comes first", first.text)));
+            return Err(first.error(format!("'{first}' stands in no rule: a 'rule' line comes first")));
         };
         self.rule_part(&mut draft, first, line)?;
         self.draft = Some(draft);
@@ -103,11 +104,12 @@ fn is_buffer_line(word: &str) -> bool {
 /// Why no line begins with this word.
 fn unknown(word: &str) -> String {
     let wanted = "failure, symbol, type, buffer, fact, rule, =BUFFER>, +BUFFER>, -BUFFER> or ==>";
+    let shown = Shown(word);
     if word.starts_with('(') {
-        format!("'{word}': this is not Lisp; a line begins with {wanted}")
+        format!("'{shown}': this is not Lisp; a line begins with {wanted}")
     } else if word.starts_with('!') {
-        format!("'{word}': a rule prints and computes nothing; a line begins with {wanted}")
+        format!("'{shown}': a rule prints and computes nothing; a line begins with {wanted}")
     } else {
-        format!("'{word}' begins no line; a line begins with {wanted}")
+        format!("'{shown}' begins no line; a line begins with {wanted}")
     }
 }

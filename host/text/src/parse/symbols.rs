@@ -6,6 +6,7 @@ use super::words::{name, Word};
 use crate::error::TextError;
 use crate::limits::SYMBOL;
 use crate::names::NIL;
+use crate::shown::Shown;
 
 /// The symbols so far.
 pub struct Symbols {
@@ -38,7 +39,7 @@ impl Symbols {
             self.lowest += 1;
         }
         if self.lowest > SYMBOL {
-            return Err(word.error(format!("more than {SYMBOL} symbols besides nil: '{name}' finds no number")));
+            return Err(word.error(format!("more than {SYMBOL} symbols besides nil: '{word}' finds no number")));
         }
         self.insert(name, self.lowest);
         Ok(self.lowest)
@@ -48,10 +49,10 @@ impl Symbols {
     pub fn declare(&mut self, word: Word, wanted: Word, number: u16) -> Result<(), TextError> {
         let name = name(word)?;
         if let Some(has) = self.numbers.get(name) {
-            return Err(word.error(format!("symbol '{name}' has the number {has} already")));
+            return Err(word.error(format!("symbol '{word}' has the number {has} already")));
         }
         if let Some(other) = self.names.get(&number) {
-            return Err(wanted.error(format!("number {number} is that of the symbol '{other}' already")));
+            return Err(wanted.error(format!("number {number} is that of the symbol '{}' already", Shown(other))));
         }
         self.insert(name, number);
         Ok(())
