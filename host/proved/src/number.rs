@@ -4,7 +4,7 @@ use std::error::Error;
 use std::fmt;
 
 /// Why a call was refused; it has changed nothing.
-#[derive(Clone, Copy, PartialEq, Eq, Hash, Debug)]
+#[derive(Clone, Copy, PartialEq, Eq, Hash)]
 pub enum Refusal {
     /// 1: the image is over 65,536 bytes.
     TooLong,
@@ -138,6 +138,13 @@ impl fmt::Display for Number {
             Number::Ended(end) => end.fmt(to),
             Number::Refused(refusal) => refusal.fmt(to),
         }
+    }
+}
+
+/// A `main` that ends with `?` prints an error this way: in words, with its number.
+impl fmt::Debug for Refusal {
+    fn fmt(&self, to: &mut fmt::Formatter) -> fmt::Result {
+        write!(to, "{self} (number {})", self.number())
     }
 }
 
