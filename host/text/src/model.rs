@@ -7,7 +7,7 @@ use crate::fit::check_fit;
 use crate::image::read_image;
 use crate::limits::IMAGE_LIMIT;
 use crate::names::Names;
-use crate::parse::parse;
+use crate::parse::{parse, Lone, Parsed};
 use crate::refused::Refused;
 
 /// A model and its names; its image is one that opens.
@@ -17,14 +17,33 @@ pub struct Model {
     names: Names,
 }
 
+/// What a text holds.
+#[derive(Clone, PartialEq, Eq, Debug)]
+pub struct Reading {
+    /// The model, or all that is wrong with the text, in its order: one fault at least, and 1,000 at most.
+    pub model: Result<Model, Vec<TextError>>,
+    /// The symbols that stand in one place only.
+    pub lone: Vec<Lone>,
+}
+
 impl Model {
-    /// The model of a text.
+    /// The model of a text, or the first fault.
     pub fn from_text(text: &str) -> Result<Model, TextError> {
-        let (spec, names) = parse(text)?;
-        let model = Model { spec, names };
-        match model.image().len() {
-            0..=IMAGE_LIMIT => Ok(model),
-            bytes => Err(TextError::whole(format!("the image has {bytes} bytes: {IMAGE_LIMIT} are the most"))),
+        Model::read(text).model.map_err(|mut faults| faults.swap_remove(0))
+    }
+
+    /// Reads a text whole: its model or all its faults, and what may be mistyped.
+    pub fn read(text: &str) -> Reading {
+        let Parsed { spec, names, faults, lone } = parse(text);
+        let model = if faults.is_empty() { Model { spec, names }.in_bounds() } else { Err(faults) };
+        Reading { model, lone }
+    }
+
+    /// The model, if its image is not too large.
+    fn in_bounds(self) -> Result<Model, Vec<TextError>> {
+        match self.image().len() {
+            0..=IMAGE_LIMIT => Ok(self),
+            bytes => Err(vec![TextError::whole(format!("the image has {bytes} bytes: {IMAGE_LIMIT} are the most"))]),
         }
     }
 

@@ -46,12 +46,13 @@ impl<'t> Parser<'t> {
         let mut slots: Vec<String> = Vec::new();
         while let Some(word) = line.next() {
             if let Some(fault) = slot_name_fault(word.text, &slots) {
-                return Err(word.error(fault));
+                self.note(Err(word.error(fault)));
+            } else if slots.len() == SLOTS {
+                self.note(Err(word.error(format!("more than {SLOTS} slots in type '{}'", Shown(&own)))));
+                break;
+            } else {
+                slots.push(word.text.into());
             }
-            if slots.len() == SLOTS {
-                return Err(word.error(format!("more than {SLOTS} slots in type '{}'", Shown(&own))));
-            }
-            slots.push(word.text.into());
         }
         self.spec.types.push(slots.len() as u8);
         self.names.types.push(TypeNames { name: own, slots });
@@ -67,17 +68,23 @@ impl<'t> Parser<'t> {
         if self.spec.opening.len() == BUFFERS {
             return Err(word.error(format!("more than {BUFFERS} buffers")));
         }
-        let chunk = match line.peek() {
-            None => ChunkSpec::nil(),
-            Some(_) => {
-                let (_, isa) = self.take_type(&mut line)?;
-                self.chunk(isa, &mut line)?
-            }
-        };
-        line.end()?;
+        let chunk = self.opening(line);
         self.names.buffers.push(word.text.into());
+        // A buffer whose chunk is wrong is there all the same, or each rule that names it would be called wrong, too.
+        let (chunk, said) = chunk.map_or_else(|fault| (ChunkSpec::nil(), Err(fault)), |chunk| (chunk, Ok(())));
         self.spec.opening.push(chunk);
-        Ok(())
+        said
+    }
+
+    /// The chunk that a buffer opens with, to the line's end.
+    fn opening(&mut self, mut line: Line<'t>) -> Result<ChunkSpec, TextError> {
+        if line.peek().is_none() {
+            return Ok(ChunkSpec::nil());
+        }
+        let (_, isa) = self.take_type(&mut line)?;
+        let chunk = self.chunk(isa, &mut line)?;
+        line.end()?;
+        Ok(chunk)
     }
 
     /// `fact TYPE SLOT VALUE .. activation NUMBER latency MS`.

@@ -21,6 +21,8 @@ pub struct Draft<'t> {
     pub tests: Vec<(Word<'t>, TestSpec)>,
     /// Whether `==>` was read.
     pub turned: bool,
+    /// Whether a line of the rule was wrong: what follows from that is not told as a fault of its own.
+    pub faulty: bool,
     pub actions: Vec<(Word<'t>, ActionSpec)>,
 }
 
@@ -30,18 +32,25 @@ pub fn buffer_of<'t>(first: Word<'t>) -> &'t str {
 }
 
 impl<'t> Draft<'t> {
-    pub fn new(head: Word<'t>, name: &'t str) -> Draft<'t> {
+    /// A rule of which no more is known than its line.
+    pub fn new(head: Word<'t>) -> Draft<'t> {
         Draft {
             head,
-            name,
+            name: "",
             utility: 0,
             variables: Vec::new(),
             tested: 0,
             listed: false,
             tests: Vec::new(),
             turned: false,
+            faulty: false,
             actions: Vec::new(),
         }
+    }
+
+    /// A rule whose head is wrong.
+    pub fn faulty(head: Word<'t>) -> Draft<'t> {
+        Draft { faulty: true, ..Draft::new(head) }
     }
 
     /// The variables in the order of their numbers, to the line's end.
@@ -76,6 +85,7 @@ impl<'t> Draft<'t> {
     pub fn variable(&mut self, word: Word<'t>) -> Result<u16, TextError> {
         let number = match self.position(word) {
             Some(number) if !self.turned || self.tested >> number & 1 == 1 => number,
+            _ if self.turned && self.faulty => return Ok(0),
             _ if self.turned => return Err(self.untested(word)),
             _ if self.listed => {
                 let message = format!("variable '{word}' is not in the list of rule '{}'", Shown(self.name));
@@ -102,10 +112,10 @@ impl<'t> Draft<'t> {
         if self.turned {
             return Err(first.error(format!("rule '{}' has two lines '==>'", Shown(self.name))));
         }
-        if self.tests.is_empty() {
+        self.turned = true;
+        if self.tests.is_empty() && !self.faulty {
             return Err(first.error(format!("rule '{}' has no test: it needs one at least", Shown(self.name))));
         }
-        self.turned = true;
         line.end()
     }
 
@@ -126,6 +136,9 @@ impl<'t> Draft<'t> {
 
     /// What can be said only when all lines of the rule are read.
     pub fn check(&self) -> Result<(), TextError> {
+        if self.faulty {
+            return Ok(());
+        }
         if !self.turned {
             return Err(self
                 .head

@@ -2,6 +2,8 @@
 
 mod declare;
 mod draft;
+mod lisp;
+mod lone;
 mod lookup;
 mod rule;
 mod symbols;
@@ -12,17 +14,32 @@ use jirvuntsag_packing::ModelSpec;
 use crate::error::TextError;
 use crate::limits::BUFFERS;
 use crate::names::Names;
-use crate::shown::Shown;
 use draft::Draft;
 use symbols::Symbols;
 use words::{Line, Word};
 
-/// The model of a text, with its names.
-pub fn parse(text: &str) -> Result<(ModelSpec, Names), TextError> {
+pub use lone::Lone;
+
+/// Faults that are kept at most: no reader wants more, and no text shall fill the memory with them.
+const MOST_FAULTS: usize = 1_000;
+
+/// What a text says.
+pub struct Parsed {
+    /// The model in numbers, and what they are called; only what holds if there is no fault.
+    pub spec: ModelSpec,
+    pub names: Names,
+    /// All that is wrong, in the order of the text.
+    pub faults: Vec<TextError>,
+    /// The symbols that stand in one place only.
+    pub lone: Vec<Lone>,
+}
+
+/// Reads a text whole: a line that is wrong is noted, and the next one is read.
+pub fn parse(text: &str) -> Parsed {
     let mut parser = Parser::new();
     let text = text.strip_prefix('\u{feff}').unwrap_or(text);
     for (index, line) in text.lines().enumerate() {
-        parser.line(Line::new(index + 1, line))?;
+        parser.line(Line::new(index + 1, line));
     }
     parser.finish()
 }
@@ -36,6 +53,7 @@ struct Parser<'t> {
     failure_said: bool,
     /// The rule whose lines are being read.
     draft: Option<Draft<'t>>,
+    faults: Vec<TextError>,
 }
 
 impl<'t> Parser<'t> {
@@ -46,16 +64,34 @@ impl<'t> Parser<'t> {
             symbols: Symbols::new(),
             failure_said: false,
             draft: None,
+            faults: Vec::new(),
+        }
+    }
+
+    /// Notes a fault, if there is one.
+    fn note(&mut self, said: Result<(), TextError>) {
+        if let Err(fault) = said {
+            if self.faults.len() < MOST_FAULTS {
+                self.faults.push(fault);
+            }
         }
     }
 
     /// Takes one line; an empty one says nothing.
-    fn line(&mut self, mut line: Line<'t>) -> Result<(), TextError> {
-        let Some(first) = line.next() else { return Ok(()) };
-        if first.text == "==>" || is_buffer_line(first.text) {
-            return self.rule_line(first, line);
-        }
-        self.end_rule()?;
+    fn line(&mut self, mut line: Line<'t>) {
+        let Some(first) = line.next() else { return };
+        let said = if first.text == "==>" || is_buffer_line(first.text) {
+            self.rule_line(first, line)
+        } else {
+            let ended = self.end_rule();
+            self.note(ended);
+            self.own_line(first, line)
+        };
+        self.note(said);
+    }
+
+    /// A line that belongs to no rule.
+    fn own_line(&mut self, first: Word<'t>, line: Line<'t>) -> Result<(), TextError> {
         match first.text {
             "failure" => self.failure(first, line),
             "symbol" => self.symbol(line),
@@ -63,7 +99,11 @@ impl<'t> Parser<'t> {
             "buffer" => self.buffer(line),
             "fact" => self.fact(first, line),
             "rule" => self.rule(first, line),
-            _ => Err(first.error(unknown(first.text))),
+            _ => {
+                // It may have been meant as the head of a rule, whose lines are then no faults of their own.
+                self.draft = Some(Draft::faulty(first));
+                Err(first.error(unknown(first)))
+            }
         }
     }
 
@@ -72,9 +112,10 @@ impl<'t> Parser<'t> {
         let Some(mut draft) = self.draft.take() else {
             return Err(first.error(format!("'{first}' stands in no rule: a 'rule' line comes first")));
         };
-        self.rule_part(&mut draft, first, line)?;
+        let said = self.rule_part(&mut draft, first, line);
+        draft.faulty |= said.is_err();
         self.draft = Some(draft);
-        Ok(())
+        said
     }
 
     /// What a rule must have once all its lines are read.
@@ -86,13 +127,16 @@ impl<'t> Parser<'t> {
     }
 
     /// What a model must have once the whole text is read.
-    fn finish(mut self) -> Result<(ModelSpec, Names), TextError> {
-        self.end_rule()?;
-        if self.spec.opening.is_empty() {
-            return Err(TextError::whole(format!("no buffer is declared: a model has 1 to {BUFFERS} buffers")));
+    fn finish(mut self) -> Parsed {
+        let ended = self.end_rule();
+        self.note(ended);
+        if self.spec.opening.is_empty() && self.faults.is_empty() {
+            let message = format!("no buffer is declared: a model has 1 to {BUFFERS} buffers");
+            self.faults.push(TextError::whole(message));
         }
+        let lone = self.symbols.lone();
         self.names.symbols = self.symbols.into_names();
-        Ok((self.spec, self.names))
+        Parsed { spec: self.spec, names: self.names, faults: self.faults, lone }
     }
 }
 
@@ -102,14 +146,15 @@ fn is_buffer_line(word: &str) -> bool {
 }
 
 /// Why no line begins with this word.
-fn unknown(word: &str) -> String {
-    let wanted = "failure, symbol, type, buffer, fact, rule, =BUFFER>, +BUFFER>, -BUFFER> or ==>";
-    let shown = Shown(word);
-    if word.starts_with('(') {
-        format!("'{shown}': this is not Lisp; a line begins with {wanted}")
-    } else if word.starts_with('!') {
-        format!("'{shown}': a rule prints and computes nothing; a line begins with {wanted}")
-    } else {
-        format!("'{shown}' begins no line; a line begins with {wanted}")
+fn unknown(first: Word) -> String {
+    if let Some(answer) = lisp::answer(first.text) {
+        return format!("'{first}' is ACT-R's: {answer}");
     }
+    let wanted = "failure, symbol, type, buffer, fact, rule, =BUFFER>, +BUFFER>, -BUFFER> or ==>";
+    let why = match first.text.chars().next() {
+        Some('(' | ')') => ": this is not Lisp;",
+        Some('!') => ": a rule prints and computes nothing;",
+        _ => " begins no line;",
+    };
+    format!("'{first}'{why} a line begins with {wanted}")
 }

@@ -13,12 +13,23 @@ use crate::shown::Shown;
 
 impl<'t> Parser<'t> {
     /// `rule NAME utility NUMBER variables ?NAME ..`; the last two parts may be missing.
-    pub fn rule(&mut self, first: Word<'t>, mut line: Line<'t>) -> Result<(), TextError> {
+    pub fn rule(&mut self, first: Word<'t>, line: Line<'t>) -> Result<(), TextError> {
+        let mut draft = Draft::new(first);
+        let said = self.head(&mut draft, first, line);
+        draft.faulty = said.is_err();
+        // A rule whose head is wrong is there all the same, or each of its lines would be called wrong, too.
+        self.draft = Some(draft);
+        said
+    }
+
+    /// The words of a rule's first line.
+    fn head(&mut self, draft: &mut Draft<'t>, first: Word<'t>, mut line: Line<'t>) -> Result<(), TextError> {
         if self.spec.rules.len() == RULES {
             return Err(first.error(format!("more than {RULES} rules")));
         }
         let head = line.take("the rule's name")?;
-        let mut draft = Draft::new(head, name(head)?);
+        draft.head = head;
+        draft.name = name(head)?;
         if self.names.rules.iter().any(|other| other.name == draft.name) {
             return Err(head.error(format!("rule '{head}' is declared twice")));
         }
@@ -28,9 +39,7 @@ impl<'t> Parser<'t> {
         if line.passes("variables") {
             draft.list_variables(&mut line)?;
         }
-        line.end()?;
-        self.draft = Some(draft);
-        Ok(())
+        line.end()
     }
 
     /// A line within a rule: a test, `==>` or an action.
@@ -69,6 +78,9 @@ impl<'t> Parser<'t> {
     /// `=BUFFER> SLOT TERM ..`, after `==>`.
     fn modify(&mut self, draft: &mut Draft<'t>, first: Word<'t>, buffer: u8, line: Line<'t>) -> Result<(), TextError> {
         let Some((_, test)) = draft.tests.iter().find(|(_, test)| test.buffer == buffer) else {
+            if draft.faulty {
+                return Ok(());
+            }
             let message = format!(
                 "rule '{}' does not test buffer '{}', so it cannot modify it",
                 Shown(draft.name),
