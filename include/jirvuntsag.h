@@ -1,7 +1,7 @@
 /* Jirvuntsag: runs ACT-R models from a packed image.
  *
  * No call allocates, keeps anything between calls, or fails: whatever it is handed, it does its work or answers a number.
- * A call needs less than 131,072 bytes of stack. Calls in several threads need no lock, as long as each thread writes its own state and table.
+ * A call needs less than 131,072 bytes of stack. Calls in several threads need no lock, as long as each has its own state and table.
  * Every pointer must point to as much as its length says, and what a call writes must not overlap what else it is handed.
  *
  * Numbers: 0 all that was asked is done; 1 image over 65,536 bytes; 2 a field is not wholly there; 3 a field breaks its rule;
