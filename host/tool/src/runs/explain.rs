@@ -73,11 +73,11 @@ fn rules(model: &Model, traced: &Traced) -> String {
     let width = widest(names.rules.iter().map(|rule| &rule.name));
     let line = |number: usize| {
         let name = &names.rules[number].name;
-        let miss = first_miss(&model.spec().rules[number].tests, &traced.run.state, names);
-        // Whether it matches is the word of the library's table.
-        let now = match miss.filter(|_| !traced.run.matches(number)) {
+        // Whether it matches is the word of the library's table, and only why not is found out here.
+        let now = match first_miss(&model.spec().rules[number].tests, &traced.run.state, names) {
+            _ if traced.run.matches(number) => "matches".into(),
             Some(miss) => format!("does not match: {miss}"),
-            None => "matches".into(),
+            None => "does not match, by the library's table".into(),
         };
         format!("  {name:width$}  fired {}; {now}\n", times(traced.fired[number]))
     };
