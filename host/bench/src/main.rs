@@ -161,28 +161,43 @@ impl Progress {
     }
 }
 
+/// The table of opening and running.
+fn print_beside(all: &[Opened], progress: &mut Progress) {
+    println!("| model | bytes | open, ns | proved / reference | steps | run, ns | proved / reference |");
+    println!("|---|---|---|---|---|---|---|");
+    for one in all {
+        progress.next("opening and running", one.model);
+        println!("{}", beside(one));
+    }
+}
+
+/// The table of keeping matches, and of making them afresh.
+fn print_kept(all: &[Opened], progress: &mut Progress) {
+    println!("\n| model | one run | all rules afresh | a call a step | refreshed before | ratio | reference | fresh | ratio |");
+    println!("|---|---|---|---|---|---|---|---|---|");
+    for one in all {
+        progress.next("keeping the table", one.model);
+        println!("| {} | {} | {} |", one.model.name, kept_by_proved(one), kept_by_reference(one));
+    }
+}
+
+/// The table of models that grow.
+fn print_growing(growing: &[Measured], progress: &mut Progress) {
+    println!("\n| run | proved, ns a step | reference, ns a step |\n|---|---|---|");
+    for one in growing {
+        progress.next("growing", one);
+        println!("{}", grown(&opened(one)));
+    }
+}
+
 /// Measures and prints everything.
 fn measure() {
     let (models, growing) = (models(), growing());
     let all: Vec<Opened> = models.iter().map(opened).collect();
     let mut progress = Progress { done: 0, all: 2 * all.len() + growing.len() };
-    println!("| model | bytes | open, ns | proved / reference | steps | run, ns | proved / reference |");
-    println!("|---|---|---|---|---|---|---|");
-    for one in &all {
-        progress.next("opening and running", one.model);
-        println!("{}", beside(one));
-    }
-    println!("\n| model | one run | all rules afresh | a call a step | refreshed before | ratio | reference | fresh | ratio |");
-    println!("|---|---|---|---|---|---|---|---|---|");
-    for one in &all {
-        progress.next("keeping the table", one.model);
-        println!("| {} | {} | {} |", one.model.name, kept_by_proved(one), kept_by_reference(one));
-    }
-    println!("\n| run | proved, ns a step | reference, ns a step |\n|---|---|---|");
-    for one in &growing {
-        progress.next("growing", one);
-        println!("{}", grown(&opened(one)));
-    }
+    print_beside(&all, &mut progress);
+    print_kept(&all, &mut progress);
+    print_growing(&growing, &mut progress);
 }
 
 fn main() -> std::process::ExitCode {

@@ -18,19 +18,17 @@ pub fn c_header(model: &Model, path: &str) -> String {
     header.constant("IMAGE_BYTES", model.image().len(), None);
     header.constant("TABLE_WORDS", ENTRY * model.spec().rules.len(), None);
     let names = model.names();
-    header.section("Buffers, by number in a state.");
-    names.buffers.iter().enumerate().for_each(|(number, name)| header.named("BUFFER", name, number));
-    header.section("Types; a buffer of type 0 is empty.");
-    names.types.iter().enumerate().for_each(|(number, one)| header.named("TYPE", &one.name, number));
-    header.section("Slots, each behind its type.");
-    for one in &names.types {
-        let kind = format!("SLOT_{}", identifier(&one.name));
-        one.slots.iter().enumerate().for_each(|(number, name)| header.named(&kind, name, number));
+    let types = names.types.iter().map(|one| &one.name);
+    let rules = names.rules.iter().map(|one| &one.name);
+    let symbols = names.symbols.iter().map(|(number, name)| (usize::from(*number), name));
+    header.section("Buffers, by number in a state.", "BUFFER", names.buffers.iter().enumerate());
+    header.section("Types; a buffer of type 0 is empty.", "TYPE", types.enumerate());
+    for one in names.types.iter().filter(|one| !one.slots.is_empty()) {
+        let about = format!("Slots of type {}.", comment(&one.name));
+        header.section(&about, &format!("SLOT_{}", identifier(&one.name)), one.slots.iter().enumerate());
     }
-    header.section("Symbols, the values of slots.");
-    names.symbols.iter().for_each(|(number, name)| header.named("SYMBOL", name, usize::from(*number)));
-    header.section("Rules, as a step tells them.");
-    names.rules.iter().enumerate().for_each(|(number, one)| header.named("RULE", &one.name, number));
+    header.section("Symbols, the values of slots.", "SYMBOL", symbols);
+    header.section("Rules, as a step tells them.", "RULE", rules.enumerate());
     let about = "The numbers of a model by name, written by 'pack --header'.";
     format!("/* {about} */\n#ifndef {prefix}_H\n#define {prefix}_H\n\n{}\n#endif\n", header.text)
 }
@@ -44,8 +42,10 @@ struct Header<'p> {
 }
 
 impl Header<'_> {
-    fn section(&mut self, about: &str) {
+    /// The constants of one kind.
+    fn section<'n>(&mut self, about: &str, kind: &str, names: impl Iterator<Item = (usize, &'n String)>) {
         self.text += &format!("\n/* {about} */\n");
+        names.for_each(|(number, name)| self.named(kind, name, number));
     }
 
     /// The constant of something with a name; where another has taken it already, its number makes it another.
@@ -58,11 +58,15 @@ impl Header<'_> {
     }
 
     fn constant(&mut self, constant: &str, value: usize, name: Option<&str>) {
-        // A comment ends at the first '*/'.
-        let comment = name.map(|name| format!(" /* {} */", Shown(name).to_string().replace("*/", "*\\/")));
-        self.text += &format!("#define {}_{constant} {value}{}\n", self.prefix, comment.unwrap_or_default());
+        let comment = name.map(|name| format!(" /* {} */", comment(name))).unwrap_or_default();
+        self.text += &format!("#define {}_{constant} {value}{comment}\n", self.prefix);
         self.taken.insert(constant.into());
     }
+}
+
+/// A name as it can stand in a comment, which ends at the first '*/'.
+fn comment(name: &str) -> String {
+    Shown(name).to_string().replace("*/", "*\\/")
 }
 
 /// A name in the letters that a constant may have.
