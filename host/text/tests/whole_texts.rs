@@ -57,6 +57,34 @@ fn all_faults_are_told_in_one_pass() {
     assert_eq!(first.in_file("m"), wanted[0]);
 }
 
+/// A rule as ACT-R writes it, with slots on lines of their own: each is answered, and the rule is not said to lack what stands below.
+#[test]
+fn slots_on_lines_of_their_own_are_answered() {
+    let text = "type pair first second
+buffer goal pair first 1
+rule start
+  =goal>
+    isa pair
+    first ?n
+  ==>
+  !output! ?n
+  =goal>
+    second ?n
+rule end
+  =goal> pair
+  ==>
+";
+    let within = "begins no line; a line begins with =BUFFER>, +BUFFER>, -BUFFER> or ==> within a rule, and slots stand behind it";
+    let wanted = [
+        "m:4:9: the line ends where a type is expected".to_owned(),
+        "m:5:5: 'isa' is ACT-R's: the type stands behind the buffer, on its line: '=goal> TYPE SLOT TERM ..'".into(),
+        format!("m:6:5: 'first' {within}"),
+        "m:8:3: '!output!' is ACT-R's: a rule prints nothing; leave it out, the trace tells each firing".into(),
+        format!("m:10:5: 'second' {within}"),
+    ];
+    assert_eq!(faults(text), wanted);
+}
+
 #[test]
 fn no_text_fills_the_memory_with_faults() {
     assert_eq!(faults(&"wrong\n".repeat(100_000)).len(), 1_000);

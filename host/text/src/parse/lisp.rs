@@ -1,5 +1,7 @@
 //! The words with which a model begins in ACT-R, and what is written here instead.
 
+use crate::naming::ISA;
+
 /// Words of ACT-R in small letters, each with its answer.
 const ANSWERS: [(&str, &str); 18] = [
     ("chunk-type", "write 'type NAME SLOT ..'"),
@@ -29,4 +31,9 @@ const ANSWERS: [(&str, &str); 18] = [
 pub fn answer(word: &str) -> Option<&'static str> {
     let bare = word.trim_start_matches('(').trim_end_matches(')').to_ascii_lowercase();
     ANSWERS.iter().find(|(known, _)| *known == bare).map(|(_, answer)| *answer)
+}
+
+/// Whether a word of ACT-R stands within rules.
+pub fn is_within_rules(word: &str) -> bool {
+    word.starts_with('!') || word.eq_ignore_ascii_case(ISA)
 }

@@ -82,6 +82,10 @@ impl<'t> Parser<'t> {
         let Some(first) = line.next() else { return };
         let said = if first.text == "==>" || is_buffer_line(first.text) {
             self.rule_line(first, line)
+        } else if let Some(draft) = self.draft.as_mut().filter(|_| is_meant_within(first.text)) {
+            draft.faulty = true;
+            Err(first
+                .error(unknown(first, "=BUFFER>, +BUFFER>, -BUFFER> or ==> within a rule, and slots stand behind it")))
         } else {
             let ended = self.end_rule();
             self.note(ended);
@@ -102,7 +106,8 @@ impl<'t> Parser<'t> {
             _ => {
                 // It may have been meant as the head of a rule, whose lines are then no faults of their own.
                 self.draft = Some(Draft::faulty(first));
-                Err(first.error(unknown(first)))
+                let wanted = "failure, symbol, type, buffer, fact, rule, =BUFFER>, +BUFFER>, -BUFFER> or ==>";
+                Err(first.error(unknown(first, wanted)))
             }
         }
     }
@@ -145,12 +150,20 @@ fn is_buffer_line(word: &str) -> bool {
     word.len() > 2 && word.starts_with(['=', '+', '-', '?']) && word.ends_with('>')
 }
 
+/// Words that begin a line which declares something.
+const DECLARING: [&str; 6] = ["failure", "symbol", "type", "buffer", "fact", "rule"];
+
+/// Whether a wrong line that begins so, below the head of a rule, is meant as one of that rule: as ACT-R writes slots and `isa` there.
+fn is_meant_within(word: &str) -> bool {
+    let elsewhere = DECLARING.contains(&word) || word.starts_with(['(', ')']);
+    !elsewhere && lisp::answer(word).is_none_or(|_| lisp::is_within_rules(word))
+}
+
 /// Why no line begins with this word.
-fn unknown(first: Word) -> String {
+fn unknown(first: Word, wanted: &str) -> String {
     if let Some(answer) = lisp::answer(first.text) {
         return format!("'{first}' is ACT-R's: {answer}");
     }
-    let wanted = "failure, symbol, type, buffer, fact, rule, =BUFFER>, +BUFFER>, -BUFFER> or ==>";
     let why = match first.text.chars().next() {
         Some('(' | ')') => ": this is not Lisp;",
         Some('!') => ": a rule prints and computes nothing;",
