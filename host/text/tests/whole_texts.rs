@@ -74,7 +74,9 @@ rule end
   =goal> pair
   ==>
 ";
-    let within = "begins no line; a line begins with =BUFFER>, +BUFFER>, -BUFFER> or ==> within a rule, and slots stand behind it";
+    let within =
+        "begins no line; a line begins with =BUFFER>, +BUFFER>, -BUFFER> or ==> within a rule, where slots stand \
+                  behind it, or else with failure, symbol, type, buffer, fact or rule";
     let wanted = [
         "m:4:9: the line ends where a type is expected".to_owned(),
         "m:5:5: 'isa' is ACT-R's: the type stands behind the buffer, on its line: '=goal> TYPE SLOT TERM ..'".into(),

@@ -84,8 +84,7 @@ impl<'t> Parser<'t> {
             self.rule_line(first, line)
         } else if let Some(draft) = self.draft.as_mut().filter(|_| is_meant_within(first.text)) {
             draft.faulty = true;
-            Err(first
-                .error(unknown(first, "=BUFFER>, +BUFFER>, -BUFFER> or ==> within a rule, and slots stand behind it")))
+            Err(first.error(unknown(first, WITHIN_RULE)))
         } else {
             let ended = self.end_rule();
             self.note(ended);
@@ -106,8 +105,7 @@ impl<'t> Parser<'t> {
             _ => {
                 // It may have been meant as the head of a rule, whose lines are then no faults of their own.
                 self.draft = Some(Draft::faulty(first));
-                let wanted = "failure, symbol, type, buffer, fact, rule, =BUFFER>, +BUFFER>, -BUFFER> or ==>";
-                Err(first.error(unknown(first, wanted)))
+                Err(first.error(unknown(first, ANYWHERE)))
             }
         }
     }
@@ -149,6 +147,12 @@ impl<'t> Parser<'t> {
 fn is_buffer_line(word: &str) -> bool {
     word.len() > 2 && word.starts_with(['=', '+', '-', '?']) && word.ends_with('>')
 }
+
+/// What a line begins with.
+const ANYWHERE: &str = "failure, symbol, type, buffer, fact, rule, =BUFFER>, +BUFFER>, -BUFFER> or ==>";
+/// The same, below the head of a rule.
+const WITHIN_RULE: &str = "=BUFFER>, +BUFFER>, -BUFFER> or ==> within a rule, where slots stand behind it, \
+                           or else with failure, symbol, type, buffer, fact or rule";
 
 /// Words that begin a line which declares something.
 const DECLARING: [&str; 6] = ["failure", "symbol", "type", "buffer", "fact", "rule"];
