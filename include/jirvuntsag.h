@@ -1,7 +1,7 @@
 /* Jirvuntsag: runs ACT-R models from a packed image.
  *
  * No call allocates, keeps anything between calls, or fails: whatever it is handed, it does its work or answers a number.
- * A call needs less than 262,144 bytes of stack.
+ * A call needs less than 131,072 bytes of stack. Calls in several threads need no lock, as long as each has its own state and table.
  * Every pointer must point to as much as its length says, and what a call writes must not overlap what else it is handed.
  *
  * Numbers: 0 all that was asked is done; 1 image over 65,536 bytes; 2 a field is not wholly there; 3 a field breaks its rule;
@@ -23,11 +23,29 @@
 extern "C" {
 #endif
 
+/* The version of this header, and by a function that of the library that is linked. */
+#define JIRVUNTSAG_VERSION_MAJOR 0
+#define JIRVUNTSAG_VERSION_MINOR 1
+#define JIRVUNTSAG_VERSION_PATCH 0
+#define JIRVUNTSAG_VERSION "0.1.0"
+const char *jirvuntsag_version(void);
+
 #define JIRVUNTSAG_STATE_WORDS 81
+
+/* Where a buffer's type, its slot values and its delay stand in a state, by the buffer's number from 0 on; the clock is word 0. */
+#define JIRVUNTSAG_TYPE(buffer) (1 + 10 * (buffer))
+#define JIRVUNTSAG_SLOT(buffer, slot) (2 + 10 * (buffer) + (slot))
+#define JIRVUNTSAG_DELAY(buffer) (10 + 10 * (buffer))
 
 /* The number (0 to 10) in an answer, and the steps made or the rules counted. */
 #define JIRVUNTSAG_NUMBER(answer) ((answer) & 0xffffu)
 #define JIRVUNTSAG_COUNT(answer) ((answer) >> 16)
+
+/* Steps and marks have 16 bits, and C cuts a larger int without a word: 65,536 steps would be none. This gives the steps nearest to a
+ * number, 0 to 65,535; a run that answers 0 has made all of them, and can be called again for the others. */
+static inline uint16_t jirvuntsag_steps(int64_t number) {
+    return (uint16_t)(number < 0 ? 0 : number > 65535 ? 65535 : number);
+}
 
 /* The words that the table of this image needs: 9 for each rule. 0 for an image that is refused (and for one without rules). */
 uint32_t jirvuntsag_table_len(const uint8_t *image, size_t image_len);
@@ -36,7 +54,7 @@ uint32_t jirvuntsag_table_len(const uint8_t *image, size_t image_len);
  * Leaves: at 0 the opening state and the fresh table; otherwise a state of zeros, and the table as it was. */
 uint32_t jirvuntsag_open(const uint8_t *image, size_t image_len, uint16_t *table, size_t table_len, uint32_t state[81]);
 
-/* Runs at most `steps` steps. Answers a number (0 to 9) and, times 65,536, the steps made.
+/* Runs at most `steps` steps, up to 65,535 (jirvuntsag_steps). Answers a number (0 to 9) and, times 65,536, the steps made.
  * Leaves: the state and the table after the steps made; at 1 to 6 both as they were, and no step is made. */
 uint32_t jirvuntsag_run(const uint8_t *image, size_t image_len, uint32_t state[81], uint16_t *table, size_t table_len, uint16_t steps);
 

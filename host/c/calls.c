@@ -116,6 +116,25 @@ static void check_refresh(void) {
     CHECK(memcmp(table, fresh, sizeof table) == 0);
 }
 
+/* What the header has besides the five functions: where words stand in a state, steps from an int, the version. */
+static void check_header(void) {
+    CHECK(opening[JIRVUNTSAG_TYPE(0)] == 2 && opening[JIRVUNTSAG_SLOT(0, 0)] == 1 && opening[JIRVUNTSAG_SLOT(0, 1)] == 3);
+    uint16_t table[WORDS];
+    uint32_t state[STATE];
+    memcpy(table, fresh, sizeof table);
+    memcpy(state, opening, sizeof state);
+    CHECK(jirvuntsag_run(image, LENGTH, state, table, WORDS, 1) == answered(0, 1));
+    CHECK(state[JIRVUNTSAG_TYPE(1)] == 1 && state[JIRVUNTSAG_SLOT(1, 1)] == 2 && state[JIRVUNTSAG_DELAY(1)] == 100);
+    CHECK(JIRVUNTSAG_DELAY(7) == STATE - 1);
+    int many = 65536;
+    CHECK((uint16_t)many == 0 && jirvuntsag_steps(many) == 65535 && jirvuntsag_steps(many - 1) == 65535);
+    CHECK(jirvuntsag_steps(-1) == 0 && jirvuntsag_steps(0) == 0 && jirvuntsag_steps(7u) == 7);
+    CHECK(jirvuntsag_run(image, LENGTH, state, table, WORDS, jirvuntsag_steps(many)) == answered(9, 6));
+    char version[32];
+    snprintf(version, sizeof version, "%d.%d.%d", JIRVUNTSAG_VERSION_MAJOR, JIRVUNTSAG_VERSION_MINOR, JIRVUNTSAG_VERSION_PATCH);
+    CHECK(strcmp(version, JIRVUNTSAG_VERSION) == 0 && strcmp(jirvuntsag_version(), JIRVUNTSAG_VERSION) == 0);
+}
+
 int main(int count, char **arguments) {
     if (count != 2) {
         fprintf(stderr, "usage: calls PATH (the image of model A)\n");
@@ -127,5 +146,6 @@ int main(int count, char **arguments) {
     check_large_words();
     check_trace();
     check_refresh();
+    check_header();
     return 0;
 }

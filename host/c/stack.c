@@ -1,5 +1,5 @@
 /* How much stack each call uses, over cases: stack [BOUND] < CASES.
- * Each call runs on a stack of its own, of BOUND bytes (262,144 if none is given), which is painted before it and has an unmapped page
+ * Each call runs on a stack of its own, of BOUND bytes (131,072 if none is given), which is painted before it and has an unmapped page
  * below it, so that a call that needs more ends the program by a signal. Prints the bytes from the stack's top down to the lowest that was
  * written, for the first case (model A), for the second (the largest image), and the most over all. */
 #define _DEFAULT_SOURCE
@@ -57,7 +57,7 @@ static size_t used_by(Call call, uint8_t *stack, size_t bound) {
 }
 
 int main(int count, char **arguments) {
-    size_t bound = count == 2 ? strtoul(arguments[1], NULL, 10) : 1 << 18;
+    size_t bound = count == 2 ? strtoul(arguments[1], NULL, 10) : 1 << 17;
     if (count > 2 || bound < PAGE || bound % PAGE != 0) {
         fprintf(stderr, "usage: stack [BOUND] < CASES (BOUND in bytes, a multiple of %d)\n", PAGE);
         return 2;

@@ -148,20 +148,56 @@ fn kept_by_reference(opened: &Opened) -> String {
     format!("{:.0} | {:.0} | {}", step(0), step(1), show(times.ratio(1, 0), 2))
 }
 
-/// Measures and prints everything.
-fn measure() {
-    let models = models();
-    let all: Vec<Opened> = models.iter().map(opened).collect();
+/// Tells on standard error what is being measured: each takes seconds, and the tables may go to a file.
+struct Progress {
+    done: usize,
+    all: usize,
+}
+
+impl Progress {
+    fn next(&mut self, what: &str, model: &Measured) {
+        self.done += 1;
+        eprintln!("{} of {}: {what}, {}", self.done, self.all, model.name);
+    }
+}
+
+/// The table of opening and running.
+fn print_beside(all: &[Opened], progress: &mut Progress) {
     println!("| model | bytes | open, ns | proved / reference | steps | run, ns | proved / reference |");
     println!("|---|---|---|---|---|---|---|");
-    all.iter().for_each(|one| println!("{}", beside(one)));
+    for one in all {
+        progress.next("opening and running", one.model);
+        println!("{}", beside(one));
+    }
+}
+
+/// The table of keeping matches, and of making them afresh.
+fn print_kept(all: &[Opened], progress: &mut Progress) {
     println!("\n| model | one run | all rules afresh | a call a step | refreshed before | ratio | reference | fresh | ratio |");
     println!("|---|---|---|---|---|---|---|---|---|");
-    for one in &all {
+    for one in all {
+        progress.next("keeping the table", one.model);
         println!("| {} | {} | {} |", one.model.name, kept_by_proved(one), kept_by_reference(one));
     }
+}
+
+/// The table of models that grow.
+fn print_growing(growing: &[Measured], progress: &mut Progress) {
     println!("\n| run | proved, ns a step | reference, ns a step |\n|---|---|---|");
-    growing().iter().for_each(|one| println!("{}", grown(&opened(one))));
+    for one in growing {
+        progress.next("growing", one);
+        println!("{}", grown(&opened(one)));
+    }
+}
+
+/// Measures and prints everything.
+fn measure() {
+    let (models, growing) = (models(), growing());
+    let all: Vec<Opened> = models.iter().map(opened).collect();
+    let mut progress = Progress { done: 0, all: 2 * all.len() + growing.len() };
+    print_beside(&all, &mut progress);
+    print_kept(&all, &mut progress);
+    print_growing(&growing, &mut progress);
 }
 
 fn main() -> std::process::ExitCode {

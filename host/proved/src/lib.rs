@@ -3,7 +3,7 @@
 //! [`Model::open`] takes an image and gives the model, its opening [`State`] and its kept [`Table`]; [`Model::run`] makes
 //! steps. A call that is refused says why by a [`Refusal`] and has changed nothing; a run that was made says by an [`End`]
 //! why it made no more steps. No call panics, keeps anything between calls, or asks for memory but for what it gives back;
-//! each needs less than 262,144 bytes of stack.
+//! each needs less than 131,072 bytes of stack.
 //! [`calls`] has the five calls of the library as they are, on bytes and words that the caller owns.
 //!
 //! ```

@@ -4,7 +4,7 @@ use std::error::Error;
 use std::fmt;
 
 /// Why a call was refused; it has changed nothing.
-#[derive(Clone, Copy, PartialEq, Eq, Hash, Debug)]
+#[derive(Clone, Copy, PartialEq, Eq, Hash)]
 pub enum Refusal {
     /// 1: the image is over 65,536 bytes.
     TooLong,
@@ -88,7 +88,7 @@ impl Number {
         }
     }
 
-    /// What a number of the library means; it gives 0 to 10.
+    /// What a number of the library means. It is proved to give 0 to 10; any other is never told as one of these.
     pub(crate) fn of(number: u16) -> Number {
         match number {
             0 => Number::Ended(End::Done),
@@ -101,7 +101,8 @@ impl Number {
             7 => Number::Ended(End::Stale),
             8 => Number::Ended(End::ClockFull),
             9 => Number::Ended(End::Halted),
-            _ => Number::Refused(Refusal::Mark),
+            10 => Number::Refused(Refusal::Mark),
+            other => unreachable!("the library answered {other}, which is none of its numbers 0 to 10"),
         }
     }
 }
@@ -140,4 +141,28 @@ impl fmt::Display for Number {
     }
 }
 
+/// A `main` that ends with `?` prints an error this way: in words, with its number.
+impl fmt::Debug for Refusal {
+    fn fmt(&self, to: &mut fmt::Formatter) -> fmt::Result {
+        write!(to, "{self} (number {})", self.number())
+    }
+}
+
 impl Error for Refusal {}
+
+#[cfg(test)]
+mod tests {
+    use super::Number;
+
+    #[test]
+    fn each_number_means_itself() {
+        let numbers: Vec<u8> = (0..=10).map(|number| Number::of(number).number()).collect();
+        assert_eq!(numbers, (0..=10).collect::<Vec<u8>>());
+    }
+
+    #[test]
+    #[should_panic(expected = "the library answered 11, which is none of its numbers 0 to 10")]
+    fn a_number_that_is_not_known_is_named() {
+        Number::of(11);
+    }
+}

@@ -43,8 +43,31 @@ pub fn number_and_count(answer: u32) -> (Number, u16) {
 pub fn events(words: &[u32], made: u16) -> Vec<Event> {
     let event = |part: &[u32]| {
         let value = part[2] as u16;
-        let step = if part[1] == 0 { Step::Fire { rule: value } } else { Step::Wait { ms: value } };
+        let step = match part[1] {
+            0 => Step::Fire { rule: value },
+            1 => Step::Wait { ms: value },
+            other => unreachable!("the library noted a step of kind {other}, which is neither 0 nor 1"),
+        };
         Event { clock: part[0], step }
     };
     words.chunks_exact(EVENT).take(usize::from(made)).map(event).collect()
+}
+
+#[cfg(test)]
+mod tests {
+    use super::events;
+    use crate::state::{Event, Step};
+
+    #[test]
+    fn each_kind_of_step_is_told() {
+        let told =
+            [Event { clock: 50, step: Step::Fire { rule: 7 } }, Event { clock: 60, step: Step::Wait { ms: 10 } }];
+        assert_eq!(events(&[50, 0, 7, 60, 1, 10, 0, 0, 0], 2), told);
+    }
+
+    #[test]
+    #[should_panic(expected = "the library noted a step of kind 2, which is neither 0 nor 1")]
+    fn a_kind_that_is_not_known_is_named() {
+        events(&[50, 2, 7], 1);
+    }
 }

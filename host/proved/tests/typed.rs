@@ -77,3 +77,14 @@ fn each_number_has_its_own_words() {
     assert_eq!(words.len(), 11);
     assert!(words.iter().all(|words| !words.is_empty()));
 }
+
+/// What a program prints whose `main` gives up a refused call by `?`.
+#[test]
+fn a_main_that_gives_it_up_prints_the_sentence() {
+    let refused = || -> Result<(), Box<dyn std::error::Error>> {
+        Model::open(&[2])?;
+        Ok(())
+    };
+    let printed = format!("Error: {:?}", refused().expect_err("another version"));
+    assert_eq!(printed, "Error: a field of the image breaks its rule (number 3)");
+}

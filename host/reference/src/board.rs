@@ -1,17 +1,9 @@
 //! The state as a run works on it: slots and delays side by side, and what each buffer shows.
 
+use crate::place::Place;
 use crate::plan::Plan;
 use crate::state::{Buffer, State};
 use crate::{BUFFERS, SLOTS};
-
-/// A slot of a buffer as one byte: 8 times the buffer, plus the slot.
-pub(crate) type Place = u8;
-
-/// The place of a slot in a buffer.
-#[inline]
-pub(crate) fn place(buffer: u8, slot: usize) -> Place {
-    buffer << 3 | slot as u8
-}
 
 /// A state of which slots are one list and delays one vector.
 pub(crate) struct Board {

@@ -2,7 +2,8 @@
 
 use crate::bits::{Reader, Refusal};
 use crate::memory::Memory;
-use crate::model::{Action, Chunk, Deed, Fact, Model, PackedTerm, Parts, Pattern, RuleHead, Test, Types};
+use crate::model::Model;
+use crate::parts::{Action, Chunk, Deed, Fact, PackedTerm, Parts, Pattern, RuleHead, Test, Types};
 use crate::plan::Plan;
 use crate::{BUFFERS, IMAGE_LIMIT};
 
@@ -168,7 +169,8 @@ fn read_action(
             action.deed = Deed::Request(isa);
             isa
         }
-        _ => return Some(()),
+        (2, _) => return Some(()),
+        _ => unreachable!("kind {kind} was refused"),
     };
     read_pattern(reader, types, scope, isa, &mut action.pattern)
 }

@@ -11,6 +11,8 @@ mod decode;
 mod matching;
 mod memory;
 mod model;
+mod parts;
+mod place;
 mod plan;
 mod print;
 mod set;
@@ -19,7 +21,8 @@ mod step;
 
 pub use bits::Refusal;
 pub use calls::{open, refresh, run, table_len, trace, Event, Kind};
-pub use model::{Action, Chunk, Deed, Fact, Model, Pattern, Rule, Term, Test};
+pub use model::Model;
+pub use parts::{Action, Chunk, Deed, Fact, Pattern, Rule, Term, Test};
 pub use print::{print, PRINTED_STEPS};
 pub use state::{Buffer, State};
 

@@ -1,6 +1,6 @@
 //! Declarative memory: the facts in the order in which a request prefers them.
 
-use crate::model::{Parts, Pattern};
+use crate::parts::{Parts, Pattern};
 use crate::state::Buffer;
 use crate::{SLOTS, WORDS};
 

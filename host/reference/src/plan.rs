@@ -1,7 +1,7 @@
 //! The rules rearranged for matching: by preference, with their comparisons in flat lists.
 
-use crate::board::{place, Place};
-use crate::model::{Parts, RuleHead};
+use crate::parts::{Parts, RuleHead};
+use crate::place::{place, Place};
 use crate::set::Set;
 use crate::BUFFERS;
 

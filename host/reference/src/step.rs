@@ -1,8 +1,10 @@
 //! One step: fire, wait or stop.
 
-use crate::board::{place, Board};
+use crate::board::Board;
 use crate::matching::{Known, NO_MATCH};
-use crate::model::{Action, Deed, Model};
+use crate::model::Model;
+use crate::parts::{Action, Deed};
+use crate::place::place;
 use crate::set::Set;
 use crate::state::{Buffer, State};
 use crate::{FIRING, WORDS};

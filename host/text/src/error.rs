@@ -3,7 +3,7 @@
 use std::fmt;
 
 /// A text that is refused: the place and the cause.
-#[derive(Clone, PartialEq, Eq, Debug)]
+#[derive(Clone, PartialEq, Eq)]
 pub struct TextError {
     /// Line, from 1 on; 0 if the fault lies in no single line.
     pub line: usize,
@@ -33,6 +33,13 @@ impl fmt::Display for TextError {
             }
         }
         write!(f, " {}", self.message)
+    }
+}
+
+/// A `main` that ends with `?` prints an error this way: in words, as others read it.
+impl fmt::Debug for TextError {
+    fn fmt(&self, f: &mut fmt::Formatter) -> fmt::Result {
+        f.write_str(self.to_string().trim_start())
     }
 }
 

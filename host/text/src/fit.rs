@@ -6,7 +6,8 @@ use jirvuntsag_packing::ModelSpec;
 
 use crate::error::TextError;
 use crate::names::{Names, CHUNK, NIL};
-use crate::parse::{buffer_name_fault, name_fault, slot_name_fault, type_name_fault};
+use crate::naming::{buffer_name_fault, name_fault, slot_name_fault, type_name_fault};
+use crate::shown::Shown;
 
 /// Refuses names that do not fit the model.
 pub fn check_fit(spec: &ModelSpec, names: &Names) -> Result<(), TextError> {
@@ -40,7 +41,7 @@ fn types(spec: &ModelSpec, names: &Names) -> Option<String> {
         let before = names.types[..=at].iter().map(|other| &other.name);
         let slots = &one.slots;
         type_name_fault(&one.name, before)
-            .or_else(|| miscounted(&format!("slots of type '{}'", one.name), slots.len(), count.into()))
+            .or_else(|| miscounted(&format!("slots of type '{}'", Shown(&one.name)), slots.len(), count.into()))
             .or_else(|| slots.iter().enumerate().find_map(|(slot, name)| slot_name_fault(name, &slots[..slot])))
     })
 }
@@ -52,7 +53,7 @@ fn rules(spec: &ModelSpec, names: &Names) -> Option<String> {
     }
     names.rules.iter().zip(&spec.rules).find_map(|(rule, there)| {
         let variables: Vec<&String> = rule.variables.iter().collect();
-        miscounted(&format!("variables of rule '{}'", rule.name), variables.len(), there.variables.into())
+        miscounted(&format!("variables of rule '{}'", Shown(&rule.name)), variables.len(), there.variables.into())
             .or_else(|| faulty("variable", &variables))
     })
 }
@@ -61,7 +62,7 @@ fn rules(spec: &ModelSpec, names: &Names) -> Option<String> {
 fn faulty(what: &str, names: &[&String]) -> Option<String> {
     let mut before = HashSet::new();
     names.iter().find_map(|name| {
-        let twice = (!before.insert(name)).then(|| format!("{what} '{name}' stands twice"));
+        let twice = (!before.insert(name)).then(|| format!("{what} '{}' stands twice", Shown(name)));
         twice.or_else(|| name_fault(name))
     })
 }

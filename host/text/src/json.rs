@@ -1,6 +1,7 @@
 //! JSON, as much as a file of names needs: a reader for any value, and quoted strings.
 
 use crate::error::TextError;
+use crate::shown::Shown;
 
 /// A JSON value; a number stays as it is written.
 #[derive(Clone, PartialEq, Eq, Debug)]
@@ -25,7 +26,7 @@ pub fn parse(text: &str) -> Result<Json, TextError> {
     reader.skip_blanks();
     match reader.rest.chars().next() {
         None => Ok(value),
-        Some(other) => Err(reader.error(format!("'{other}' after the end of the value"))),
+        Some(other) => Err(reader.error(format!("'{}' after the end of the value", other.escape_debug()))),
     }
 }
 
@@ -95,7 +96,7 @@ impl Reader<'_> {
 
     /// What comes next, in words.
     fn found(&self) -> String {
-        self.peek().map_or("the end".into(), |letter| format!("'{letter}'"))
+        self.peek().map_or("the end".into(), |letter| format!("'{}'", letter.escape_debug()))
     }
 
     fn value(&mut self, depth: usize) -> Result<Json, TextError> {
@@ -137,7 +138,7 @@ impl Reader<'_> {
             self.skip_blanks();
             let key = self.string()?;
             if members.iter().any(|(other, _)| *other == key) {
-                return Err(self.error(format!("the member '{key}' stands twice")));
+                return Err(self.error(format!("the member '{}' stands twice", Shown(&key))));
             }
             self.expect(':')?;
             members.push((key, self.value(depth + 1)?));
@@ -157,7 +158,7 @@ impl Reader<'_> {
         if matches!(word, "null" | "true" | "false") || word.parse::<f64>().is_ok_and(f64::is_finite) {
             return Ok(Json::Plain(word.into()));
         }
-        Err(self.error(format!("'{word}' is no JSON value")))
+        Err(self.error(format!("'{}' is no JSON value", Shown(word))))
     }
 
     fn string(&mut self) -> Result<String, TextError> {

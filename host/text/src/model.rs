@@ -4,9 +4,11 @@ use jirvuntsag_packing::{pack, ModelSpec};
 
 use crate::error::TextError;
 use crate::fit::check_fit;
-use crate::image::{read_image, Refused};
+use crate::image::read_image;
+use crate::limits::IMAGE_LIMIT;
 use crate::names::Names;
-use crate::parse::parse;
+use crate::parse::{parse, Lone, Parsed};
+use crate::refused::Refused;
 
 /// A model and its names; its image is one that opens.
 #[derive(Clone, PartialEq, Eq, Debug)]
@@ -15,15 +17,34 @@ pub struct Model {
     names: Names,
 }
 
+/// What a text holds.
+#[derive(Clone, PartialEq, Eq, Debug)]
+pub struct Reading {
+    /// The model, or all that is wrong with the text, in its order: one fault at least, and 1,000 at most.
+    pub model: Result<Model, Vec<TextError>>,
+    /// The symbols that stand in one place only.
+    pub lone: Vec<Lone>,
+}
+
 impl Model {
-    /// A model that was checked, with names that fit it.
-    pub(crate) fn new(spec: ModelSpec, names: Names) -> Model {
-        Model { spec, names }
+    /// The model of a text, or the first fault.
+    pub fn from_text(text: &str) -> Result<Model, TextError> {
+        Model::read(text).model.map_err(|mut faults| faults.swap_remove(0))
     }
 
-    /// The model of a text.
-    pub fn from_text(text: &str) -> Result<Model, TextError> {
-        parse(text)
+    /// Reads a text whole: its model or all its faults, and what may be mistyped.
+    pub fn read(text: &str) -> Reading {
+        let Parsed { spec, names, faults, lone } = parse(text);
+        let model = if faults.is_empty() { Model { spec, names }.in_bounds() } else { Err(faults) };
+        Reading { model, lone }
+    }
+
+    /// The model, if its image is not too large.
+    fn in_bounds(self) -> Result<Model, Vec<TextError>> {
+        match self.image().len() {
+            0..=IMAGE_LIMIT => Ok(self),
+            bytes => Err(vec![TextError::whole(format!("the image has {bytes} bytes: {IMAGE_LIMIT} are the most"))]),
+        }
     }
 
     /// The model of an image, with invented names.

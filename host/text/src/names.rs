@@ -7,6 +7,7 @@ use jirvuntsag_packing::ModelSpec;
 use crate::error::TextError;
 use crate::json::{parse, quote, Json};
 use crate::limits::SYMBOL;
+use crate::shown::Shown;
 
 /// The names of everything in a model, each by its number.
 #[derive(Clone, PartialEq, Eq, Debug, Default)]
@@ -107,7 +108,7 @@ impl Names {
 /// A symbol's number as a JSON file writes it: one way for each number.
 fn symbol_number(text: &str) -> Result<u16, TextError> {
     let number = text.parse().ok().filter(|number: &u16| *number <= SYMBOL && number.to_string() == text);
-    number.ok_or_else(|| TextError::whole(format!("symbols: '{text}' is no symbol number, 0 to {SYMBOL}")))
+    number.ok_or_else(|| TextError::whole(format!("symbols: '{}' is no symbol number, 0 to {SYMBOL}", Shown(text))))
 }
 
 /// A letter with each number below a count.

@@ -113,7 +113,8 @@ impl Writer<'_> {
                 let terms = self.pattern(rule, *isa, pattern);
                 format!("+{name}> {}{terms}", self.isa(*isa))
             }
-            Deed::Clear | Deed::Forbidden => format!("-{name}>"),
+            Deed::Clear => format!("-{name}>"),
+            Deed::Forbidden => unreachable!("a model that was checked has no action of kind 3"),
         }
     }
 

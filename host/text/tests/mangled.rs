@@ -1,8 +1,8 @@
-//! Texts that were mangled: each is refused with a place in it, or is a model whose image opens.
+//! Texts that were mangled: each is refused with places in it, or is a model whose image opens.
 
 use jirvuntsag_compare::PROVED;
 use jirvuntsag_generate::{each_seed, Rng};
-use jirvuntsag_text::Model;
+use jirvuntsag_text::{Model, TextError};
 
 const TEXT: &str = include_str!("../../../examples/addition.model");
 
@@ -60,15 +60,23 @@ fn mangle(rng: &mut Rng, text: &str) -> String {
     lines.iter().map(|words| words.join(" ") + "\n").collect()
 }
 
+/// A fault has a place that its text has.
+fn assert_lies_in(text: &str, fault: &TextError) {
+    assert!(fault.line <= text.lines().count(), "{fault}");
+    let line = text.lines().nth(fault.line.saturating_sub(1)).unwrap_or("");
+    assert!(fault.column <= line.chars().count() + 1, "{fault} in {line}");
+}
+
 #[test]
 fn mangled_texts_are_answered() {
     let (mut accepted, mut refused) = (0, 0);
     each_seed(110_000, 6_000, |_, mut rng| {
         let mut text = TEXT.to_owned();
-        for _ in 0..rng.from_to(1, 3) {
+        for _ in 0..rng.from_to(1, 6) {
             text = mangle(&mut rng, &text);
         }
-        match Model::from_text(&text) {
+        let first = Model::from_text(&text).err();
+        match Model::read(&text).model {
             Ok(model) => {
                 let image = model.image();
                 let mut table = vec![0; (PROVED.table_len)(&image)];
@@ -77,10 +85,10 @@ fn mangled_texts_are_answered() {
                 assert_eq!((again.image(), &again.names().rules), (image, &model.names().rules), "{text}");
                 accepted += 1;
             }
-            Err(error) => {
-                assert!(error.line <= text.lines().count(), "{error}");
-                let line = text.lines().nth(error.line.saturating_sub(1)).unwrap_or("");
-                assert!(error.column <= line.chars().count() + 1, "{error} in {line}");
+            Err(faults) => {
+                assert_eq!(faults.first(), first.as_ref(), "{text}");
+                faults.iter().for_each(|fault| assert_lies_in(&text, fault));
+                assert!(faults.is_sorted_by_key(|fault| fault.line), "{faults:?} of\n{text}");
                 refused += 1;
             }
         }

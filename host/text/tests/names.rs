@@ -102,3 +102,10 @@ fn names_of_another_model_are_refused() {
     let borrowed = "symbol 1 is called 'x2' as symbol 2 would be, which has no name";
     assert_eq!(unfit(|names| names.symbols.extend([(1, "x2".into())])), borrowed);
 }
+
+#[test]
+fn a_main_that_gives_it_up_prints_the_sentence() {
+    let printed = |text: &str| format!("Error: {:?}", Model::from_text(text).expect_err(text));
+    assert_eq!(printed("type chunk"), "Error: 1:6: type 'chunk' is declared twice");
+    assert_eq!(printed(""), "Error: no buffer is declared: a model has 1 to 8 buffers");
+}

@@ -117,7 +117,8 @@ fn text_with(what: &str, count: usize) -> String {
             let slot = |n| if n % 8 == 0 { format!("\nfact t s0 x{n}") } else { format!(" s{} x{n}", n % 8) };
             eight.to_owned() + &(0..count).map(slot).collect::<String>()
         }
-        _ => format!("buffer b\nfailure latency {count}"),
+        "latencies, activations" => format!("buffer b\nfailure latency {count}"),
+        other => panic!("the page has a limit that is not tried: {other}"),
     }
 }
 

@@ -3,7 +3,7 @@
 use jirvuntsag_compare::PROVED;
 use jirvuntsag_generate::{damage, each_seed, model_of, Shape};
 use jirvuntsag_packing::{model_a, pack, pack_with_fields, ActionSpec, Role};
-use jirvuntsag_text::read_image;
+use jirvuntsag_text::{read_image, Flaw};
 
 /// Number and position agree with the reference, and the number with the proved library.
 fn assert_same(image: &[u8]) {
@@ -13,11 +13,11 @@ fn assert_same(image: &[u8]) {
             0
         }
         (Err(refused), Err(theirs)) => {
-            assert_eq!(refused.number, theirs.number, "{refused}");
+            assert_eq!(refused.flaw.number(), theirs.number, "{refused}");
             let at = refused.at.map_or(0, |at| at as u32);
             assert_eq!(at, theirs.at, "{refused}");
-            assert_eq!(refused.at.is_some(), matches!(refused.number, 2 | 3));
-            refused.number
+            assert_eq!(refused.at.is_some(), matches!(refused.flaw, Flaw::Missing | Flaw::Broken));
+            refused.flaw.number()
         }
         (ours, theirs) => panic!("{ours:?} and {:?}", theirs.map(|_| ())),
     };
@@ -131,4 +131,11 @@ fn ends_are_named() {
     assert_eq!(said(&typed), format!("{three} 53: type of the opening of buffer 0 is 1, but there are no types"));
     let large = "refused: 1 (the image is over 65,536 bytes): it has 65537 bytes";
     assert_eq!(said(&[0; 65_537]), large);
+}
+
+#[test]
+fn a_main_that_gives_it_up_prints_the_sentence() {
+    let refused = read_image(&[2]).expect_err("another version");
+    assert_eq!((refused.flaw, refused.flaw.number()), (Flaw::Broken, 3));
+    assert_eq!(format!("{refused:?}"), refused.to_string());
 }

@@ -1,37 +1,46 @@
-//! `jirvuntsag check`: whether an image opens, and what it holds.
+//! `jirvuntsag-tool check`: whether a text packs or an image opens, and what it holds.
 
 use jirvuntsag_text::Model;
 
 use crate::arguments::Arguments;
 use crate::failure::Failure;
-use crate::files::{model_of_image, read, shown, write_out};
+use crate::files::{model_of_file, shown, write_out};
+use crate::hints::hints;
 use crate::Command;
 
 /// The subcommand.
 pub const COMMAND: Command = Command {
     name: "check",
-    summary: "says whether an image opens, or which field it is refused for",
-    usage: "usage: jirvuntsag check IMAGE
-Says in one line what the image in the file IMAGE ('-' for standard input) holds. One that is refused is explained: the
-number, the bit (from 0 on) and the field.",
+    summary: "says whether a text packs or an image opens, and all that is wrong with it",
+    usage: "usage: jirvuntsag-tool check MODEL
+Says in one line what the text or the image in the file MODEL ('-' for standard input) holds; of a text also which
+symbols stand in one place only, and may be mistyped. A text that is refused is explained by each fault with its line
+and column, an image by the number, the bit (from 0 on) and the field.",
     options: &[],
     run,
 };
 
 fn run(arguments: Arguments) -> Result<(), Failure> {
-    let image = read(&arguments.input)?;
-    let model = model_of_image(&arguments.input, &image, None)?;
-    write_out(format!("{}: {}\n", shown(&arguments.input), contents(&model, image.len())).as_bytes())
+    let held = model_of_file(&arguments.input, None)?;
+    let verdict = if held.is_text { "packs to" } else { "opens:" };
+    let hints = hints(&arguments.input, &held.lone).unwrap_or_default();
+    write_out(format!("{}: {verdict} {}\n{hints}", shown(&arguments.input), contents(&held.model)).as_bytes())
 }
 
-/// What a model holds.
-fn contents(model: &Model, bytes: usize) -> String {
+/// What a model holds; the type of an empty buffer is not among those that it declares.
+fn contents(model: &Model) -> String {
     let spec = model.spec();
     format!(
-        "opens: {bytes} bytes, {} buffers, {} types, {} facts, {} rules",
-        spec.opening.len(),
-        spec.types.len(),
-        spec.facts.len(),
-        spec.rules.len()
+        "{} bytes, {}, {} besides chunk, {}, {}",
+        model.image().len(),
+        counted(spec.opening.len(), "buffer"),
+        counted(spec.types.len(), "type"),
+        counted(spec.facts.len(), "fact"),
+        counted(spec.rules.len(), "rule")
     )
+}
+
+/// `1 rule`, `2 rules`.
+fn counted(count: usize, what: &str) -> String {
+    format!("{count} {what}{}", if count == 1 { "" } else { "s" })
 }

@@ -1,37 +1,72 @@
 //! Reading and writing: `-` stands for standard input and output, and a file is written whole or not at all.
 
+use std::fs::File;
 use std::io::{Read, Write};
 use std::path::PathBuf;
 
-use jirvuntsag_text::{Model, Names, TextError};
+use jirvuntsag_text::{escaped, Lone, Model, Names, Reading, TextError};
 
 use crate::failure::Failure;
 
 /// The word for standard input and output.
 pub const STANDARD: &str = "-";
 
+/// Bytes beyond which no file is read: no text, image or file of names is near to so many.
+const LARGEST: usize = 16 << 20;
+
+/// Faults of a text that are told at most; of the others their number is said.
+const MOST_FAULTS: usize = 20;
+
+/// A model, and what is known of the file that held it.
+pub struct Held {
+    pub model: Model,
+    /// Whether the file holds a text.
+    pub is_text: bool,
+    /// The symbols that stand in one place of the text only.
+    pub lone: Vec<Lone>,
+}
+
 /// What a message calls a file.
-pub fn shown(path: &str) -> &str {
-    if path == STANDARD {
-        "standard input"
-    } else {
-        path
+pub fn shown(path: &str) -> String {
+    match path {
+        STANDARD => "standard input".into(),
+        path => escaped(path.chars()),
     }
 }
 
-/// The bytes of a file.
-pub fn read(path: &str) -> Result<Vec<u8>, Failure> {
-    let mut bytes = Vec::new();
-    let result = match path {
-        STANDARD => std::io::stdin().read_to_end(&mut bytes).map(|_| bytes),
-        path => std::fs::read(path),
+/// The bytes of a file; one that is too large is not read to its end.
+fn read(path: &str) -> Result<Vec<u8>, Failure> {
+    let source: std::io::Result<Box<dyn Read>> = match path {
+        STANDARD => Ok(Box::new(std::io::stdin())),
+        path => File::open(path).map(|file| Box::new(file) as Box<dyn Read>),
     };
-    result.map_err(|error| Failure::file(shown(path), error))
+    let mut bytes = Vec::new();
+    let failed = |error| Failure::file(&shown(path), error);
+    source.map_err(failed)?.take(LARGEST as u64 + 1).read_to_end(&mut bytes).map_err(failed)?;
+    if bytes.len() > LARGEST {
+        return Err(Failure::refused(format!("{}: this is no model: it has more than {LARGEST} bytes", shown(path))));
+    }
+    Ok(bytes)
 }
 
-/// The text of a file.
+/// The text of a file, which must be no image.
 pub fn read_text(path: &str) -> Result<String, Failure> {
-    text_of(path, read(path)?)
+    let bytes = read(path)?;
+    if is_image(path, &bytes) {
+        let message = "this is an image, not a text: 'unpack' makes a text of it";
+        return Err(Failure::refused(format!("{}: {message}", shown(path))));
+    }
+    text_of(path, bytes)
+}
+
+/// The image of a file, which must be no text.
+pub fn read_image(path: &str) -> Result<Vec<u8>, Failure> {
+    let bytes = read(path)?;
+    if is_image(path, &bytes) || std::str::from_utf8(&bytes).is_err() {
+        return Ok(bytes);
+    }
+    let message = "this is a text, not an image: 'pack' makes an image of it";
+    Err(Failure::refused(format!("{}: {message}", shown(path))))
 }
 
 fn text_of(path: &str, bytes: Vec<u8>) -> Result<String, Failure> {
@@ -39,7 +74,7 @@ fn text_of(path: &str, bytes: Vec<u8>) -> Result<String, Failure> {
         let valid = &error.as_bytes()[..error.utf8_error().valid_up_to()];
         let line = 1 + valid.iter().filter(|&&byte| byte == b'\n').count();
         let message = "this is no text: a byte that is not UTF-8".into();
-        Failure::refused(TextError { line, column: 0, message }.in_file(shown(path)))
+        Failure::refused(TextError { line, column: 0, message }.in_file(&shown(path)))
     })
 }
 
@@ -47,31 +82,43 @@ fn text_of(path: &str, bytes: Vec<u8>) -> Result<String, Failure> {
 pub fn model_of_image(path: &str, image: &[u8], names: Option<&str>) -> Result<Model, Failure> {
     let model = Model::from_image(image).map_err(|refused| Failure::refused(format!("{}: {refused}", shown(path))))?;
     let Some(names_path) = names else { return Ok(model) };
-    let refused = |error: TextError| Failure::refused(error.in_file(shown(names_path)));
-    let names = Names::from_json(&read_text(names_path)?).map_err(refused)?;
+    let refused = |error: TextError| Failure::refused(error.in_file(&shown(names_path)));
+    let names = Names::from_json(&text_of(names_path, read(names_path)?)?).map_err(refused)?;
     model.with_names(names).map_err(refused)
 }
 
-/// The model of a text.
-pub fn model_of_text(path: &str, text: &str) -> Result<Model, Failure> {
-    Model::from_text(text).map_err(|error| Failure::refused(error.in_file(shown(path))))
+/// The model of a text, or all its faults.
+pub fn model_of_text(path: &str, text: &str) -> Result<Held, Failure> {
+    let Reading { model, lone } = Model::read(text);
+    let told = |faults: Vec<TextError>| {
+        let mut lines: Vec<String> = faults.iter().take(MOST_FAULTS).map(|fault| fault.in_file(&shown(path))).collect();
+        if faults.len() > MOST_FAULTS {
+            lines.push(format!("{}: and {} more faults", shown(path), faults.len() - MOST_FAULTS));
+        }
+        Failure::refused(lines.join("\n"))
+    };
+    Ok(Held { model: model.map_err(told)?, is_text: true, lone })
 }
 
 /// The model of a file that holds a text or an image; only an image takes names from another file.
-pub fn model_of_file(path: &str, names: Option<&str>) -> Result<Model, Failure> {
+pub fn model_of_file(path: &str, names: Option<&str>) -> Result<Held, Failure> {
     let bytes = read(path)?;
     if is_image(path, &bytes) {
-        return model_of_image(path, &bytes, names);
+        return Ok(Held { model: model_of_image(path, &bytes, names)?, is_text: false, lone: Vec::new() });
     }
     match names {
         None => model_of_text(path, &text_of(path, bytes)?),
-        Some(_) => Err(Failure::usage(format!("jirvuntsag: {} is a text, which has its own names", shown(path)))),
+        Some(_) => Err(Failure::usage(format!("{} is a text, which has its own names", shown(path)))),
     }
 }
 
-/// Whether a file is an image: by its name, or by a first byte with which no text begins (an image's is 1).
+/// Whether a file is an image: by a first byte with which no text begins (an image's is 1), or by its name if it is no text.
 fn is_image(path: &str, bytes: &[u8]) -> bool {
-    path.ends_with(".image") || bytes.first().is_some_and(|&byte| byte < b'\t')
+    match bytes.first() {
+        Some(&byte) if byte < b'\t' => true,
+        Some(_) => path.ends_with(".image") && std::str::from_utf8(bytes).is_err(),
+        None => path.ends_with(".image"),
+    }
 }
 
 /// Writes to standard output.
@@ -119,12 +166,12 @@ impl Drop for Pending {
 /// Writes what was made of an input; of the files, all or none.
 pub fn write_all(input: &str, outputs: &[(&str, &[u8])]) -> Result<(), Failure> {
     if input != STANDARD && outputs.iter().any(|(path, _)| *path == input) {
-        return Err(Failure::usage(format!("jirvuntsag: '{input}' is read, and is not to be written")));
+        return Err(Failure::usage(format!("'{input}' is read, and is not to be written")));
     }
     let twice =
         outputs.iter().enumerate().find(|(at, (path, _))| outputs[..*at].iter().any(|(other, _)| other == path));
     if let Some((_, (path, _))) = twice {
-        return Err(Failure::usage(format!("jirvuntsag: '{path}' is to be written twice")));
+        return Err(Failure::usage(format!("'{path}' is to be written twice")));
     }
     let (streams, files): (Vec<_>, Vec<_>) = outputs.iter().partition(|(path, _)| is_stream(path));
     let pending: Vec<Pending> =

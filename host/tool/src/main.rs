@@ -1,20 +1,25 @@
-//! The command `jirvuntsag`: each subcommand has a file of its own.
+//! The command `jirvuntsag-tool`: each subcommand has a file of its own; what it does with runs stands in `runs`.
 
 mod arguments;
+mod c_header;
 mod check;
-mod engine;
+mod explain;
 mod failure;
 mod files;
-mod lines;
+mod hints;
 mod pack;
+#[cfg_attr(not(feature = "proved"), path = "without.rs")]
+mod runs;
 mod trace;
 mod unpack;
 
 use std::ffi::OsString;
 use std::process::ExitCode;
 
+use jirvuntsag_text::Shown;
+
 use arguments::Arguments;
-use failure::Failure;
+use failure::{Failure, NAME};
 
 /// What every subcommand is: how it is used, and what it does.
 struct Command {
@@ -29,7 +34,7 @@ struct Command {
 }
 
 /// All subcommands.
-const COMMANDS: [&Command; 4] = [&pack::COMMAND, &unpack::COMMAND, &check::COMMAND, &trace::COMMAND];
+const COMMANDS: [&Command; 5] = [&explain::COMMAND, &trace::COMMAND, &check::COMMAND, &pack::COMMAND, &unpack::COMMAND];
 
 fn main() -> ExitCode {
     match words().and_then(dispatch) {
@@ -43,20 +48,21 @@ fn main() -> ExitCode {
 
 /// The words of the command line after the program's name.
 fn words() -> Result<Vec<String>, Failure> {
-    let refused = |word: OsString| Failure::usage(format!("jirvuntsag: {} is not UTF-8", word.to_string_lossy()));
+    let refused = |word: OsString| Failure::usage(format!("{} is not UTF-8", word.to_string_lossy()));
     std::env::args_os().skip(1).map(|word| word.into_string().map_err(refused)).collect()
 }
 
 /// Finds the subcommand that the first word names.
 fn dispatch(mut words: Vec<String>) -> Result<(), Failure> {
     if words.is_empty() {
-        return Err(Failure::usage(help()));
+        return Err(Failure { message: help(), status: 2 });
     }
     let first = words.remove(0);
     match COMMANDS.iter().find(|command| command.name == first) {
         Some(command) => run(command, words),
         None if first == "-h" || first == "--help" => files::write_out(help().as_bytes()),
-        None => Err(Failure::usage(format!("jirvuntsag: '{first}' is no subcommand\n{}", help()))),
+        None if first == "--version" => files::write_out(format!("{NAME} {VERSION}\n").as_bytes()),
+        None => Err(Failure::usage(format!("'{}' is no subcommand\n{}", Shown(&first), help()))),
     }
 }
 
@@ -65,17 +71,19 @@ fn run(command: &Command, words: Vec<String>) -> Result<(), Failure> {
     if words.iter().any(|word| word == "-h" || word == "--help") {
         return files::write_out(format!("{}\n", command.usage).as_bytes());
     }
-    let refused = |why| Failure::usage(format!("jirvuntsag {}: {why}\n{}", command.name, command.usage));
+    let refused = |why| Failure::usage(format!("{}: {why}\n{}", command.name, command.usage));
     (command.run)(Arguments::new(words, command.options).map_err(refused)?)
 }
 
 /// The list of subcommands.
 fn help() -> String {
     let lines: String = COMMANDS.iter().map(|command| format!("  {:10}{}\n", command.name, command.summary)).collect();
-    format!("usage: jirvuntsag SUBCOMMAND ..\n\n{lines}\n{MORE}\n")
+    format!("usage: {NAME} SUBCOMMAND ..\n\n{lines}\n'{NAME} SUBCOMMAND --help' says more. {MORE}\n")
 }
 
 /// What the list of subcommands ends with.
-const MORE: &str =
-    "'jirvuntsag SUBCOMMAND --help' says more. Exit status: 0 done, 1 the input is refused, 2 not used rightly,
-or a file cannot be read or written.";
+const MORE: &str = "A MODEL is a text or an image. Exit status: 0 done, 1 the input is
+refused, 2 not used rightly, or a file cannot be read or written.";
+
+/// The version of all that is built here.
+const VERSION: &str = env!("CARGO_PKG_VERSION");

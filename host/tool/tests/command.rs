@@ -16,7 +16,7 @@ fn folder(name: &str) -> PathBuf {
 
 /// Calls the command within a folder, with an input.
 fn call(folder: &PathBuf, arguments: &[&str], input: &[u8]) -> Output {
-    let mut command = Command::new(env!("CARGO_BIN_EXE_jirvuntsag"));
+    let mut command = Command::new(env!("CARGO_BIN_EXE_jirvuntsag-tool"));
     command.args(arguments).current_dir(folder).stdin(Stdio::piped()).stdout(Stdio::piped()).stderr(Stdio::piped());
     let mut child = command.spawn().expect("the command");
     // A command that reads no input may be gone before it is written.
@@ -97,17 +97,17 @@ fn names_that_do_not_fit_are_refused() {
 fn what_cannot_be_read_or_written() {
     let folder = folder("files");
     let (status, said) = failed(&folder, &["pack", "missing"], &[]);
-    assert!(status == Some(2) && said.starts_with("jirvuntsag: missing: "), "{said}");
+    assert!(status == Some(2) && said.starts_with("jirvuntsag-tool: missing: "), "{said}");
     let (status, said) = failed(&folder, &["pack", "-", "-o", "no/folder"], b"buffer b");
-    assert!(status == Some(2) && said.starts_with("jirvuntsag: no/folder: "), "{said}");
+    assert!(status == Some(2) && said.starts_with("jirvuntsag-tool: no/folder: "), "{said}");
     // The image could be written, the names cannot: neither is.
     let (status, said) = failed(&folder, &["pack", "-", "-o", "i", "--names", "no/n"], b"buffer b");
-    assert!(status == Some(2) && said.starts_with("jirvuntsag: no/n: "), "{said}");
+    assert!(status == Some(2) && said.starts_with("jirvuntsag-tool: no/n: "), "{said}");
     let (status, said) = failed(&folder, &["pack", "-", "-o", "i", "--names", "i"], b"buffer b");
-    assert_eq!((status, said.as_str()), (Some(2), "jirvuntsag: 'i' is to be written twice\n"));
+    assert_eq!((status, said.as_str()), (Some(2), "jirvuntsag-tool: 'i' is to be written twice\n"));
     std::fs::write(folder.join("m"), "buffer b\n").expect("the text");
     let (status, said) = failed(&folder, &["pack", "m", "-o", "m"], &[]);
-    assert_eq!((status, said.as_str()), (Some(2), "jirvuntsag: 'm' is read, and is not to be written\n"));
+    assert_eq!((status, said.as_str()), (Some(2), "jirvuntsag-tool: 'm' is read, and is not to be written\n"));
     assert_eq!(std::fs::read(folder.join("m")).expect("the text"), b"buffer b\n");
 }
 
@@ -115,10 +115,11 @@ fn what_cannot_be_read_or_written() {
 fn a_word_that_is_not_utf_8() {
     use std::os::unix::ffi::OsStrExt;
     let word = std::ffi::OsStr::from_bytes(b"a\xff");
-    let output = Command::new(env!("CARGO_BIN_EXE_jirvuntsag")).arg("check").arg(word).output().expect("the command");
+    let output =
+        Command::new(env!("CARGO_BIN_EXE_jirvuntsag-tool")).arg("check").arg(word).output().expect("the command");
     assert_eq!(
         (output.status.code(), text(&output.stderr).as_str()),
-        (Some(2), "jirvuntsag: a\u{fffd} is not UTF-8\n")
+        (Some(2), "jirvuntsag-tool: a\u{fffd} is not UTF-8\n")
     );
 }
 
@@ -127,21 +128,110 @@ fn help_and_wrong_use() {
     let folder = folder("help");
     let first = |output: &[u8]| text(output).lines().next().unwrap_or_default().to_owned();
     let help = call(&folder, &["--help"], &[]);
-    assert!(help.status.success() && first(&help.stdout) == "usage: jirvuntsag SUBCOMMAND ..");
-    for name in ["pack", "unpack", "check", "trace"] {
+    assert!(help.status.success() && first(&help.stdout) == "usage: jirvuntsag-tool SUBCOMMAND ..");
+    for name in ["pack", "unpack", "check", "trace", "explain"] {
         let help = call(&folder, &[name, "--help"], &[]);
-        assert!(help.status.success() && first(&help.stdout).starts_with(&format!("usage: jirvuntsag {name} ")));
+        assert!(help.status.success() && first(&help.stdout).starts_with(&format!("usage: jirvuntsag-tool {name} ")));
     }
     for (arguments, wanted) in [
-        (&[][..], "usage: jirvuntsag SUBCOMMAND .."),
-        (&["pakc"], "jirvuntsag: 'pakc' is no subcommand"),
-        (&["pack"], "jirvuntsag pack: one file is read, and 0 are given"),
-        (&["pack", "a", "b"], "jirvuntsag pack: one file is read, and 2 are given"),
-        (&["pack", "a", "-o"], "jirvuntsag pack: option '-o' needs a value"),
-        (&["pack", "a", "-o", "b", "-o", "c"], "jirvuntsag pack: option '-o' is given twice"),
-        (&["check", "a", "-o", "b"], "jirvuntsag check: unknown option '-o'"),
+        (&[][..], "usage: jirvuntsag-tool SUBCOMMAND .."),
+        (&["pakc"], "jirvuntsag-tool: 'pakc' is no subcommand"),
+        (&["pack"], "jirvuntsag-tool: pack: one file is read, and 0 are given"),
+        (&["pack", "a", "b"], "jirvuntsag-tool: pack: one file is read, and 2 are given"),
+        (&["pack", "a", "-o"], "jirvuntsag-tool: pack: option '-o' needs a value"),
+        (&["pack", "a", "-o", "b", "-o", "c"], "jirvuntsag-tool: pack: option '-o' is given twice"),
+        (&["check", "a", "-o", "b"], "jirvuntsag-tool: check: unknown option '-o'"),
     ] {
         let (status, said) = failed(&folder, arguments, &[]);
         assert_eq!((status, first(said.as_bytes()).as_str()), (Some(2), wanted));
     }
+}
+
+/// A text where an image is expected, and the other way round, is told as what it is, or taken.
+#[test]
+fn texts_and_images_are_told_from_each_other() {
+    let folder = folder("kinds");
+    let model = b"type pair first\nbuffer goal pair first 1\nfact pair first 1\n";
+    std::fs::write(folder.join("a.model"), model).expect("the text");
+    std::fs::write(folder.join("text.image"), model).expect("a text by another name");
+    assert!(call(&folder, &["pack", "a.model", "-o", "a.image"], &[]).status.success());
+    let holds = "16 bytes, 1 buffer, 1 type besides chunk, 1 fact, 0 rules\n";
+    for (file, verdict) in [("a.model", "packs to"), ("text.image", "packs to"), ("a.image", "opens:")] {
+        let checked = call(&folder, &["check", file], &[]);
+        assert_eq!(text(&checked.stdout), format!("{file}: {verdict} {holds}"));
+        assert!(call(&folder, &["trace", file], &[]).status.success());
+    }
+    let said = "a.model: this is a text, not an image: 'pack' makes an image of it\n";
+    assert_eq!(failed(&folder, &["unpack", "a.model"], &[]), (Some(1), said.into()));
+    let said = "a.image: this is an image, not a text: 'unpack' makes a text of it\n";
+    assert_eq!(failed(&folder, &["pack", "a.image"], &[]), (Some(1), said.into()));
+    let (status, said) = failed(&folder, &["check", "-"], b"\x01");
+    assert!(status == Some(1) && said.starts_with("standard input: refused: 2 "), "{said}");
+}
+
+/// The input that is offered to the command without an end, so that only one who stops reading can answer.
+#[test]
+fn what_is_too_large_is_not_read_to_its_end() {
+    for subcommand in ["pack", "unpack", "check", "trace", "explain"] {
+        let file = std::fs::File::open("/dev/zero").expect("zeros");
+        let mut command = Command::new(env!("CARGO_BIN_EXE_jirvuntsag-tool"));
+        let output = command.args([subcommand, "-"]).stdin(file).output().expect("the command");
+        let said = "standard input: this is no model: it has more than 16777216 bytes\n";
+        assert_eq!((output.status.code(), text(&output.stderr).as_str()), (Some(1), said));
+        assert!(output.stdout.is_empty());
+    }
+}
+
+#[test]
+fn all_faults_are_told_and_no_more_than_can_be_read() {
+    let folder = folder("faults");
+    let (status, said) = failed(&folder, &["check", "-"], b"type a b b\nbuffer c d\nrule\n");
+    let wanted = "standard input:1:10: slot 'b' is named twice
+standard input:2:10: type 'd' is not declared (chunk, a)
+standard input:3:5: the line ends where the rule's name is expected
+";
+    assert_eq!((status, said.as_str()), (Some(1), wanted));
+    let (_, said) = failed(&folder, &["pack", "-"], &b"wrong\n".repeat(50));
+    assert_eq!(said.lines().count(), 21);
+    assert!(said.ends_with("standard input: and 30 more faults\n"), "{said}");
+    let (_, said) = failed(&folder, &["check", "-"], b"\x1b[2J\n");
+    assert!(said.starts_with("standard input:1:1: '\\u{1b}[2J' begins no line"), "{said}");
+}
+
+#[test]
+fn the_version_is_told() {
+    let folder = folder("version");
+    let wanted = concat!("jirvuntsag-tool ", env!("CARGO_PKG_VERSION"), "\n");
+    assert_eq!(text(&call(&folder, &["--version"], &[]).stdout), wanted);
+}
+
+/// Constants for C: names that come out alike are told apart by their numbers, and no name ends its comment.
+#[test]
+fn a_header_for_c() {
+    let folder = folder("header");
+    let model = b"type a-b c\ntype a b-c\nbuffer goal a b-c Alice\nfact a-b c alice\nfact a-b c x*/y\nfact a-b c \xc3\xa4\nrule go-on\n=goal> a\n==>\n";
+    let packed = call(&folder, &["pack", "-", "-o", "m.image", "--header", "my model.h"], model);
+    assert!(packed.status.success(), "{}", text(&packed.stderr));
+    let header = std::fs::read_to_string(folder.join("my model.h")).expect("the header");
+    let defined: Vec<&str> = header.lines().filter_map(|line| line.strip_prefix("#define MY_MODEL_")).collect();
+    let wanted = [
+        "H",
+        "IMAGE_BYTES 35",
+        "TABLE_WORDS 9",
+        "BUFFER_GOAL 0 /* goal */",
+        "TYPE_CHUNK 0 /* chunk */",
+        "TYPE_A_B 1 /* a-b */",
+        "TYPE_A 2 /* a */",
+        "SLOT_A_B_C 0 /* c */",
+        "SLOT_A_B_C_0 0 /* b-c */",
+        "SYMBOL_NIL 0 /* nil */",
+        "SYMBOL_ALICE 1 /* Alice */",
+        "SYMBOL_ALICE_2 2 /* alice */",
+        "SYMBOL_X__Y 3 /* x*\\/y */",
+        "SYMBOL__ 4 /* \u{e4} */",
+        "RULE_GO_ON 0 /* go-on */",
+    ];
+    assert_eq!(defined, wanted);
+    let printed = call(&folder, &["pack", "-", "-o", "m.image", "--header", "-"], b"buffer b\n");
+    assert!(text(&printed.stdout).contains("#define MODEL_BUFFER_B 0 /* b */\n"));
 }

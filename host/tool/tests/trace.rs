@@ -3,10 +3,10 @@
 use std::path::Path;
 use std::process::{Command, Output};
 
-/// Calls `jirvuntsag trace` in the folder of the examples.
+/// Calls `jirvuntsag-tool trace` in the folder of the examples.
 fn call(arguments: &[&str]) -> Output {
     let examples = Path::new(env!("CARGO_MANIFEST_DIR")).join("../../examples");
-    let mut command = Command::new(env!("CARGO_BIN_EXE_jirvuntsag"));
+    let mut command = Command::new(env!("CARGO_BIN_EXE_jirvuntsag-tool"));
     command.arg("trace").args(arguments).current_dir(examples).output().expect("the command")
 }
 
@@ -84,7 +84,7 @@ fn an_image_with_names_is_traced_as_its_text() {
         let (model, image) = (format!("{name}.model"), format!("{name}.image"));
         let names = folder.join(format!("{name}.json")).to_string_lossy().into_owned();
         let examples = Path::new(env!("CARGO_MANIFEST_DIR")).join("../../examples");
-        let mut pack = Command::new(env!("CARGO_BIN_EXE_jirvuntsag"));
+        let mut pack = Command::new(env!("CARGO_BIN_EXE_jirvuntsag-tool"));
         pack.current_dir(examples).args(["pack", &model, "-o", "/dev/null", "--names", &names]);
         assert!(pack.status().expect("the command").success());
         assert_eq!(trace(&[&image, "--names", &names]), trace(&[&model]));
@@ -94,8 +94,12 @@ fn an_image_with_names_is_traced_as_its_text() {
 #[test]
 fn what_cannot_be_traced_is_refused() {
     for (arguments, status, beginning) in [
-        (&["counting.model", "--names", "n"][..], 2, "jirvuntsag: counting.model is a text, which has its own names\n"),
-        (&["counting.image", "--steps", "65536"], 2, "jirvuntsag trace: '65536' is no number of steps, 0 to 65535\n"),
+        (
+            &["counting.model", "--names", "n"][..],
+            2,
+            "jirvuntsag-tool: counting.model is a text, which has its own names\n",
+        ),
+        (&["counting.image", "--steps", "65536"], 2, "jirvuntsag-tool: '65536' is no number of steps, 0 to 65535\n"),
         (&["README.md"], 1, "README.md:3:1: 'Each' begins no line; "),
     ] {
         let output = call(arguments);
@@ -117,4 +121,16 @@ fn the_example_of_the_page() {
     let path = Path::new(env!("CARGO_TARGET_TMPDIR")).join("count.model");
     std::fs::write(&path, block("model")).expect("the text");
     assert_eq!(trace(&[&path.to_string_lossy()]), block("trace"));
+}
+
+/// Names that capitals would make one are printed as they are written.
+#[test]
+fn names_that_differ_in_capitals_alone_stay_apart() {
+    let path = Path::new(env!("CARGO_TARGET_TMPDIR")).join("capitals.model");
+    std::fs::write(&path, "type t a b\nbuffer goal t a Alice b alice\n").expect("the text");
+    let traced = trace(&[&path.to_string_lossy()]);
+    let line = traced.lines().next().expect("a line");
+    assert_eq!(line, "     0.000   goal                   SET-BUFFER-CHUNK goal t(Alice,alice)");
+    std::fs::write(&path, "type t a b\nbuffer goal t a Alice b bob\n").expect("the text");
+    assert!(trace(&[&path.to_string_lossy()]).contains("SET-BUFFER-CHUNK GOAL T(ALICE,BOB)"));
 }

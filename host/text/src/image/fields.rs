@@ -1,6 +1,6 @@
 //! Fields one after the other, each with its name for the case that it is refused.
 
-use super::Refused;
+use crate::refused::{Flaw, Refused};
 
 /// An image and the bit that comes next.
 pub struct Fields<'i> {
@@ -14,9 +14,9 @@ impl<'i> Fields<'i> {
         Fields { image, at: 0 }
     }
 
-    /// A refusal by 3 at a bit.
+    /// A field that breaks its rule, at a bit.
     fn broken(at: usize, cause: String) -> Refused {
-        Refused { number: 3, at: Some(at), cause }
+        Refused { flaw: Flaw::Broken, at: Some(at), cause }
     }
 
     /// The next field, whatever it holds.
@@ -25,7 +25,7 @@ impl<'i> Fields<'i> {
         if start + width > bits {
             let end = if bits == 0 { "is empty".into() } else { format!("ends after bit {}", bits - 1) };
             let cause = format!("{} has {width} bits, but the image {end}", what());
-            return Err(Refused { number: 2, at: Some(start), cause });
+            return Err(Refused { flaw: Flaw::Missing, at: Some(start), cause });
         }
         self.at += width;
         Ok((start..self.at).fold(0, |value, bit| value << 1 | u16::from(self.bit(bit))))
@@ -70,7 +70,7 @@ impl<'i> Fields<'i> {
         } else {
             return Ok(());
         };
-        Err(Refused { number: 4, at: None, cause })
+        Err(Refused { flaw: Flaw::Follows, at: None, cause })
     }
 
     fn bit(&self, bit: usize) -> bool {

@@ -3,52 +3,16 @@
 mod fields;
 mod rules;
 
-use std::fmt;
-
 use jirvuntsag_packing::{ChunkSpec, FactSpec, ModelSpec};
 
 use crate::limits::{BUFFERS, FACTS, IMAGE_LIMIT, RULES, SLOTS};
+use crate::refused::{Flaw, Refused};
 use fields::{counted, Fields};
-
-/// Why an image is refused.
-#[derive(Clone, PartialEq, Eq, Debug)]
-pub struct Refused {
-    /// 1, 2, 3 or 4.
-    pub number: u8,
-    /// For 2 and 3 the field's first bit (for a variable in no test, the bit after the tests).
-    pub at: Option<usize>,
-    /// The field and what is wrong with it.
-    pub cause: String,
-}
-
-impl Refused {
-    /// What the number says.
-    pub fn meaning(&self) -> &'static str {
-        match self.number {
-            1 => "the image is over 65,536 bytes",
-            2 => "a field is not wholly there",
-            3 => "a field breaks its rule",
-            _ => "a pad bit is 1, or a byte follows",
-        }
-    }
-}
-
-impl fmt::Display for Refused {
-    fn fmt(&self, f: &mut fmt::Formatter) -> fmt::Result {
-        write!(f, "refused: {} ({})", self.number, self.meaning())?;
-        if let Some(at) = self.at {
-            write!(f, " at bit {at}")?;
-        }
-        write!(f, ": {}", self.cause)
-    }
-}
-
-impl std::error::Error for Refused {}
 
 /// The model of an image.
 pub fn read_image(image: &[u8]) -> Result<ModelSpec, Refused> {
     if image.len() > IMAGE_LIMIT {
-        return Err(Refused { number: 1, at: None, cause: format!("it has {} bytes", image.len()) });
+        return Err(Refused { flaw: Flaw::TooLong, at: None, cause: format!("it has {} bytes", image.len()) });
     }
     let mut fields = Fields::new(image);
     let mut spec = ModelSpec::default();

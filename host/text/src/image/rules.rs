@@ -3,8 +3,9 @@
 use jirvuntsag_packing::{ActionSpec, Deed, ModelSpec, PatternSpec, RuleSpec, Term, TestSpec};
 
 use super::fields::{counted, Fields};
-use super::{type_of, Refused};
+use super::type_of;
 use crate::limits::VARIABLES;
+use crate::refused::Refused;
 
 /// What a rule's terms and actions must know of the rule.
 struct Scope<'m> {
@@ -70,8 +71,8 @@ fn action(fields: &mut Fields, scope: &Scope, rule: &RuleSpec, whose: &str) -> R
     let tested = rule.tests.iter().find(|test| test.buffer == buffer).map(|test| test.isa);
     let wrong = |kind| match (kind, tested) {
         (0, None) => Some(format!("buffer {buffer}, which it would modify, is not tested")),
-        (3, _) => Some("only 0, 1 and 2 are kinds".into()),
-        _ => None,
+        (0, Some(_)) | (1 | 2, _) => None,
+        _ => Some("only 0, 1 and 2 are kinds".into()),
     };
     let kind = fields.judged(2, || format!("kind of {whose}"), wrong)?;
     let deed = match (kind, tested) {
@@ -80,7 +81,8 @@ fn action(fields: &mut Fields, scope: &Scope, rule: &RuleSpec, whose: &str) -> R
             let isa = type_of(fields, scope.spec, 1, whose)?;
             Deed::Request(isa, pattern(fields, scope, isa, whose)?)
         }
-        _ => Deed::Clear,
+        (2, _) => Deed::Clear,
+        _ => unreachable!("kind {kind} of {whose} was refused"),
     };
     Ok(ActionSpec { buffer, deed })
 }

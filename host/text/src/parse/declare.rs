@@ -2,16 +2,13 @@
 
 use jirvuntsag_packing::{ChunkSpec, FactSpec};
 
-use super::lookup::ISA;
-use super::words::{name_fault, whole_number, Line, Word};
+use super::words::{whole_number, Line, Word};
 use super::Parser;
 use crate::error::TextError;
 use crate::limits::{BUFFERS, FACTS, SLOTS, SYMBOL, TYPES};
 use crate::names::TypeNames;
-
-/// Words that end the slots of a fact, so that no slot can be called so.
-const ACTIVATION: &str = "activation";
-const LATENCY: &str = "latency";
+use crate::naming::{buffer_name_fault, slot_name_fault, type_name_fault, ACTIVATION, LATENCY};
+use crate::shown::Shown;
 
 impl<'t> Parser<'t> {
     /// `failure latency MS`.
@@ -49,12 +46,13 @@ impl<'t> Parser<'t> {
         let mut slots: Vec<String> = Vec::new();
         while let Some(word) = line.next() {
             if let Some(fault) = slot_name_fault(word.text, &slots) {
-                return Err(word.error(fault));
+                self.note(Err(word.error(fault)));
+            } else if slots.len() == SLOTS {
+                self.note(Err(word.error(format!("more than {SLOTS} slots in type '{}'", Shown(&own)))));
+                break;
+            } else {
+                slots.push(word.text.into());
             }
-            if slots.len() == SLOTS {
-                return Err(word.error(format!("more than {SLOTS} slots in type '{own}'")));
-            }
-            slots.push(word.text.into());
         }
         self.spec.types.push(slots.len() as u8);
         self.names.types.push(TypeNames { name: own, slots });
@@ -70,17 +68,23 @@ impl<'t> Parser<'t> {
         if self.spec.opening.len() == BUFFERS {
             return Err(word.error(format!("more than {BUFFERS} buffers")));
         }
-        let chunk = match line.peek() {
-            None => ChunkSpec::nil(),
-            Some(_) => {
-                let (_, isa) = self.take_type(&mut line)?;
-                self.chunk(isa, &mut line)?
-            }
-        };
-        line.end()?;
+        let chunk = self.opening(line);
         self.names.buffers.push(word.text.into());
+        // A buffer whose chunk is wrong is there all the same, or each rule that names it would be called wrong, too.
+        let (chunk, said) = chunk.map_or_else(|fault| (ChunkSpec::nil(), Err(fault)), |chunk| (chunk, Ok(())));
         self.spec.opening.push(chunk);
-        Ok(())
+        said
+    }
+
+    /// The chunk that a buffer opens with, to the line's end.
+    fn opening(&mut self, mut line: Line<'t>) -> Result<ChunkSpec, TextError> {
+        if line.peek().is_none() {
+            return Ok(ChunkSpec::nil());
+        }
+        let (_, isa) = self.take_type(&mut line)?;
+        let chunk = self.chunk(isa, &mut line)?;
+        line.end()?;
+        Ok(chunk)
     }
 
     /// `fact TYPE SLOT VALUE .. activation NUMBER latency MS`.
@@ -109,45 +113,12 @@ impl<'t> Parser<'t> {
             line.next();
             let slot = self.slot_number(word, isa)?;
             if named >> slot & 1 == 1 {
-                return Err(word.error(format!("slot '{}' is named twice", word.text)));
+                return Err(word.error(format!("slot '{word}' is named twice")));
             }
             named |= 1 << slot;
-            let value = line.take(&format!("the value of slot '{}'", word.text))?;
+            let value = line.take(&format!("the value of slot '{word}'"))?;
             slots[slot] = self.symbols.number(value)?;
         }
         Ok(ChunkSpec { isa, slots })
     }
-}
-
-/// Why a type cannot be called so, after the types before it.
-pub fn type_name_fault<'n>(name: &str, mut before: impl Iterator<Item = &'n String>) -> Option<String> {
-    if name == ISA {
-        return Some(format!("'{name}' has a meaning of its own and cannot be a type"));
-    }
-    if before.any(|other| other == name) {
-        return Some(format!("type '{name}' is declared twice"));
-    }
-    name_fault(name)
-}
-
-/// Why a slot cannot be called so, after the slots of its type before it.
-pub fn slot_name_fault(name: &str, before: &[String]) -> Option<String> {
-    if [ISA, ACTIVATION, LATENCY, "-"].contains(&name) {
-        return Some(format!("'{name}' has a meaning of its own and cannot be a slot"));
-    }
-    if before.iter().any(|other| other == name) {
-        return Some(format!("slot '{name}' is named twice"));
-    }
-    name_fault(name)
-}
-
-/// Why a buffer cannot be called so, after the buffers before it.
-pub fn buffer_name_fault(name: &str, before: &[String]) -> Option<String> {
-    if name.contains('>') {
-        return Some("'>' cannot stand in the name of a buffer".into());
-    }
-    if before.iter().any(|other| other == name) {
-        return Some(format!("buffer '{name}' is declared twice"));
-    }
-    name_fault(name)
 }

@@ -5,6 +5,7 @@ use jirvuntsag_packing::{ActionSpec, TestSpec};
 use super::words::{name, Line, Word};
 use crate::error::TextError;
 use crate::limits::VARIABLES;
+use crate::shown::Shown;
 
 /// A rule whose lines are being read.
 pub struct Draft<'t> {
@@ -20,6 +21,8 @@ pub struct Draft<'t> {
     pub tests: Vec<(Word<'t>, TestSpec)>,
     /// Whether `==>` was read.
     pub turned: bool,
+    /// Whether a line of the rule was wrong: what follows from that is not told as a fault of its own.
+    pub faulty: bool,
     pub actions: Vec<(Word<'t>, ActionSpec)>,
 }
 
@@ -29,28 +32,35 @@ pub fn buffer_of<'t>(first: Word<'t>) -> &'t str {
 }
 
 impl<'t> Draft<'t> {
-    pub fn new(head: Word<'t>, name: &'t str) -> Draft<'t> {
+    /// A rule of which no more is known than its line.
+    pub fn new(head: Word<'t>) -> Draft<'t> {
         Draft {
             head,
-            name,
+            name: "",
             utility: 0,
             variables: Vec::new(),
             tested: 0,
             listed: false,
             tests: Vec::new(),
             turned: false,
+            faulty: false,
             actions: Vec::new(),
         }
+    }
+
+    /// A rule whose head is wrong.
+    pub fn faulty(head: Word<'t>) -> Draft<'t> {
+        Draft { faulty: true, ..Draft::new(head) }
     }
 
     /// The variables in the order of their numbers, to the line's end.
     pub fn list_variables(&mut self, line: &mut Line<'t>) -> Result<(), TextError> {
         while let Some(word) = line.next() {
             if !word.text.starts_with('?') {
-                return Err(word.error(format!("expected a variable, as '?a', found '{}'", word.text)));
+                return Err(word.error(format!("expected a variable, as '?a', found '{word}'")));
             }
             if self.position(word).is_some() {
-                return Err(word.error(format!("variable '{}' is listed twice", word.text)));
+                return Err(word.error(format!("variable '{word}' is listed twice")));
             }
             self.add_variable(word)?;
         }
@@ -65,7 +75,7 @@ impl<'t> Draft<'t> {
     fn add_variable(&mut self, word: Word<'t>) -> Result<usize, TextError> {
         name(Word { text: &word.text[1..], ..word })?;
         if self.variables.len() == VARIABLES {
-            return Err(word.error(format!("more than {VARIABLES} variables in rule '{}'", self.name)));
+            return Err(word.error(format!("more than {VARIABLES} variables in rule '{}'", Shown(self.name))));
         }
         self.variables.push(word);
         Ok(self.variables.len() - 1)
@@ -75,9 +85,10 @@ impl<'t> Draft<'t> {
     pub fn variable(&mut self, word: Word<'t>) -> Result<u16, TextError> {
         let number = match self.position(word) {
             Some(number) if !self.turned || self.tested >> number & 1 == 1 => number,
+            _ if self.turned && self.faulty => return Ok(0),
             _ if self.turned => return Err(self.untested(word)),
             _ if self.listed => {
-                let message = format!("variable '{}' is not in the list of rule '{}'", word.text, self.name);
+                let message = format!("variable '{word}' is not in the list of rule '{}'", Shown(self.name));
                 return Err(word.error(message));
             }
             _ => self.add_variable(word)?,
@@ -87,24 +98,24 @@ impl<'t> Draft<'t> {
     }
 
     fn untested(&self, word: Word) -> TextError {
-        word.error(format!("variable '{}' stands in no test of rule '{}'", word.text, self.name))
+        word.error(format!("variable '{word}' stands in no test of rule '{}'", Shown(self.name)))
     }
 
     /// The fault of a second test of a buffer, or a second action on it.
     pub fn twice(&self, what: &str, first: Word, before: Word) -> TextError {
-        let (rule, buffer, line) = (self.name, buffer_of(first), before.line);
+        let (rule, buffer, line) = (Shown(self.name), Shown(buffer_of(first)), before.line);
         first.error(format!("rule '{rule}' {what} buffer '{buffer}' twice, first in line {line}"))
     }
 
     /// `==>`: the tests end here.
     pub fn turn(&mut self, first: Word, mut line: Line) -> Result<(), TextError> {
         if self.turned {
-            return Err(first.error(format!("rule '{}' has two lines '==>'", self.name)));
-        }
-        if self.tests.is_empty() {
-            return Err(first.error(format!("rule '{}' has no test: it needs one at least", self.name)));
+            return Err(first.error(format!("rule '{}' has two lines '==>'", Shown(self.name))));
         }
         self.turned = true;
+        if self.tests.is_empty() && !self.faulty {
+            return Err(first.error(format!("rule '{}' has no test: it needs one at least", Shown(self.name))));
+        }
         line.end()
     }
 
@@ -125,8 +136,13 @@ impl<'t> Draft<'t> {
 
     /// What can be said only when all lines of the rule are read.
     pub fn check(&self) -> Result<(), TextError> {
+        if self.faulty {
+            return Ok(());
+        }
         if !self.turned {
-            return Err(self.head.error(format!("rule '{}' has no line '==>' between tests and actions", self.name)));
+            return Err(self
+                .head
+                .error(format!("rule '{}' has no line '==>' between tests and actions", Shown(self.name))));
         }
         let untested = (0..self.variables.len()).find(|number| self.tested >> number & 1 == 0);
         match untested.map(|number| self.variables[number]) {

@@ -4,9 +4,8 @@ use super::words::{Line, Word};
 use super::Parser;
 use crate::error::TextError;
 use crate::names::TypeNames;
-
-/// The word that may stand before a type, as in ACT-R.
-pub const ISA: &str = "isa";
+use crate::naming::ISA;
+use crate::shown::{listed, Shown};
 
 impl<'t> Parser<'t> {
     /// The number of a type; the word `isa` before it is passed over.
@@ -16,7 +15,10 @@ impl<'t> Parser<'t> {
         let position = self.names.types.iter().position(|one| one.name == word.text);
         match position {
             Some(number) => Ok((word, number as u8)),
-            None => Err(word.error(format!("type '{}' is not declared ({})", word.text, self.type_list()))),
+            None => {
+                let declared = listed(self.names.types.iter().map(|one| &one.name));
+                Err(word.error(format!("type '{word}' is not declared ({declared})")))
+            }
         }
     }
 
@@ -33,7 +35,10 @@ impl<'t> Parser<'t> {
         let position = self.names.buffers.iter().position(|one| one == name);
         match position {
             Some(number) => Ok(number as u8),
-            None => Err(word.error(format!("buffer '{name}' is not declared ({})", listed(&self.names.buffers)))),
+            None => {
+                let declared = listed(self.names.buffers.iter());
+                Err(word.error(format!("buffer '{}' is not declared ({declared})", Shown(name))))
+            }
         }
     }
 
@@ -45,20 +50,7 @@ impl<'t> Parser<'t> {
         }
         Err(word.error(match word.text {
             "-" => "a slot cannot be negated in an image: give the rule for the other case a higher utility".into(),
-            text => format!("slot '{text}' is not a slot of type '{name}' ({})", listed(slots)),
+            _ => format!("slot '{word}' is not a slot of type '{}' ({})", Shown(name), listed(slots.iter())),
         }))
     }
-
-    fn type_list(&self) -> String {
-        let names: Vec<String> = self.names.types.iter().map(|one| one.name.clone()).collect();
-        listed(&names)
-    }
-}
-
-/// Names with commas between them.
-fn listed(names: &[String]) -> String {
-    if names.is_empty() {
-        return "there is none".into();
-    }
-    names.join(", ")
 }

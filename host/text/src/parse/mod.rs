@@ -2,6 +2,8 @@
 
 mod declare;
 mod draft;
+mod lisp;
+mod lone;
 mod lookup;
 mod rule;
 mod symbols;
@@ -10,22 +12,34 @@ mod words;
 use jirvuntsag_packing::ModelSpec;
 
 use crate::error::TextError;
-use crate::limits::{BUFFERS, IMAGE_LIMIT};
-use crate::model::Model;
+use crate::limits::BUFFERS;
 use crate::names::Names;
 use draft::Draft;
 use symbols::Symbols;
 use words::{Line, Word};
 
-pub use declare::{buffer_name_fault, slot_name_fault, type_name_fault};
-pub use words::name_fault;
+pub use lone::Lone;
 
-/// The model of a text.
-pub fn parse(text: &str) -> Result<Model, TextError> {
+/// Faults that are kept at most: no reader wants more, and no text shall fill the memory with them.
+const MOST_FAULTS: usize = 1_000;
+
+/// What a text says.
+pub struct Parsed {
+    /// The model in numbers, and what they are called; only what holds if there is no fault.
+    pub spec: ModelSpec,
+    pub names: Names,
+    /// All that is wrong, in the order of the text.
+    pub faults: Vec<TextError>,
+    /// The symbols that stand in one place only.
+    pub lone: Vec<Lone>,
+}
+
+/// Reads a text whole: a line that is wrong is noted, and the next one is read.
+pub fn parse(text: &str) -> Parsed {
     let mut parser = Parser::new();
     let text = text.strip_prefix('\u{feff}').unwrap_or(text);
     for (index, line) in text.lines().enumerate() {
-        parser.line(Line::new(index + 1, line))?;
+        parser.line(Line::new(index + 1, line));
     }
     parser.finish()
 }
@@ -39,6 +53,7 @@ struct Parser<'t> {
     failure_said: bool,
     /// The rule whose lines are being read.
     draft: Option<Draft<'t>>,
+    faults: Vec<TextError>,
 }
 
 impl<'t> Parser<'t> {
@@ -49,16 +64,37 @@ impl<'t> Parser<'t> {
             symbols: Symbols::new(),
             failure_said: false,
             draft: None,
+            faults: Vec::new(),
+        }
+    }
+
+    /// Notes a fault, if there is one.
+    fn note(&mut self, said: Result<(), TextError>) {
+        if let Err(fault) = said {
+            if self.faults.len() < MOST_FAULTS {
+                self.faults.push(fault);
+            }
         }
     }
 
     /// Takes one line; an empty one says nothing.
-    fn line(&mut self, mut line: Line<'t>) -> Result<(), TextError> {
-        let Some(first) = line.next() else { return Ok(()) };
-        if first.text == "==>" || is_buffer_line(first.text) {
-            return self.rule_line(first, line);
-        }
-        self.end_rule()?;
+    fn line(&mut self, mut line: Line<'t>) {
+        let Some(first) = line.next() else { return };
+        let said = if first.text == "==>" || is_buffer_line(first.text) {
+            self.rule_line(first, line)
+        } else if let Some(draft) = self.draft.as_mut().filter(|_| is_meant_within(first.text)) {
+            draft.faulty = true;
+            Err(first.error(unknown(first, WITHIN_RULE)))
+        } else {
+            let ended = self.end_rule();
+            self.note(ended);
+            self.own_line(first, line)
+        };
+        self.note(said);
+    }
+
+    /// A line that belongs to no rule.
+    fn own_line(&mut self, first: Word<'t>, line: Line<'t>) -> Result<(), TextError> {
         match first.text {
             "failure" => self.failure(first, line),
             "symbol" => self.symbol(line),
@@ -66,18 +102,23 @@ impl<'t> Parser<'t> {
             "buffer" => self.buffer(line),
             "fact" => self.fact(first, line),
             "rule" => self.rule(first, line),
-            _ => Err(first.error(unknown(first.text))),
+            _ => {
+                // It may have been meant as the head of a rule, whose lines are then no faults of their own.
+                self.draft = Some(Draft::faulty(first));
+                Err(first.error(unknown(first, ANYWHERE)))
+            }
         }
     }
 
     /// A line that belongs to a rule.
     fn rule_line(&mut self, first: Word<'t>, line: Line<'t>) -> Result<(), TextError> {
         let Some(mut draft) = self.draft.take() else {
-            return Err(first.error(format!("'{}' stands in no rule: a 'rule' line comes first", first.text)));
+            return Err(first.error(format!("'{first}' stands in no rule: a 'rule' line comes first")));
         };
-        self.rule_part(&mut draft, first, line)?;
+        let said = self.rule_part(&mut draft, first, line);
+        draft.faulty |= said.is_err();
         self.draft = Some(draft);
-        Ok(())
+        said
     }
 
     /// What a rule must have once all its lines are read.
@@ -89,17 +130,16 @@ impl<'t> Parser<'t> {
     }
 
     /// What a model must have once the whole text is read.
-    fn finish(mut self) -> Result<Model, TextError> {
-        self.end_rule()?;
-        if self.spec.opening.is_empty() {
-            return Err(TextError::whole(format!("no buffer is declared: a model has 1 to {BUFFERS} buffers")));
+    fn finish(mut self) -> Parsed {
+        let ended = self.end_rule();
+        self.note(ended);
+        if self.spec.opening.is_empty() && self.faults.is_empty() {
+            let message = format!("no buffer is declared: a model has 1 to {BUFFERS} buffers");
+            self.faults.push(TextError::whole(message));
         }
+        let lone = self.symbols.lone();
         self.names.symbols = self.symbols.into_names();
-        let model = Model::new(self.spec, self.names);
-        match model.image().len() {
-            0..=IMAGE_LIMIT => Ok(model),
-            bytes => Err(TextError::whole(format!("the image has {bytes} bytes: {IMAGE_LIMIT} are the most"))),
-        }
+        Parsed { spec: self.spec, names: self.names, faults: self.faults, lone }
     }
 }
 
@@ -108,14 +148,30 @@ fn is_buffer_line(word: &str) -> bool {
     word.len() > 2 && word.starts_with(['=', '+', '-', '?']) && word.ends_with('>')
 }
 
+/// What a line begins with.
+const ANYWHERE: &str = "failure, symbol, type, buffer, fact, rule, =BUFFER>, +BUFFER>, -BUFFER> or ==>";
+/// The same, below the head of a rule.
+const WITHIN_RULE: &str = "=BUFFER>, +BUFFER>, -BUFFER> or ==> within a rule, where slots stand behind it, \
+                           or else with failure, symbol, type, buffer, fact or rule";
+
+/// Words that begin a line which declares something.
+const DECLARING: [&str; 6] = ["failure", "symbol", "type", "buffer", "fact", "rule"];
+
+/// Whether a wrong line that begins so, below the head of a rule, is meant as one of that rule: as ACT-R writes slots and `isa` there.
+fn is_meant_within(word: &str) -> bool {
+    let elsewhere = DECLARING.contains(&word) || word.starts_with(['(', ')']);
+    !elsewhere && lisp::answer(word).is_none_or(|_| lisp::is_within_rules(word))
+}
+
 /// Why no line begins with this word.
-fn unknown(word: &str) -> String {
-    let wanted = "failure, symbol, type, buffer, fact, rule, =BUFFER>, +BUFFER>, -BUFFER> or ==>";
-    if word.starts_with('(') {
-        format!("'{word}': this is not Lisp; a line begins with {wanted}")
-    } else if word.starts_with('!') {
-        format!("'{word}': a rule prints and computes nothing; a line begins with {wanted}")
-    } else {
-        format!("'{word}' begins no line; a line begins with {wanted}")
+fn unknown(first: Word, wanted: &str) -> String {
+    if let Some(answer) = lisp::answer(first.text) {
+        return format!("'{first}' is ACT-R's: {answer}");
     }
+    let why = match first.text.chars().next() {
+        Some('(' | ')') => ": this is not Lisp;",
+        Some('!') => ": a rule prints and computes nothing;",
+        _ => " begins no line;",
+    };
+    format!("'{first}'{why} a line begins with {wanted}")
 }

@@ -3,23 +3,35 @@
 use jirvuntsag_packing::{ActionSpec, Deed, PatternSpec, RuleSpec, Term, TestSpec};
 
 use super::draft::{buffer_of, Draft};
-use super::lookup::ISA;
 use super::words::{name, utility, Line, Word};
 use super::Parser;
 use crate::error::TextError;
 use crate::limits::RULES;
 use crate::names::RuleNames;
+use crate::naming::ISA;
+use crate::shown::Shown;
 
 impl<'t> Parser<'t> {
     /// `rule NAME utility NUMBER variables ?NAME ..`; the last two parts may be missing.
-    pub fn rule(&mut self, first: Word<'t>, mut line: Line<'t>) -> Result<(), TextError> {
+    pub fn rule(&mut self, first: Word<'t>, line: Line<'t>) -> Result<(), TextError> {
+        let mut draft = Draft::new(first);
+        let said = self.head(&mut draft, first, line);
+        draft.faulty = said.is_err();
+        // A rule whose head is wrong is there all the same, or each of its lines would be called wrong, too.
+        self.draft = Some(draft);
+        said
+    }
+
+    /// The words of a rule's first line.
+    fn head(&mut self, draft: &mut Draft<'t>, first: Word<'t>, mut line: Line<'t>) -> Result<(), TextError> {
         if self.spec.rules.len() == RULES {
             return Err(first.error(format!("more than {RULES} rules")));
         }
         let head = line.take("the rule's name")?;
-        let mut draft = Draft::new(head, name(head)?);
+        draft.head = head;
+        draft.name = name(head)?;
         if self.names.rules.iter().any(|other| other.name == draft.name) {
-            return Err(head.error(format!("rule '{}' is declared twice", draft.name)));
+            return Err(head.error(format!("rule '{head}' is declared twice")));
         }
         if line.passes("utility") {
             draft.utility = utility(line.take("a utility")?)?;
@@ -27,9 +39,7 @@ impl<'t> Parser<'t> {
         if line.passes("variables") {
             draft.list_variables(&mut line)?;
         }
-        line.end()?;
-        self.draft = Some(draft);
-        Ok(())
+        line.end()
     }
 
     /// A line within a rule: a test, `==>` or an action.
@@ -44,7 +54,7 @@ impl<'t> Parser<'t> {
             ("+", true) => self.request(draft, first, buffer, line),
             ("-", true) => draft.clear(first, buffer, line),
             ("?", _) => Err(first.error("an image cannot hold a query: a buffer is tested with '='")),
-            _ => Err(first.error(format!("'{}' is an action, and stands after '==>'", first.text))),
+            _ => Err(first.error(format!("'{first}' is an action, and stands after '==>'"))),
         }
     }
 
@@ -68,8 +78,14 @@ impl<'t> Parser<'t> {
     /// `=BUFFER> SLOT TERM ..`, after `==>`.
     fn modify(&mut self, draft: &mut Draft<'t>, first: Word<'t>, buffer: u8, line: Line<'t>) -> Result<(), TextError> {
         let Some((_, test)) = draft.tests.iter().find(|(_, test)| test.buffer == buffer) else {
-            let message =
-                format!("rule '{}' does not test buffer '{}', so it cannot modify it", draft.name, buffer_of(first));
+            if draft.faulty {
+                return Ok(());
+            }
+            let message = format!(
+                "rule '{}' does not test buffer '{}', so it cannot modify it",
+                Shown(draft.name),
+                Shown(buffer_of(first))
+            );
             return Err(first.error(message));
         };
         if let Some(word) = line.peek().filter(|word| word.text == ISA) {
@@ -98,9 +114,9 @@ impl<'t> Parser<'t> {
         while let Some(word) = line.next() {
             let slot = self.slot_number(word, isa)?;
             if named.iter().any(|(other, _)| *other == slot) {
-                return Err(word.error(format!("slot '{}' is named twice", word.text)));
+                return Err(word.error(format!("slot '{word}' is named twice")));
             }
-            let value = line.take(&format!("the term of slot '{}'", word.text))?;
+            let value = line.take(&format!("the term of slot '{word}'"))?;
             let term = match value.text.strip_prefix('?') {
                 Some(_) => Term::Variable(draft.variable(value)?),
                 None => Term::Symbol(self.symbols.number(value)?),

@@ -1,6 +1,10 @@
 //! The words of a line, and what a word may be.
 
+use std::fmt;
+
 use crate::error::TextError;
+use crate::naming::name_fault;
+use crate::shown::Shown;
 
 /// A word and its place.
 #[derive(Clone, Copy, PartialEq, Eq, Debug)]
@@ -8,6 +12,13 @@ pub struct Word<'t> {
     pub text: &'t str,
     pub line: usize,
     pub column: usize,
+}
+
+/// As a message repeats it.
+impl fmt::Display for Word<'_> {
+    fn fmt(&self, f: &mut fmt::Formatter) -> fmt::Result {
+        Shown(self.text).fmt(f)
+    }
 }
 
 impl Word<'_> {
@@ -72,36 +83,20 @@ impl<'t> Line<'t> {
         if word.text == wanted {
             return Ok(());
         }
-        Err(word.error(format!("expected '{wanted}', found '{}'", word.text)))
+        Err(word.error(format!("expected '{wanted}', found '{word}'")))
     }
 
     /// No more words.
     pub fn end(&mut self) -> Result<(), TextError> {
         match self.next() {
             None => Ok(()),
-            Some(word) => Err(word.error(format!("expected the end of the line, found '{}'", word.text))),
+            Some(word) => Err(word.error(format!("expected the end of the line, found '{word}'"))),
         }
     }
 
     /// A fault after the last word.
     pub fn error_at_end(&self, message: impl Into<String>) -> TextError {
         TextError { line: self.number, column: self.end, message: message.into() }
-    }
-}
-
-/// Why a word cannot be a name, if it cannot.
-pub fn name_fault(name: &str) -> Option<String> {
-    if name.starts_with('?') {
-        return Some(format!("'{name}' is a variable, which stands only in rules"));
-    }
-    if let Some(rest) = name.strip_prefix('=') {
-        return Some(format!("'{name}' is no name: a variable is written '?{rest}'"));
-    }
-    let bad = |letter: &char| "()\"#;".contains(*letter) || letter.is_whitespace() || letter.is_control();
-    match name.chars().find(bad) {
-        Some(letter) => Some(format!("'{}' cannot stand in a name", letter.escape_debug())),
-        None if name.is_empty() => Some("a name has at least one character".into()),
-        None => None,
     }
 }
 
@@ -117,7 +112,7 @@ pub fn name<'t>(word: Word<'t>) -> Result<&'t str, TextError> {
 pub fn whole_number(word: Word, what: &str, highest: u16) -> Result<u16, TextError> {
     let digits = !word.text.is_empty() && word.text.bytes().all(|byte| byte.is_ascii_digit());
     let number = word.text.parse().ok().filter(|number: &u16| digits && *number <= highest);
-    number.ok_or_else(|| word.error(format!("{what} is a whole number from 0 to {highest}, not '{}'", word.text)))
+    number.ok_or_else(|| word.error(format!("{what} is a whole number from 0 to {highest}, not '{word}'")))
 }
 
 /// A utility with up to three decimals, as the image's field of thousandths.
@@ -125,7 +120,7 @@ pub fn utility(word: Word) -> Result<u16, TextError> {
     let thousandths = thousandths(word.text).filter(|value| (-32_768..=32_767).contains(value));
     thousandths.map(|value| value as u16).ok_or_else(|| {
         let wanted = "a utility is a number from -32.768 to 32.767 with at most three decimals";
-        word.error(format!("{wanted}, not '{}'", word.text))
+        word.error(format!("{wanted}, not '{word}'"))
     })
 }
 

@@ -1,0 +1,99 @@
+//! A run, how it ended, and what kept each rule from matching.
+
+use std::fmt::Write;
+
+use jirvuntsag_proved::{End, Number};
+use jirvuntsag_text::{Model, Names, CHUNK};
+
+use super::engine::{Buffer, State};
+use super::misses::first_miss;
+use super::steps_asked;
+use super::trace::Traced;
+use crate::arguments::Arguments;
+use crate::failure::Failure;
+use crate::files::{model_of_file, write_out};
+use crate::hints::hints;
+
+/// `explain`.
+pub fn explain(arguments: Arguments) -> Result<(), Failure> {
+    let steps = steps_asked(&arguments)?;
+    let held = model_of_file(&arguments.input, arguments.option("--names"))?;
+    let traced = Traced::new(&held.model, steps)?;
+    let text = format!(
+        "{}\n{}\n{}\n{}{}",
+        traced.text,
+        end(&traced),
+        buffers(&held.model, &traced.run.state),
+        rules(&held.model, &traced),
+        hints(&arguments.input, &held.lone).map(|hints| format!("\n{hints}")).unwrap_or_default()
+    );
+    write_out(text.as_bytes())
+}
+
+/// Why the run ended.
+fn end(traced: &Traced) -> String {
+    let clock = traced.run.state.clock;
+    let why = match traced.number {
+        Number::Ended(End::Done) => "the steps asked are made".into(),
+        Number::Ended(End::Halted) => "no rule matches, and nothing is on its way".into(),
+        other @ (Number::Ended(End::Stale | End::ClockFull) | Number::Refused(_)) => other.to_string(),
+    };
+    let steps = if traced.made == 1 { "step" } else { "steps" };
+    format!("The run ended by {} after {} {steps}, at {clock} ms: {why}.\n", traced.number.number(), traced.made)
+}
+
+/// What the buffers hold.
+fn buffers(model: &Model, state: &State) -> String {
+    let names = model.names();
+    let width = widest(names.buffers.iter());
+    let lines = names.buffers.iter().zip(&state.buffers).map(|(name, buffer)| {
+        let chunk = chunk(names, buffer);
+        format!("  {name:width$}  {chunk}\n")
+    });
+    format!("The buffers hold at the end:\n{}", lines.collect::<String>())
+}
+
+/// A chunk with its slots, and when it can be seen.
+fn chunk(names: &Names, buffer: &Buffer) -> String {
+    let isa = &names.types[usize::from(buffer.isa)];
+    let mut text = if buffer.isa == 0 { format!("{CHUNK} (empty)") } else { isa.name.clone() };
+    for (slot, &value) in isa.slots.iter().zip(&buffer.slots) {
+        // Writing to a string cannot fail.
+        let _ = write!(text, " {slot}={}", names.symbol(value));
+    }
+    if buffer.delay > 0 {
+        let _ = write!(text, ", which rules see in {} ms", buffer.delay);
+    }
+    text
+}
+
+/// How often each rule fired, and why it does not match.
+fn rules(model: &Model, traced: &Traced) -> String {
+    let names = model.names();
+    let width = widest(names.rules.iter().map(|rule| &rule.name));
+    let line = |number: usize| {
+        let name = &names.rules[number].name;
+        // Whether it matches is the word of the library's table, and only why not is found out here.
+        let now = match first_miss(&model.spec().rules[number].tests, &traced.run.state, names) {
+            _ if traced.run.matches(number) => "matches".into(),
+            Some(miss) => format!("does not match: {miss}"),
+            None => "does not match, by the library's table".into(),
+        };
+        format!("  {name:width$}  fired {}; {now}\n", times(traced.fired[number]))
+    };
+    format!("The rules, and how they stand at the end:\n{}", (0..names.rules.len()).map(line).collect::<String>())
+}
+
+/// `never`, `once`, `3 times`.
+fn times(count: u16) -> String {
+    match count {
+        0 => "never".into(),
+        1 => "once".into(),
+        count => format!("{count} times"),
+    }
+}
+
+/// The letters of the longest name.
+fn widest<'n>(names: impl Iterator<Item = &'n String>) -> usize {
+    names.map(|name| name.chars().count()).max().unwrap_or_default()
+}

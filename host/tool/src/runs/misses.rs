@@ -1,0 +1,37 @@
+//! Why a rule does not match.
+
+use std::collections::BTreeMap;
+
+use jirvuntsag_packing::{Term, TestSpec};
+use jirvuntsag_text::Names;
+
+use super::engine::State;
+
+/// The first of a rule's tests that does not hold in a state, in words; nothing if all hold.
+pub fn first_miss(tests: &[TestSpec], state: &State, names: &Names) -> Option<String> {
+    let mut values = BTreeMap::new();
+    tests.iter().find_map(|test| miss(test, state, names, &mut values))
+}
+
+/// Why one test does not hold; the values of variables are those of their first places.
+fn miss(test: &TestSpec, state: &State, names: &Names, values: &mut BTreeMap<u16, u16>) -> Option<String> {
+    let held = &state.buffers[usize::from(test.buffer)];
+    let buffer = &names.buffers[usize::from(test.buffer)];
+    let isa = |number: usize| &names.types[number].name;
+    if held.delay > 0 {
+        return Some(format!("{buffer} is pending for another {} ms", held.delay));
+    }
+    if held.isa != u16::from(test.isa) {
+        return Some(format!("{buffer} holds {}, not {}", isa(held.isa.into()), isa(test.isa.into())));
+    }
+    test.pattern.named().find_map(|(slot, term)| {
+        let found = held.slots[slot];
+        let wanted = match term {
+            Term::Symbol(number) => number,
+            Term::Variable(number) => *values.entry(number).or_insert(found),
+        };
+        let slot = &names.types[usize::from(test.isa)].slots[slot];
+        (found != wanted)
+            .then(|| format!("{slot} of {buffer} is {}, not {}", names.symbol(found), names.symbol(wanted)))
+    })
+}

@@ -1,0 +1,145 @@
+//! One command for a text: its trace, how the run ended, what the buffers hold, and why rules do not match.
+
+use std::path::{Path, PathBuf};
+use std::process::{Command, Output};
+
+use jirvuntsag_text::Model;
+
+fn examples() -> PathBuf {
+    Path::new(env!("CARGO_MANIFEST_DIR")).join("../../examples")
+}
+
+/// Calls a subcommand in the folder of the examples.
+fn call(arguments: &[&str]) -> Output {
+    let mut command = Command::new(env!("CARGO_BIN_EXE_jirvuntsag-tool"));
+    command.args(arguments).current_dir(examples()).output().expect("the command")
+}
+
+/// What it prints.
+fn printed(arguments: &[&str]) -> String {
+    let output = call(arguments);
+    assert!(output.status.success(), "{}", String::from_utf8_lossy(&output.stderr));
+    String::from_utf8(output.stdout).expect("text")
+}
+
+/// A text in a file of its own.
+fn file(name: &str, text: &str) -> String {
+    let path = Path::new(env!("CARGO_TARGET_TMPDIR")).join(name);
+    std::fs::write(&path, text).expect("the text");
+    path.to_string_lossy().into_owned()
+}
+
+/// What `explain` prints after the trace.
+fn explained(arguments: &[&str]) -> String {
+    let told = printed(&[&["explain"], arguments].concat());
+    let trace = printed(&[&["trace"], arguments].concat());
+    told.strip_prefix(&format!("{trace}\n")).expect("the trace comes first").into()
+}
+
+#[test]
+fn a_run_that_halts() {
+    let wanted = "The run ended by 9 after 7 steps, at 550 ms: no rule matches, and nothing is on its way.
+
+The buffers hold at the end:
+  goal       chunk (empty)
+  retrieval  chunk (empty)
+
+The rules, and how they stand at the end:
+  start  fired once; does not match: goal holds chunk, not count
+  go-on  fired 2 times; does not match: goal holds chunk, not count
+  stop   fired once; does not match: goal holds chunk, not count
+";
+    assert_eq!(explained(&["counting.model"]), wanted);
+    assert_eq!(explained(&["counting.image", "--names", "counting.names.json"]), wanted);
+}
+
+#[test]
+fn a_run_that_is_cut() {
+    let wanted = "The run ended by 0 after 1 step, at 50 ms: the steps asked are made.
+
+The buffers hold at the end:
+  goal       count current=1 target=3
+  retrieval  follows first=1 second=2, which rules see in 100 ms
+
+The rules, and how they stand at the end:
+  start  fired once; does not match: retrieval is pending for another 100 ms
+  go-on  fired never; does not match: retrieval is pending for another 100 ms
+  stop   fired never; does not match: target of goal is 3, not 1
+";
+    assert_eq!(explained(&["counting.model", "--steps", "1"]), wanted);
+}
+
+#[test]
+fn a_rule_that_matches_and_a_symbol_that_is_mistyped() {
+    let text = "type t state
+buffer goal t state strat
+rule go
+  =goal> t state start
+  ==>
+  =goal> state start
+rule any
+  =goal> t
+  ==>
+";
+    let path = file("mistyped.model", text);
+    let told = explained(&[&path, "--steps", "0"]);
+    let wanted = format!(
+        "The rules, and how they stand at the end:
+  go   fired never; does not match: state of goal is strat, not start
+  any  fired never; matches
+
+Symbols that stand in one place only, which is right or mistyped:
+  {path}:2:21: 'strat'; is it 'start'?
+"
+    );
+    assert!(told.ends_with(&wanted), "{told}");
+}
+
+/// A rule is said not to match exactly where a test of it does not hold: on every example, after each number of steps.
+#[test]
+fn every_rule_is_explained() {
+    for name in ["addition", "count-chr", "count-rule", "counting", "parents", "rule-order", "successor"] {
+        let path = format!("{name}.model");
+        let text = std::fs::read_to_string(examples().join(&path)).expect("the text");
+        let rules = Model::from_text(&text).expect("a model").spec().rules.len();
+        for steps in 0..8 {
+            let told = explained(&[&path, "--steps", &steps.to_string()]);
+            let lines: Vec<&str> = told.lines().filter(|line| line.contains("  fired ")).collect();
+            let kinds = lines.iter().filter(|line| line.ends_with("; matches") || line.contains("; does not match: "));
+            assert_eq!((lines.len(), kinds.count()), (rules, rules), "{told}");
+            // Rules that match are those of which one fires next.
+            let goes_on = printed(&["trace", &path, "--steps", &(steps + 1).to_string()]);
+            let fires = |trace: &str| trace.matches("PRODUCTION-FIRED").count();
+            let before = fires(&printed(&["trace", &path, "--steps", &steps.to_string()]));
+            let matching = lines.iter().any(|line| line.ends_with("; matches"));
+            assert_eq!(matching, fires(&goes_on) > before, "{told}");
+        }
+    }
+}
+
+#[test]
+fn all_faults_come_first() {
+    let path = file("faults.model", "type\nchunk-type t\nbuffer\n");
+    let output = call(&["explain", &path]);
+    let said = String::from_utf8(output.stderr).expect("text");
+    assert!(output.status.code() == Some(1) && output.stdout.is_empty());
+    assert_eq!(said.lines().count(), 3, "{said}");
+    assert!(said.contains(":2:1: 'chunk-type' is ACT-R's: write 'type NAME SLOT ..'\n"), "{said}");
+}
+
+/// The example of docs/MODELS.md is explained as the page prints it.
+#[test]
+fn the_example_of_the_page() {
+    let page = Path::new(env!("CARGO_MANIFEST_DIR")).join("../../docs/MODELS.md");
+    let page = std::fs::read_to_string(page).expect("the page");
+    let block = |mark: &str| {
+        let (_, rest) = page.split_once(&format!("\n```{mark}\n")).expect("the block");
+        rest.split_once("```").expect("its end").0.to_owned()
+    };
+    assert_eq!(explained(&[&file("page.model", &block("model"))]), block("explain"));
+    let text = block("model").replace("buffer goal count-from start 2", "buffer goal count-from start strat");
+    let text = text.replace("fact count-order first 2 second 3", "fact count-order first start second start");
+    let told = explained(&[&file("count.model", &text)]);
+    let hint = page.split('`').find(|code| code.ends_with("'strat'; is it 'start'?")).expect("a hint");
+    assert!(told.contains(&format!("/{hint}\n")), "{told}");
+}
