@@ -36,6 +36,7 @@ from .names import BadNames, Names
 from .refusals import MEANINGS, Refused
 from .run import Run
 from .states import Buffer
+from .symbols import symbol
 
 __all__ = [
     "BadNames",
@@ -50,5 +51,6 @@ __all__ = [
     "NoLibrary",
     "Refused",
     "Run",
+    "symbol",
     "timeline",
 ]

@@ -47,7 +47,7 @@ class Model:
 
         >>> run = Model.load("examples/counting.image").open()
         >>> run.clock, str(run.buffers[0])
-        (0, '2 0=1 1=3')
+        (0, '2 0=#1 1=#3')
         """
         return Run(self, self._opened.state, self._opened.table)
 

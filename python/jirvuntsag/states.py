@@ -8,6 +8,7 @@ from collections.abc import Mapping
 from typing import Dict, NamedTuple, Union
 
 from .calls import STATE_WORDS, small_number
+from .wording import shown
 
 BUFFER_WORDS = 10
 MOST_SLOTS = 8
@@ -93,8 +94,14 @@ def buffer_words(buffer, vocabulary):
 
 def state_from(words, vocabulary):
     """A well-formed state as plain data."""
-    buffers = {name: buffer_from(words, number, vocabulary)._asdict() for number, name in enumerate(vocabulary.buffers)}
-    return {"clock": words[0], "buffers": buffers}
+    return {"clock": words[0], "buffers": {name: _plain(words, number, vocabulary) for number, name in enumerate(vocabulary.buffers)}}
+
+
+def _plain(words, number, vocabulary):
+    """A buffer as plain data: a symbol without a name is written so that it is the same symbol when it is read again."""
+    isa, *slots, delay = words[place(number)]
+    named = {slot: vocabulary.symbols.plain(value) for slot, value in zip(vocabulary.slots[isa], slots)}
+    return {"type": vocabulary.types.name(isa), "slots": named, "delay": delay}
 
 
 def state_words(state, vocabulary):
@@ -105,7 +112,7 @@ def state_words(state, vocabulary):
     if not isinstance(state["buffers"], dict):
         raise TypeError(f"the buffers of a state are given as a dict, not as {type(state['buffers']).__name__}")
     for name, members in state["buffers"].items():
-        _check_members(members, f"buffer {name!r}", {"type"}, {"type", "slots", "delay"})
+        _check_members(members, f"buffer '{shown(name)}'", {"type"}, {"type", "slots", "delay"})
         buffer = Buffer(members["type"], members.get("slots", {}), members.get("delay", 0))
         words[place(vocabulary.buffers.number(name))] = buffer_words(buffer, vocabulary)
     return words
@@ -127,4 +134,4 @@ def _check_members(members, what, needed, known):
         raise ValueError(f"{what} lacks '{name}'")
     for name in members:
         if name not in known:
-            raise ValueError(f"{what} has no '{name}'; it has {', '.join(sorted(known))}")
+            raise ValueError(f"{what} has no '{shown(name)}'; it has {', '.join(sorted(known))}")

@@ -99,7 +99,7 @@ class BadStates(unittest.TestCase):
         self.refused(ValueError, "no type is named 'counts'; is it 'count'", "goal", "counts")
         self.refused(ValueError, "no slot of count is named 'curent'; is it 'current'", "goal", "count", {"curent": 1})
         self.refused(ValueError, "no symbol is named 'seven'", "goal", "count", {"current": "seven"})
-        self.refused(ValueError, "there is no symbol 4096", "goal", "count", {"current": 4096})
+        self.refused(ValueError, "no symbol is named '4096'$", "goal", "count", {"current": 4096})
 
     def test_things_of_another_type(self):
         self.refused(TypeError, "a buffer is given by its name or number", None, "count")

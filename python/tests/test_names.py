@@ -5,7 +5,7 @@ import pathlib
 import tempfile
 import unittest
 
-from jirvuntsag import BadNames, Model, Names
+from jirvuntsag import BadNames, Model, Names, symbol
 
 from . import COUNTING, COUNTING_NAMES
 
@@ -31,9 +31,9 @@ class NamesFiles(unittest.TestCase):
     def test_symbols_without_a_name_keep_their_numbers(self):
         self.good["symbols"] = {"0": "nil", "1": "one"}
         run = Model(self.image, Names.parse(json.dumps(self.good))).open()
-        self.assertEqual(run.buffers["goal"].slots, {"current": "one", "target": 3})
-        run.put("goal", "count", {"current": 3, "target": "one"})
-        self.assertEqual(run.buffers["goal"].slots, {"current": 3, "target": "one"})
+        self.assertEqual(run.buffers["goal"].slots, {"current": "one", "target": symbol(3)})
+        run.put("goal", "count", {"current": symbol(3), "target": "one"})
+        self.assertEqual(run.buffers["goal"].slots, {"current": symbol(3), "target": "one"})
 
     def test_members_that_are_missing(self):
         for member in "buffers", "types", "symbols", "rules":
