@@ -27,30 +27,37 @@ retrieval is pending for another 100 ms
 What is refused is raised as `Refused`, with its number and what that means; what Python can tell by itself as ValueError or
 TypeError. Nothing is altered by a call that raises, but for the steps that a run has made before it is refused.
 """
-from .calls import NoLibrary
 from .drawing.timeline import timeline
 from .events import Ended, Event
+from .libraries import NoLibrary
 from .matches import Match, Miss
 from .model import Model
 from .names import BadNames, Names
+from .packer import NotPacked
 from .refusals import MEANINGS, Refused
+from .rules import Fact, Rule
 from .run import Run
 from .states import Buffer
 from .symbols import symbol
+from .version import VERSION as __version__
 
 __all__ = [
     "BadNames",
     "Buffer",
     "Ended",
     "Event",
+    "Fact",
     "MEANINGS",
     "Match",
     "Miss",
     "Model",
     "Names",
     "NoLibrary",
+    "NotPacked",
     "Refused",
+    "Rule",
     "Run",
+    "__version__",
     "symbol",
     "timeline",
 ]

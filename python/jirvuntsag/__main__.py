@@ -1,4 +1,4 @@
-"""Commands: `python3 -m jirvuntsag timeline MODEL.image` writes a picture of a run."""
+"""Commands: `python3 -m jirvuntsag timeline MODEL` writes a picture of a run."""
 import argparse
 import os
 import pathlib
@@ -10,7 +10,10 @@ from .calls import MOST_STEPS
 from .drawing.timeline import NARROWEST, WIDEST, timeline
 from .model import Model
 from .refusals import Refused
+from .version import VERSION
+from .wording import shown
 
+PROGRAM = "python3 -m jirvuntsag"
 TIMELINE = """\
 Runs a model from its opening and writes a timeline as SVG: the steps, and what each buffer holds, against the clock.
 Hatched bars are pending. Every bar says all that it stands for where a pointer rests on it."""
@@ -25,18 +28,19 @@ def _number(least, most):
 
     def read(text):
         if not (re.fullmatch("[0-9]{1,9}", text) and least <= int(text) <= most):
-            raise argparse.ArgumentTypeError(f"'{text}' is not a number from {least} to {most}")
+            raise argparse.ArgumentTypeError(f"'{shown(text)}' is not a number from {least} to {most}")
         return int(text)
 
     return read
 
 
 def _parser():
-    parser = argparse.ArgumentParser(prog="jirvuntsag", description="Commands on packed models.")
+    parser = argparse.ArgumentParser(prog=PROGRAM, description="Commands on models, texts or packed images.")
+    parser.add_argument("--version", action="version", version=f"jirvuntsag for Python {VERSION}")
     commands = parser.add_subparsers(required=True, metavar="COMMAND")
     command = commands.add_parser("timeline", help="write a picture of a run as SVG", description=TIMELINE)
-    command.add_argument("model", metavar="MODEL.image", help="the packed image")
-    command.add_argument("--names", metavar="FILE", help="the names file of the model; without it everything goes by its number")
+    command.add_argument("model", metavar="MODEL", help="a text, or a packed image")
+    command.add_argument("--names", metavar="FILE", help="the names file of an image; without it everything goes by its number")
     command.add_argument("-o", "--output", metavar="FILE.svg", help="where to write; standard output if it is not given")
     steps, width = _number(0, MOST_STEPS), _number(NARROWEST, 20_000)
     command.add_argument("--steps", metavar="N", type=steps, default=1000, help="the most steps to make, 0 to 65535 (1000)")
@@ -49,9 +53,9 @@ def _load(model, names):
     try:
         return Model.load(model, names)
     except Refused as refused:
-        raise Failure(f"{model}: {refused}") from refused
+        raise Failure(f"{shown(model)}: {refused}") from refused
     except OSError as error:
-        raise Failure(f"{error.filename}: {error.strerror}" if error.filename else str(error)) from error
+        raise Failure(f"{shown(error.filename)}: {error.strerror}" if error.filename else str(error)) from error
     except ValueError as error:
         raise Failure(str(error)) from error
 
@@ -59,7 +63,7 @@ def _load(model, names):
 def _write(text, path):
     """Writes a file whole or not at all: beside its place first, and then there."""
     if path.exists() and not path.is_file():
-        raise Failure(f"{path}: not a file that can be replaced")
+        raise Failure(f"{shown(path)}: not a file that can be replaced")
     handle, beside = tempfile.mkstemp(dir=path.parent, prefix=f".{path.name}.")
     try:
         with open(handle, "w", encoding="utf-8", newline="\n") as file:
@@ -91,7 +95,7 @@ def _draw(arguments):
         else:
             _write(svg, pathlib.Path(arguments.output))
     except OSError as error:
-        raise Failure(f"{arguments.output or 'standard output'}: {error.strerror}") from error
+        raise Failure(f"{shown(arguments.output or 'standard output')}: {error.strerror}") from error
 
 
 def main(arguments=None):
@@ -99,7 +103,7 @@ def main(arguments=None):
     try:
         _draw(_parser().parse_args(arguments))
     except Failure as failure:
-        print(f"jirvuntsag: {failure}", file=sys.stderr)
+        print(f"{PROGRAM}: {failure}", file=sys.stderr)
         return 2
     return 0
 

@@ -81,15 +81,20 @@ class Buffers(Mapping):
         return "{" + ", ".join(f"{name}: {buffer}" for name, buffer in self.items()) + "}"
 
 
-def buffer_words(buffer, vocabulary):
-    """The ten words of a buffer. A slot that is not named holds nil."""
-    isa = vocabulary.types.number(buffer.type)
+def chunk_words(type_name, slots, vocabulary):
+    """The nine words of a chunk, its type and eight slots. A slot that is not named holds nil."""
+    isa = vocabulary.types.number(type_name)
     values = [0] * MOST_SLOTS
-    if not isinstance(buffer.slots, dict):
-        raise TypeError(f"slots are given as a dict, not as {type(buffer.slots).__name__}")
-    for slot, value in buffer.slots.items():
+    if not isinstance(slots, dict):
+        raise TypeError(f"slots are given as a dict, not as {type(slots).__name__}")
+    for slot, value in slots.items():
         values[vocabulary.slots[isa].number(slot)] = vocabulary.symbols.number(value)
-    return array("I", [isa, *values, small_number(buffer.delay, "a delay")])
+    return isa, *values
+
+
+def buffer_words(buffer, vocabulary):
+    """The ten words of a buffer."""
+    return array("I", [*chunk_words(buffer.type, buffer.slots, vocabulary), small_number(buffer.delay, "a delay")])
 
 
 def state_from(words, vocabulary):
@@ -112,10 +117,18 @@ def state_words(state, vocabulary):
     if not isinstance(state["buffers"], dict):
         raise TypeError(f"the buffers of a state are given as a dict, not as {type(state['buffers']).__name__}")
     for name, members in state["buffers"].items():
-        _check_members(members, f"buffer '{shown(name)}'", {"type"}, {"type", "slots", "delay"})
-        buffer = Buffer(members["type"], members.get("slots", {}), members.get("delay", 0))
-        words[place(vocabulary.buffers.number(name))] = buffer_words(buffer, vocabulary)
+        words[place(vocabulary.buffers.number(name))] = buffer_words(buffer_of(name, members), vocabulary)
     return words
+
+
+def buffer_of(name, members):
+    """What is said of a buffer: a `Buffer`, plain data, or None for nil."""
+    if members is None:
+        return Buffer(0, {})
+    if isinstance(members, Buffer):
+        return members
+    _check_members(members, f"buffer '{shown(name)}'", {"type"}, {"type", "slots", "delay"})
+    return Buffer(members["type"], members.get("slots", {}), members.get("delay", 0))
 
 
 def clock_of(clock):
