@@ -28,6 +28,7 @@ What is refused is raised as `Refused`, with its number and what that means; wha
 TypeError. Nothing is altered by a call that raises, but for the steps that a run has made before it is refused.
 """
 from .drawing.timeline import timeline
+from .equations import base_level, failure_latency, latency, latency_factor, level, spread, strength
 from .events import Ended, Event
 from .libraries import NoLibrary
 from .matches import Match, Miss
@@ -36,8 +37,10 @@ from .names import BadNames, Names
 from .packer import NotPacked
 from .refusals import MEANINGS, Refused
 from .rules import Fact, Rule
+from .rows import Row
 from .run import Run
 from .states import Buffer
+from .sweeping import SweepFailed, sweep
 from .symbols import symbol
 from .version import VERSION as __version__
 
@@ -55,9 +58,19 @@ __all__ = [
     "NoLibrary",
     "NotPacked",
     "Refused",
+    "Row",
     "Rule",
     "Run",
+    "SweepFailed",
     "__version__",
+    "base_level",
+    "failure_latency",
+    "latency",
+    "latency_factor",
+    "level",
+    "spread",
+    "strength",
+    "sweep",
     "symbol",
     "timeline",
 ]

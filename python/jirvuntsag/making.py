@@ -1,8 +1,8 @@
 """New models: with other facts, utilities or openings than another, and from nothing. The packer makes every image."""
 from .calls import small_number
-from .packer import NotPacked, pack_fields, pack_text
+from .packer import NotPacked, pack_text
 from .rules import Fact, Rule, decimal
-from .shape import Chunk, FactShape, fields_of
+from .shape import Chunk, FactShape
 from .states import Buffer, buffer_of, chunk_words
 from .symbols import Symbol
 from .wording import shown
@@ -12,7 +12,7 @@ UTILITIES = range(-32_768, 32_768)
 
 
 def replaced(shape, vocabulary, changes):
-    """The image of a model with changes: `facts`, `opening`, `utilities`, `failure`, each None if it stays."""
+    """The shape of a model with changes: `facts`, `opening`, `utilities`, `failure`, each None if it stays."""
     if changes["facts"] is not None:
         shape = shape._replace(facts=_facts(changes["facts"], vocabulary))
     if changes["opening"] is not None:
@@ -21,7 +21,7 @@ def replaced(shape, vocabulary, changes):
         shape = shape._replace(rules=_rules(shape.rules, changes["utilities"], vocabulary))
     if changes["failure"] is not None:
         shape = shape._replace(failure=small_number(changes["failure"], "a failure latency"))
-    return pack_fields(fields_of(shape))
+    return shape
 
 
 def _facts(facts, vocabulary):

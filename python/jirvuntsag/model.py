@@ -1,15 +1,16 @@
 """A model: an image that the library has accepted, with its names."""
+import copy
 import pathlib
 
 from . import calls
 from .libraries import NoLibrary
 from .making import built, replaced
 from .names import Names
-from .packer import LARGEST_TEXT, NotPacked, pack_text
+from .packer import LARGEST_TEXT, NotPacked, pack_fields, pack_text
 from .refusals import Refused
 from .rules import fact_from, rule_from
 from .run import Run
-from .shape import shape_of
+from .shape import fields_of, shape_of
 from .states import Buffers, state_words
 from .vocabulary import Vocabulary
 from .wording import shown
@@ -29,14 +30,10 @@ class Model:
     def __init__(self, image, names=None):
         if names is not None and not isinstance(names, Names):
             raise TypeError(f"names must be a Names, not {type(names).__name__}: see Model.load for a names file")
-        zeros = [0] * calls.table_length(image)
-        opened = calls.open_image(image, zeros)
-        if opened.number:
-            raise Refused(opened.number)
+        self._opened = _opened(image)
         self.image, self.names = bytes(image), names
         self.shape = shape_of(self.image)
         self.vocabulary = Vocabulary(self.shape, names)
-        self._opened = opened
 
     @classmethod
     def load(cls, path, names=None):
@@ -96,7 +93,17 @@ class Model:
         count current=2 target=3
         """
         changes = {"facts": facts, "opening": opening, "utilities": utilities, "failure": failure}
-        return Model(replaced(self.shape, self.vocabulary, changes), self.names)
+        # types, rules and buffers are as many as before, so that all are called as before
+        new = copy.copy(self)
+        new.shape = replaced(self.shape, self.vocabulary, changes)
+        new.image = pack_fields(fields_of(new.shape))
+        new._opened = _opened(new.image)
+        return new
+
+    def __copy__(self):
+        new = Model.__new__(Model)
+        new.__dict__.update(self.__dict__)
+        return new
 
     def __reduce__(self):
         """How a model is kept by `copy` and `pickle`: all else is made from these two."""
@@ -126,6 +133,11 @@ class Model:
         if refreshed.number:
             raise Refused(refreshed.number)
         return Run(self, words, refreshed.table)
+
+    @property
+    def start(self):
+        """The words that a run begins with, one and the same array each time: it must not be written to."""
+        return self._opened.state
 
     @property
     def buffers(self):
@@ -183,6 +195,14 @@ class Model:
         things = [(shape.buffers, "buffer", ""), (len(shape.slots) - 1, "type", " besides chunk")]
         things += [(len(shape.facts), "fact", ""), (len(shape.rules), "rule", "")]
         return f"<Model of {len(self.image):,} bytes: {', '.join(_counted(*thing) for thing in things)}>"
+
+
+def _opened(image):
+    """The opening state and table of an image."""
+    opened = calls.open_image(image, [0] * calls.table_length(image))
+    if opened.number:
+        raise Refused(opened.number)
+    return opened
 
 
 def _counted(count, what, more):

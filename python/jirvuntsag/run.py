@@ -83,6 +83,11 @@ class Run:
         return tuple(self._kept[0])
 
     @property
+    def start(self):
+        """The words that a run from here begins with: an array that must not be written to."""
+        return self._kept[0]
+
+    @property
     def state(self):
         """The state as plain data. What it is set to becomes the state, and the table is made to fit it.
 

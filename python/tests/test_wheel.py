@@ -20,6 +20,7 @@ assert "site-packages" in str(here), here
 print(jv.__version__)
 model = jv.Model.load("counting.model")
 print(*model.open().run().events, sep="; ")
+print(len(jv.sweep([model.replace(failure=ms) for ms in range(50)])))
 """
 
 
@@ -71,6 +72,7 @@ class Wheel(unittest.TestCase):
         lines = self.run_(python, "-c", PROGRAM, cwd=place).splitlines()
         self.assertEqual(lines[0], VERSION)
         self.assertEqual(lines[1].split("; ")[-1], "550 wait 150")
+        self.assertEqual(lines[2], "50")
         self.run_(python, "-m", "jirvuntsag", "timeline", "counting.model", "-o", "run.svg", cwd=place)
         self.assertIn("go-on", (place / "run.svg").read_text(encoding="utf-8"))
 
