@@ -30,6 +30,7 @@ TypeError. Nothing is altered by a call that raises, but for the steps that a ru
 from .drawing.timeline import timeline
 from .equations import base_level, failure_latency, latency, latency_factor, level, spread, strength
 from .events import Ended, Event
+from .explaining import explain
 from .libraries import NoLibrary
 from .matches import Match, Miss
 from .model import Model
@@ -64,6 +65,7 @@ __all__ = [
     "SweepFailed",
     "__version__",
     "base_level",
+    "explain",
     "failure_latency",
     "latency",
     "latency_factor",

@@ -3,15 +3,15 @@
 LONGEST = 60
 
 
-def shown(text):
+def shown(text, longest=LONGEST):
     """A text to be repeated: what cannot be printed is escaped, and a long one is cut.
 
     >>> print(shown("gaol"), shown("a\\x1b[2Jb"), shown("x" * 1_000_000))
     gaol a\\x1b[2Jb xxxxxxxxxxxxxxxxxxxxxxxxxxxxxxxxxxxxxxxxxxxxxxxxxxxxxxxxxxxx.. (1,000,000 characters)
     """
     text = text if isinstance(text, str) else str(text)
-    start = "".join(_plain(character) for character in text[:LONGEST])
-    return start if len(text) <= LONGEST else f"{start}.. ({len(text):,} characters)"
+    start = "".join(_plain(character) for character in text[:longest])
+    return start if len(text) <= longest else f"{start}.. ({len(text):,} characters)"
 
 
 def clean_lines(text):
