@@ -63,19 +63,19 @@ def _flags(model, events):
     return bytes(flags)
 
 
-def make_and_run(make, items, steps, events):
-    """Makes each item's model and runs it: the models, what the packer gave, and what failed."""
-    made, failed = [], {}
+def make_and_run(make, items, steps, events, stop=None):
+    """Makes each item's model and runs it, until it is stopped: the models, what the packer gave, and what failed."""
+    made, failed = {}, {}
     for at, item in enumerate(items):
+        if stop is not None and stop.value:
+            break
         try:
-            made.append(make(item))
+            made[at] = make(item)
         except Exception as error:  # whatever goes wrong with an item, the others are run
-            made.append(None)
             failed[at] = _sendable(error)
-    batch = Batch([item for at, item in enumerate(made) if at not in failed], steps, events)
-    places = [at for at in range(len(items)) if at not in failed]
+    batch, places = Batch(made.values(), steps, events), list(made)
     failed.update({places[at]: _sendable(error) for at, error in batch.failed.items()})
-    return batch.models, run_all(batch.runs), failed
+    return batch.models, run_all(batch.runs, stop), failed
 
 
 def _sendable(error):

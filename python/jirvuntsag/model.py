@@ -51,7 +51,7 @@ class Model:
         try:
             return cls.from_text(content.decode("utf-8", "surrogateescape"))
         except NotPacked as error:
-            raise NotPacked("\n".join(f"{shown(path)}:{line}" for line in str(error).split("\n"))) from None
+            raise NotPacked("\n".join(_in_file(path, line) for line in str(error).split("\n"))) from None
         except NoLibrary as error:
             raise NoLibrary(f"{shown(path)} is a text, and without the packer only images are taken: {error}") from error
 
@@ -195,6 +195,11 @@ class Model:
         things = [(shape.buffers, "buffer", ""), (len(shape.slots) - 1, "type", " besides chunk")]
         things += [(len(shape.facts), "fact", ""), (len(shape.rules), "rule", "")]
         return f"<Model of {len(self.image):,} bytes: {', '.join(_counted(*thing) for thing in things)}>"
+
+
+def _in_file(path, told):
+    """A fault with the file that it lies in; most begin with a line and a column."""
+    return f"{shown(path)}:{'' if told[:1].isdigit() else ' '}{told.lstrip()}"
 
 
 def _opened(image):

@@ -28,7 +28,7 @@ class _Batch(ctypes.Structure):
         ("jobs", _WORDS), ("jobs_len", _SIZE),
         ("states", _WORDS), ("states_len", _SIZE),
         ("keep", _BYTES), ("keep_len", _SIZE),
-        ("steps", ctypes.c_uint16),
+        ("steps", ctypes.c_uint16), ("stop", ctypes.POINTER(ctypes.c_uint8)),
     ]  # fmt: skip
 
 
@@ -114,8 +114,11 @@ def pack_fields(fields):
     return image
 
 
-def run_all(runs):
-    """Makes runs: 84 words for each, its number, the steps made, the events kept and the state; three words for each event."""
+def run_all(runs, stop=None):
+    """Makes runs: 84 words for each, its number, the steps made, the events kept and the state; three words for each event.
+
+    Where another thread makes the value of `stop`, a byte of ctypes, 1, no further run is begun, and there are fewer words.
+    """
     ends, at = array("I"), 0
     for image in runs.images:
         at += len(image)
@@ -124,5 +127,5 @@ def run_all(runs):
     lent = [(ctypes.c_uint32 * len(words)).from_buffer(words) if words else None for words in (ends, runs.jobs, runs.states)]
     sizes = [len(words) for words in (ends, runs.jobs, runs.states)]
     pairs = [value for pair in zip(lent, sizes) for value in pair]
-    batch = _Batch(images, len(images), *pairs, runs.keep, len(runs.keep), runs.steps)
+    batch = _Batch(images, len(images), *pairs, runs.keep, len(runs.keep), runs.steps, None if stop is None else ctypes.pointer(stop))
     return [array("I", part) for part in _parts(_packer().jirvuntsag_packer_runs(ctypes.byref(batch)), 2)]

@@ -79,6 +79,10 @@ class Row:
         buffers = {str(name): str(buffer) for name, buffer in self.buffers.items()}
         return {"number": self.number, "made": self.made, "clock": self.clock, **buffers}
 
+    def __reduce__(self):
+        """How a row is kept by `pickle`: with its own words alone."""
+        return Row, (self.item, self.model, self._words[self._at : self._at + ROW_WORDS], 0, self._events)
+
     def __repr__(self):
         return f"<Row end {self.number} {self.made} at {self.clock} ms: {self.buffers!r}>"
 

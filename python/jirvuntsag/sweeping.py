@@ -1,5 +1,6 @@
 """Many runs at once, on all cores or on whatever an executor has."""
 import concurrent.futures
+import ctypes
 import os
 
 from .batches import Batch, make_and_run
@@ -57,6 +58,7 @@ def sweep(items, make=None, *, steps=MOST_STEPS, events=False, executor=None, wo
             work.run(executor, workers or os.cpu_count() or 1, report)
         else:
             workers = workers or cores()
+            work.stop = ctypes.c_uint8(0)
             with concurrent.futures.ThreadPoolExecutor(workers) as threads:
                 work.run(threads, workers, report)
     except BaseException as error:
@@ -83,6 +85,8 @@ class Work:
         if make is not None and not callable(make):
             raise TypeError(f"make is a function from an item to a Model, not a {type(make).__name__}")
         self.items, self.make, self.steps, self.events, self.rows, self.errors = items, make, steps, events, rows, {}
+        # a byte that threads of this process look at between two runs; nothing can be shared so with other executors
+        self.stop = None
         rows.extend([None] * (len(items) - len(rows)))
 
     def run(self, executor, workers, report):
@@ -104,10 +108,11 @@ class Work:
     def _hand_out(self, executor, places):
         """Gives a batch to the executor."""
         items = [self.items[at] for at in places]
+        stop = [] if self.stop is None else [self.stop]
         if self.make is not None:
-            return places, None, executor.submit(make_and_run, self.make, items, self.steps, self.events)
+            return places, None, executor.submit(make_and_run, self.make, items, self.steps, self.events, *stop)
         batch = Batch(items, self.steps, self.events)
-        return places, batch, executor.submit(run_all, batch.runs)
+        return places, batch, executor.submit(run_all, batch.runs, *stop)
 
     def _take_in(self, places, batch, future):
         """Waits for a batch and keeps its rows. A worker that fails fails its own batch alone."""
@@ -123,6 +128,8 @@ class Work:
 
     def _save(self, handed):
         """Takes in what is done or cannot be stopped, and cancels the rest."""
+        if self.stop is not None:
+            self.stop.value = 1
         going_on = [one for one in handed if one[2].done() or not one[2].cancel()]
         for places, batch, future in going_on:
             if self.rows[places[-1]] is None:

@@ -1,18 +1,21 @@
 """Sweeps: rows in the order given, on threads, processes and Dask, and nothing lost that was done."""
 import concurrent.futures
 import contextlib
+import ctypes
 import io
 import os
 import pathlib
+import pickle
 import signal
 import subprocess
 import sys
 import tempfile
 import time
 import unittest
+from array import array
 
 import jirvuntsag as jv
-from jirvuntsag import bench
+from jirvuntsag import bench, packer
 from jirvuntsag.sweeping import LARGEST_BATCH
 
 from . import EXAMPLES, ROOT
@@ -79,6 +82,12 @@ class Rows(unittest.TestCase):
         (row,) = jv.sweep([jv.Model(FOREVER)], events=True)
         self.assertEqual([event.clock for event in row.events], [50 * (at + 1) for at in range(65_535)])
 
+    def test_rows_can_be_kept_by_pickle(self):
+        rows = jv.sweep([MODEL, ADDITION] * 200, events=True)
+        again = pickle.loads(pickle.dumps(rows[7]))
+        self.assertEqual((again.as_dict(), again.events), (rows[7].as_dict(), rows[7].events))
+        self.assertLess(len(pickle.dumps(rows[7])), 5_000)
+
     def test_nothing_to_do(self):
         self.assertEqual(jv.sweep([]), [])
 
@@ -141,6 +150,26 @@ class Failures(unittest.TestCase):
         done, total = map(int, said.split())
         self.assertTrue(0 < done < total, said)
 
+    def test_an_interrupt_does_not_wait_for_a_whole_batch(self):
+        """Each batch is 256 runs of 65,535 steps; those that were begun are ended, and no others."""
+        flag, model = ctypes.c_uint8(0), jv.Model(FOREVER)
+        runs = packer.Runs([FOREVER], array("I", [0] * 100_000), array("I"), b"", 65_535)
+        with concurrent.futures.ThreadPoolExecutor(1) as threads:
+            future = threads.submit(packer.run_all, runs, flag)
+            time.sleep(0.2)
+            flag.value = 1
+            words, _ = future.result(timeout=60)
+        self.assertTrue(0 < len(words) < 84 * 100_000)
+        self.assertEqual(words[:4], array("I", [0, 65_535, 0, 50 * 65_535]))
+
+        def stop(done, total):
+            raise KeyboardInterrupt
+
+        with self.assertRaises(KeyboardInterrupt) as caught:
+            jv.sweep([0] + [1] * 5_000, lambda at: MODEL if at == 0 else model, progress=stop)
+        made = [row.made for row in caught.exception.rows if row]
+        self.assertTrue(1 <= len(made) < 5_001 and made[0] == 7 and set(made[1:]) <= {65_535})
+
     def test_a_worker_that_dies(self):
         class Dying(concurrent.futures.ThreadPoolExecutor):
             """Loses its second batch."""
@@ -164,7 +193,7 @@ class Failures(unittest.TestCase):
 
 LONG = """\
 import jirvuntsag as jv
-from jirvuntsag import bench
+from jirvuntsag import bench, packer
 model = jv.Model({!r})
 rows = []
 def told(done, total):

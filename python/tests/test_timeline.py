@@ -181,7 +181,7 @@ class Command(unittest.TestCase):
         bad.write_bytes(b"type t \xff\n")
         self.refused("bad.model: this is no text: a byte that is not UTF-8", bad)
         bad.write_bytes(b"x" * (16 * 1024 * 1024 + 2))
-        self.refused("too many for a model", bad)
+        self.refused("bad.model: the text has over 16,777,216 bytes, too many for a model", bad)
 
     def test_what_is_repeated_is_cut_and_escaped(self):
         self.refused(".. (100,000 characters)' is not a number", COUNTING, f"--steps={'9' * 100_000}")

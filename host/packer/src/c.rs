@@ -2,6 +2,7 @@
 #![allow(unsafe_code)]
 
 use std::panic::{catch_unwind, UnwindSafe};
+use std::sync::atomic::AtomicU8;
 
 use crate::answer::Answer;
 use crate::pack::{pack_fields, pack_text};
@@ -36,6 +37,8 @@ pub struct Batch {
     pub keep_len: usize,
     /// The most steps of each run.
     pub steps: u16,
+    /// A byte that another thread makes 1 where no further run is to be begun, or null.
+    pub stop: *const AtomicU8,
 }
 
 /// The number of this interface.
@@ -64,10 +67,11 @@ pub unsafe extern "C" fn jirvuntsag_packer_fields(fields: *const u16, count: usi
     answered(move || pack_fields(fields))
 }
 
-/// Makes runs: part 1 has 84 words for each, part 2 the events that are kept.
+/// Makes runs: part 1 has 84 words for each, part 2 the events that are kept. There are fewer where it was stopped.
 ///
 /// # Safety
-/// `batch` is the address of a batch, and each address in it has as many things as it says, or it says 0.
+/// `batch` is the address of a batch, and each address in it has as many things as it says, or it says 0; `stop` is null, or the
+/// address of a byte that nobody frees before the call is done.
 #[no_mangle]
 pub unsafe extern "C" fn jirvuntsag_packer_runs(batch: *const Batch) -> *mut Answer {
     let batch = unsafe { batch.read() };
@@ -79,6 +83,7 @@ pub unsafe extern "C" fn jirvuntsag_packer_runs(batch: *const Batch) -> *mut Ans
             states: slice(batch.states, batch.states_len),
             keep: slice(batch.keep, batch.keep_len),
             steps: batch.steps,
+            stop: batch.stop.as_ref(),
         }
     };
     answered(move || run_all(&runs))

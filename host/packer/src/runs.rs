@@ -1,5 +1,7 @@
 //! Many runs in one call, on the proved library.
 
+use std::sync::atomic::{AtomicU8, Ordering};
+
 use jirvuntsag_proved::{calls, Buffer, Event, Number, State, Step};
 
 /// Words of a state.
@@ -26,6 +28,8 @@ pub struct Runs<'a> {
     pub keep: &'a [u8],
     /// The most steps of each run.
     pub steps: u16,
+    /// Another thread makes this 1 where no further run is to be begun.
+    pub stop: Option<&'a AtomicU8>,
 }
 
 /// An image that was opened.
@@ -44,15 +48,16 @@ struct Made {
     events: Vec<Event>,
 }
 
-/// Makes all runs. Part 1 has 84 words for each: the number, the steps made, the events kept, the state; part 2 has three
-/// words for each event that is kept.
+/// Makes all runs, or those that were made when it was stopped. Part 1 has 84 words for each: the number, the steps made, the
+/// events kept, the state; part 2 has three words for each event that is kept.
 pub fn run_all(runs: &Runs) -> Result<Vec<Vec<u8>>, String> {
     let opened = open_all(runs)?;
     if !runs.states.is_empty() && runs.states.len() != STATE * runs.jobs.len() {
         return Err(format!("{} words are no {} states", runs.states.len(), runs.jobs.len()));
     }
     let (mut rows, mut events) = (Vec::new(), Vec::new());
-    for (at, &job) in runs.jobs.iter().enumerate() {
+    let going_on = || runs.stop.is_none_or(|stop| stop.load(Ordering::Relaxed) == 0);
+    for (at, &job) in runs.jobs.iter().enumerate().take_while(|_| going_on()) {
         let image =
             opened.get(job as usize).ok_or_else(|| format!("run {at} is of image {job}, which is not there"))?;
         let state = match runs.states.get(STATE * at..STATE * (at + 1)) {

@@ -1,6 +1,8 @@
 //! The calls as a caller by address makes them: what is read, what is given back, and what is refused.
 #![allow(unsafe_code)]
 
+use std::sync::atomic::AtomicU8;
+
 use jirvuntsag_packer::{
     jirvuntsag_packer_fields, jirvuntsag_packer_free, jirvuntsag_packer_interface, jirvuntsag_packer_part,
     jirvuntsag_packer_runs, jirvuntsag_packer_text, Answer, Batch,
@@ -32,6 +34,17 @@ fn words(bytes: &[u8]) -> Vec<u32> {
 
 /// Runs of one image, with all events kept.
 fn run(image: &[u8], jobs: &[u32], states: &[u32], steps: u16) -> (String, Vec<u8>, Vec<u8>) {
+    run_unless(std::ptr::null(), image, jobs, states, steps)
+}
+
+/// The same, unless it is stopped.
+fn run_unless(
+    stop: *const AtomicU8,
+    image: &[u8],
+    jobs: &[u32],
+    states: &[u32],
+    steps: u16,
+) -> (String, Vec<u8>, Vec<u8>) {
     let (ends, keep) = ([image.len() as u32], [1; 257]);
     let batch = Batch {
         images: image.as_ptr(),
@@ -45,6 +58,7 @@ fn run(image: &[u8], jobs: &[u32], states: &[u32], steps: u16) -> (String, Vec<u
         keep: keep.as_ptr(),
         keep_len: keep.len(),
         steps,
+        stop,
     };
     taken(unsafe { jirvuntsag_packer_runs(&batch) })
 }
@@ -100,6 +114,12 @@ fn runs_that_cannot_be_made_are_told() {
     let mut broken = [0; 81];
     broken[1] = 9;
     assert_eq!(words(&run(IMAGE, &[0], &broken, 1).1)[..2], [6, 0]);
+}
+
+#[test]
+fn a_stopped_call_begins_no_further_run() {
+    assert_eq!(run_unless(&AtomicU8::new(1), IMAGE, &[0; 9], &[], 5), Default::default());
+    assert_eq!(words(&run_unless(&AtomicU8::new(0), IMAGE, &[0; 9], &[], 5).1).len(), 9 * 84);
 }
 
 #[test]
