@@ -3,8 +3,8 @@
 
     PYTHONPATH=python python3 examples/fan-effect/fan_effect.py -o FOLDER
 
-For each combination of a largest strength S, a latency factor F and a base level B every fact has the latency that ACT-R's equations
-give it, and a model with these facts is asked for one sentence of each kind: nine runs, 9,000 in all, in one sweep.
+For each combination of a largest strength S, a latency factor F and a base level B every fact has the latency that ACT-R's
+equations give it, and a model with these facts is asked for one sentence of each kind: nine runs, 9,000 in one sweep.
 """
 import argparse
 import csv
@@ -34,7 +34,7 @@ class Combination(NamedTuple):
 
 
 class Result(NamedTuple):
-    """For a combination the ms of each kind of sentence, by how often person and place were studied: in runs, and as predicted."""
+    """The ms of each kind of sentence, by how often person and place were studied: in runs, and as predicted."""
 
     combination: Combination
     runs: dict
@@ -52,7 +52,7 @@ def kind(fact, counts):
 
 
 def activation(combination, studies):
-    """The activation of a fact that is asked for (2.3): both its words are sources, and the fan of each counts itself, too (2.4)."""
+    """The activation of a fact that is asked for (2.3): its two words are sources, and the fan of each counts itself (2.4)."""
     return jv.spread(combination.base, [jv.strength(count + 1, combination.strength) for count in studies])
 
 
@@ -113,14 +113,15 @@ def table(found):
 
 def main():
     parser = argparse.ArgumentParser(description=__doc__, formatter_class=argparse.RawDescriptionHelpFormatter)
-    parser.add_argument("-o", "--output", metavar="FOLDER", type=pathlib.Path, default=pathlib.Path("."), help="where to write (here)")
-    folder = parser.parse_args().output
+    parser.add_argument("-o", "--output", metavar="FOLDER", default=".", help="where to write (here)")
+    folder = pathlib.Path(parser.parse_args().output)
     combinations = [Combination(*one) for one in itertools.product(STRENGTHS, FACTORS, BASES)]
     found = results(jv.Model.load(HERE / "fan.model"), combinations)
     (folder / "fan-effect.csv").write_text(table(found), encoding="ascii")
     (folder / "fan-effect.svg").write_text(picture(found), encoding="utf-8")
     apart = max(abs(one.runs[studies] - one.predicted[studies]) for one in found for studies in one.runs)
-    print(f"{len(found):,} combinations, {sum(len(one.runs) for one in found):,} runs; run and equation differ by {apart:.2f} ms at most")
+    runs = sum(len(one.runs) for one in found)
+    print(f"{len(found):,} combinations, {runs:,} runs; run and equation differ by {apart:.2f} ms at most")
 
 
 if __name__ == "__main__":

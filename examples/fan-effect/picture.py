@@ -3,6 +3,7 @@ from jirvuntsag.drawing.svg import element, number_text, text
 
 WIDTH, HEIGHT, TOP = 1180, 480, 100
 PANEL, LEFT, GAP = 300, 70, 390
+NOTE = "lines: equations (2.3) to (2.5); dots and numbers: runs of examples/fan-effect/fan.model"
 SHOWN_BASE, SHOWN_STRENGTH = 0.0, 2.0
 COLOURS = ["#1b4f72", "#2e86c1", "#17a589", "#d68910", "#b03a2e"]
 STYLE = (
@@ -63,7 +64,8 @@ def by_fan(found):
         points = [(frame.x(count), frame.y(one.predicted[count, count])) for count in (1, 2, 3)]
         path = "M" + "L".join(f"{x:.1f} {y:.1f}" for x, y in points)
         parts.append(element("path", d=path, stroke=colour, fill="none", stroke_width=1.5))
-        parts += [element("circle", cx=frame.x(count), cy=frame.y(one.runs[count, count]), r=4, fill=colour) for count in (1, 2, 3)]
+        dots = [(frame.x(count), frame.y(one.runs[count, count])) for count in (1, 2, 3)]
+        parts += [element("circle", cx=x, cy=y, r=4, fill=colour) for x, y in dots]
         parts.append(text(f"F = {one.combination.factor:g}", points[-1][0] + 10, points[-1][1] + 4, class_="note"))
     return parts
 
@@ -83,8 +85,10 @@ def by_parameters(found):
         parts.append(element("rect", x=x, y=y, width=side, height=side, fill=shade, stroke="#fff"))
         dark = "cell white" if part > 0.45 else "cell"
         parts.append(text(f"{value}", x + side / 2, y + side / 2 + 4, text_anchor="middle", class_=dark))
-    parts += [text(f"{value:g}", frame.x(at + 0.5), TOP + PANEL + 18, text_anchor="middle") for at, value in enumerate(strengths)]
-    return parts + [text(f"{value:g}", frame.left - 6, frame.y(at + 0.5) + 4, text_anchor="end") for at, value in enumerate(factors)]
+    foot = TOP + PANEL + 18
+    parts += [text(f"{one:g}", frame.x(at + 0.5), foot, text_anchor="middle") for at, one in enumerate(strengths)]
+    left = frame.left - 6
+    return parts + [text(f"{one:g}", left, frame.y(at + 0.5) + 4, text_anchor="end") for at, one in enumerate(factors)]
 
 
 def agreement(found):
@@ -110,7 +114,7 @@ def picture(found):
         *by_fan(found),
         *by_parameters(found),
         *agreement(found),
-        text("lines: equations (2.3) to (2.5); dots and numbers: runs of examples/fan-effect/fan.model", LEFT - 50, HEIGHT - 14, class_="note"),
+        text(NOTE, LEFT - 50, HEIGHT - 14, class_="note"),
     ]
     size = {"width": WIDTH, "height": HEIGHT, "viewBox": f"0 0 {number_text(WIDTH)} {number_text(HEIGHT)}"}
     inner = "".join(f"\n{part}" for part in parts)

@@ -1,6 +1,6 @@
 """What runs cost from Python: `python3 -m jirvuntsag.bench` prints runs a second of a small counting model.
 
-One after the other, in a sweep on one core and on all, in a sweep that makes a model for each run, and in one that keeps events.
+One after the other, in a sweep on one core and on all, in one that keeps events, and in one that makes a model for each run.
 Other work on the machine makes the figures smaller: of some rounds the best counts.
 """
 import argparse

@@ -17,7 +17,7 @@ class NoLibrary(OSError):
 
 
 def library_path(name, variable):
-    """Where a library is looked for: what the environment variable names, else the package's own, else target/lib of the clone."""
+    """Where a library is: what the environment variable names, else the package's own, else that of the clone."""
     named = os.environ.get(variable)
     if named:
         return pathlib.Path(named)

@@ -95,7 +95,9 @@ def built(types, facts, buffers, rules, failure):
 def _with_line(told, lines):
     """A fault with the line that it lies in, which nobody has seen yet."""
     number = told.split(":")[0]
-    return f"{told} (in `{shown(lines[int(number) - 1].strip())}`)" if number.isdigit() and 0 < int(number) <= len(lines) else told
+    if not number.isdigit() or not 0 < int(number) <= len(lines):
+        return told
+    return f"{told} (in `{shown(lines[int(number) - 1].strip())}`)"
 
 
 def _word(value):

@@ -127,5 +127,6 @@ def run_all(runs, stop=None):
     lent = [(ctypes.c_uint32 * len(words)).from_buffer(words) if words else None for words in (ends, runs.jobs, runs.states)]
     sizes = [len(words) for words in (ends, runs.jobs, runs.states)]
     pairs = [value for pair in zip(lent, sizes) for value in pair]
-    batch = _Batch(images, len(images), *pairs, runs.keep, len(runs.keep), runs.steps, None if stop is None else ctypes.pointer(stop))
+    stopped = None if stop is None else ctypes.pointer(stop)
+    batch = _Batch(images, len(images), *pairs, runs.keep, len(runs.keep), runs.steps, stopped)
     return [array("I", part) for part in _parts(_packer().jirvuntsag_packer_runs(ctypes.byref(batch)), 2)]

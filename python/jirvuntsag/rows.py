@@ -8,7 +8,7 @@ ROW_WORDS = 84
 
 
 class Row:
-    """The end of a run: its item and its model, the number that it ended by, the steps made, the clock, the buffers, the events kept.
+    """The end of a run: its item and model, the number that it ended by, the steps made, clock, buffers, the events kept.
 
     >>> import jirvuntsag as jv
     >>> (row,) = jv.sweep([jv.Model.load("examples/counting.model")], events=["stop"])
@@ -73,8 +73,8 @@ class Row:
         """The row as plain data, for a table: the number, the steps made, the clock, and each buffer as a text.
 
         >>> import jirvuntsag as jv
-        >>> jv.sweep([jv.Model.load("examples/counting.model")], steps=1)[0].as_dict()
-        {'number': 0, 'made': 1, 'clock': 50, 'goal': 'count current=1 target=3', 'retrieval': 'follows first=1 second=2 in 100 ms'}
+        >>> jv.sweep([jv.Model.load("examples/counting.model")], steps=2)[0].as_dict()
+        {'number': 0, 'made': 2, 'clock': 150, 'goal': 'count current=1 target=3', 'retrieval': 'follows first=1 second=2'}
         """
         buffers = {str(name): str(buffer) for name, buffer in self.buffers.items()}
         return {"number": self.number, "made": self.made, "clock": self.clock, **buffers}

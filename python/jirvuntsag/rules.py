@@ -69,7 +69,9 @@ def rule_from(number, shape, vocabulary):
         return "".join(f" {vocabulary.slots[isa].name(slot)} {term(one)}" for slot, one in pairs)
 
     def term(one):
-        return vocabulary.symbols.name(one) if one < MOST_SYMBOLS else f"?{vocabulary.variables[number].name(one - MOST_SYMBOLS)}"
+        if one < MOST_SYMBOLS:
+            return vocabulary.symbols.name(one)
+        return f"?{vocabulary.variables[number].name(one - MOST_SYMBOLS)}"
 
     def action(deed):
         buffer = buffers.name(deed.buffer)

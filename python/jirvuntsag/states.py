@@ -99,7 +99,8 @@ def buffer_words(buffer, vocabulary):
 
 def state_from(words, vocabulary):
     """A well-formed state as plain data."""
-    return {"clock": words[0], "buffers": {name: _plain(words, number, vocabulary) for number, name in enumerate(vocabulary.buffers)}}
+    buffers = {name: _plain(words, number, vocabulary) for number, name in enumerate(vocabulary.buffers)}
+    return {"clock": words[0], "buffers": buffers}
 
 
 def _plain(words, number, vocabulary):

@@ -26,22 +26,23 @@ class SweepFailed(RuntimeError):
         first = min(self.errors)
         error = self.errors[first]
         count = f"{len(self.errors):,} of {len(self.rows):,} items failed"
-        return f"{count}, the first is item {first}: {type(error).__name__}: {error} (.rows has what was done, .errors the rest)"
+        told = f"{type(error).__name__}: {error}"
+        return f"{count}, the first is item {first}: {told} (.rows has what was done, .errors the rest)"
 
 
 def sweep(items, make=None, *, steps=MOST_STEPS, events=False, executor=None, workers=None, progress=None, rows=None):
     """Runs every item to its end, or for at most so many steps: a `Row` for each, in the order given.
 
-    An item is a `Model`, a `Run` (which is not moved), or a pair of a Model and a dict that says what buffers hold instead, as
-    `Run.put` does. With `make` an item is anything, and `make(item)` gives one of these, in the worker.
+    An item is a `Model`, a `Run` (which is not moved), or a pair of a Model and a dict that says what buffers hold instead.
+    With `make` an item is anything, and `make(item)` gives one of these, in the worker.
 
     `events`: False for none, True for all, or the names of rules whose firings are kept.
     `executor`: anything with `submit` as in concurrent.futures; without one, as many threads as there are cores (`workers`).
-    `progress`: None for a line if standard error is a terminal, True or False, or a function of how many are done, of how many.
+    `progress`: None for a line if standard error is a terminal, True, False, or a function of how many are done, of how many.
     `rows`: a list that is filled as rows come. Handed in again, what is done in it is not done again.
 
-    Nothing that was done is lost: if some items fail, all others are run, and `SweepFailed` has the rows. Whatever else ends it
-    early, KeyboardInterrupt too, has an attribute `rows`: a row for each item that was done, None for the others.
+    Nothing that was done is lost: if some items fail, all others are run, and `SweepFailed` has the rows. Whatever else ends
+    it early, KeyboardInterrupt too, has an attribute `rows`: a row for each item that was done, None for the others.
 
     >>> import jirvuntsag as jv
     >>> model = jv.Model.load("examples/counting.model")
@@ -51,7 +52,8 @@ def sweep(items, make=None, *, steps=MOST_STEPS, events=False, executor=None, wo
     [400, 850, 1350]
     """
     items, rows = list(items), [] if rows is None else rows
-    work = Work(items, make, small_number(steps, "the steps asked"), events if isinstance(events, bool) else tuple(events), rows)
+    kept = events if isinstance(events, bool) else tuple(events)
+    work = Work(items, make, small_number(steps, "the steps asked"), kept, rows)
     report, end = reporter(progress, "sweep")
     try:
         if executor is not None:
@@ -90,7 +92,7 @@ class Work:
         rows.extend([None] * (len(items) - len(rows)))
 
     def run(self, executor, workers, report):
-        """Hands all batches out and takes them in as they were handed out; what is done when it ends early is taken in, too."""
+        """Hands all batches out and takes them in, in their order; what is done when it ends early is taken in, too."""
         left = [at for at, row in enumerate(self.rows) if row is None]
         size = max(1, min(LARGEST_BATCH, len(left) // (4 * workers)))
         handed, done = [], len(self.items) - len(left)

@@ -39,7 +39,7 @@ def symbol(number):
     except TypeError:
         raise TypeError(f"a symbol's number is a whole number, not {type(number).__name__}") from None
     if not 0 <= whole < MOST_SYMBOLS:
-        raise ValueError(f"a symbol's number is from 0 to {MOST_SYMBOLS - 1:,}, not {whole if abs(whole) < 10**9 else 'so large'}")
+        raise ValueError(f"a symbol's number is from 0 to {MOST_SYMBOLS - 1:,}")
     return Symbol(whole)
 
 

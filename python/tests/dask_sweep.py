@@ -19,7 +19,8 @@ def main():
 
     expected = [row.as_dict() for row in jv.sweep(range(1_500), slow)]
     logging.getLogger("distributed").setLevel(logging.ERROR)
-    with LocalCluster(n_workers=2, threads_per_worker=1, processes=True, dashboard_address=None) as cluster, Client(cluster) as client:
+    workers = {"n_workers": 2, "threads_per_worker": 1, "processes": True}
+    with LocalCluster(**workers, dashboard_address=None) as cluster, Client(cluster) as client:
         executor = client.get_executor()
         made = jv.sweep(range(1_500), slow, executor=executor, events=["stop"])
         given = jv.sweep([slow(ms) for ms in range(1_500)], executor=executor)

@@ -4,13 +4,13 @@ import unittest
 
 import jirvuntsag as jv
 
-# D. Gall's thesis of 2013, section 5.1, the trace of the counting model with the subsymbolic layer (times in seconds, cut after four
-# digits): when each request was started, and when its fact was put into the buffer
+# D. Gall's thesis of 2013, section 5.1, the trace of the counting model with the subsymbolic layer (times in seconds, cut
+# after four digits): when each request was started, and when its fact was put into the buffer
 PRINTED = [(0.05, 0.0974), (0.1974, 0.2575), (0.3075, 0.3657), (0.4157, 0.5029)]
 
-# For each request the time since its fact was met, which counts for its base level (2.2), and the strengths of the four sources in the
-# goal (2.4, with S = 2 and fans of 3 and 4, section 4.9.1). The first request has no source that its fact holds. For the third the
-# thesis' program counts the meeting at 0.1474 alone, when the fact went back to memory.
+# For each request the time since its fact was met, which counts for its base level (2.2), and the fans of those of the four
+# sources in the goal that its fact holds (2.4, with S = 2, section 4.9.1); the first fact holds none. For the third the
+# printed time is that of the meeting at 0.1474 alone, when the fact went back to memory.
 REQUESTS = [(0.05, []), (0.1974, [3, 3]), (0.3075 - 0.1474, [3, 4]), (0.4157, [3, 3])]
 
 
@@ -39,11 +39,12 @@ class Printed(unittest.TestCase):
         latencies = [jv.latency(self.activation(*request), self.factor) for request in REQUESTS]
         facts = [jv.Fact("step", {"at": at, "then": at + 1}, 0, ms) for at, ms in enumerate(latencies)]
         ask = jv.Rule("ask", ["=goal> step at ?n then nil"], ["=goal> then asked", "+retrieval> step at ?n"])
-        go_on = jv.Rule("go-on", ["=goal> step then asked", "=retrieval> step then ?m"], ["=goal> at ?m then nil", "-retrieval>"], 1)
-        model = jv.Model.build({"step": ["at", "then"]}, {"goal": jv.Buffer("step", {"at": 0}), "retrieval": None}, facts, [ask, go_on])
+        tests, actions = ["=goal> step then asked", "=retrieval> step then ?m"], ["=goal> at ?m then nil", "-retrieval>"]
+        buffers = {"goal": jv.Buffer("step", {"at": 0}), "retrieval": None}
+        model = jv.Model.build({"step": ["at", "then"]}, buffers, facts, [ask, jv.Rule("go-on", tests, actions)])
         waits = [event for event in model.open().steps(12) if event.kind == "wait"]
         self.assertEqual([event.ms for event in waits], latencies)
-        # the trace has one firing before the first two requests each, as here; its clock and this one differ by what is rounded
+        # the trace has as many firings before its first two requests; the clocks differ by what is rounded
         self.assertAlmostEqual(waits[0].clock, 97.4, delta=0.6)
         self.assertAlmostEqual(waits[1].clock, 257.5, delta=1.2)
 

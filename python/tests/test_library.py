@@ -51,5 +51,6 @@ class Library(unittest.TestCase):
         self.assertEqual(self.said("no/packer.so", "JIRVUNTSAG_PACKER"), "")
 
     def test_another_library_in_the_packers_place(self):
-        said = self.said(library_path("libjirvuntsag.so", "JIRVUNTSAG_LIBRARY"), "JIRVUNTSAG_PACKER", COUNTING.with_suffix(".model"))
+        other = library_path("libjirvuntsag.so", "JIRVUNTSAG_LIBRARY")
+        said = self.said(other, "JIRVUNTSAG_PACKER", COUNTING.with_suffix(".model"))
         self.assertIn("is not the library of this module", said)

@@ -19,7 +19,8 @@ class Reading(unittest.TestCase):
     def test_facts_openings_utilities_and_rules(self):
         model = counting()
         self.assertEqual(model.facts[0], Fact("follows", {"first": "1", "second": "2"}, 10, 100))
-        self.assertEqual(model.opening, {"goal": Buffer("count", {"current": "1", "target": "3"}), "retrieval": Buffer("chunk", {})})
+        goal = Buffer("count", {"current": "1", "target": "3"})
+        self.assertEqual(model.opening, {"goal": goal, "retrieval": Buffer("chunk", {})})
         self.assertEqual((model.utilities, model.failure), ({"start": 0, "go-on": 0, "stop": 1000}, 200))
         self.assertEqual(model.rule("go-on").actions, ("=goal> current ?next", "+retrieval> follows first ?next"))
 
@@ -56,7 +57,8 @@ class Replacing(unittest.TestCase):
     def test_facts_that_come_and_go(self):
         model = counting()
         one = model.replace(facts=model.facts[:1]).open()
-        self.assertEqual([str(event) for event in one.steps(4)], ["50 fire start", "150 wait 100", "200 fire go-on", "400 wait 200"])
+        lines = ["50 fire start", "150 wait 100", "200 fire go-on", "400 wait 200"]
+        self.assertEqual([str(event) for event in one.steps(4)], lines)
         self.assertEqual(len(model.replace(facts=[*model.facts, Fact("follows", {"first": 3, "second": 1})]).facts), 3)
         self.assertEqual(model.replace(facts=[]).facts, [])
 
@@ -86,9 +88,11 @@ class Replacing(unittest.TestCase):
         cases += [(TypeError, "slots are given as a dict", {"facts": [fact._replace(slots=[1, 2])]})]
         cases += [(ValueError, "no rule is named 'stp'; is it 'stop'", {"utilities": {"stp": 1}})]
         cases += [(TypeError, "whole number of thousandths", {"utilities": {"stop": 1.5}})]
-        cases += [(ValueError, "from -32,768 to 32,767", {"utilities": {"stop": 40_000}}), (TypeError, "as a dict", {"utilities": [1]})]
+        cases += [(ValueError, "from -32,768 to 32,767", {"utilities": {"stop": 40_000}})]
+        cases += [(TypeError, "as a dict", {"utilities": [1]})]
         cases += [(ValueError, "it has no delay", {"opening": {"goal": Buffer("count", {}, 5)}})]
-        cases += [(ValueError, "no buffer is named 'gaol'", {"opening": {"gaol": None}}), (ValueError, "failure", {"failure": 65_536})]
+        cases += [(ValueError, "no buffer is named 'gaol'", {"opening": {"gaol": None}})]
+        cases += [(ValueError, "failure", {"failure": 65_536})]
         for error, words, changes in cases:
             with self.subTest(changes=words), self.assertRaisesRegex(error, words):
                 model.replace(**changes)
@@ -109,7 +113,8 @@ class Building(unittest.TestCase):
             Model.build(**parts)
 
     def test_what_cannot_be_built(self):
-        self.refused(NotPacked, r"slot 'b' is not a slot of type 't' \(a\) \(in `fact t b 1 activation 0 latency 0`\)", facts=[Fact("t", {"b": 1})])
+        words = r"slot 'b' is not a slot of type 't' \(a\) \(in `fact t b 1 activation 0 latency 0`\)"
+        self.refused(NotPacked, words, facts=[Fact("t", {"b": 1})])
         self.refused(NotPacked, "in `=gaol> t`", rules=[Rule("r", ["=gaol> t"])])
         self.refused(ValueError, "one word", facts=[Fact("t", {"a": "two words"})])
         self.refused(ValueError, "one word", facts=[Fact("t", {"a": "x\ny"})])

@@ -173,7 +173,12 @@ class Runs(unittest.TestCase):
 
     def test_a_run_lays_out_no_more_than_it_needs(self):
         asked = []
-        with unittest.mock.patch.object(calls, "trace_steps", side_effect=lambda *given: asked.append(given[-1]) or TRACE(*given)):
+
+        def trace(*given):
+            asked.append(given[-1])
+            return TRACE(*given)
+
+        with unittest.mock.patch.object(calls, "trace_steps", trace):
             self.run_.run()
         self.assertEqual(asked, [64])
 

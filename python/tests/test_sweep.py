@@ -96,7 +96,8 @@ class Failures(unittest.TestCase):
     """Whatever goes wrong, what was done is there."""
 
     def test_an_item_that_fails_leaves_the_others(self):
-        with self.assertRaisesRegex(jv.SweepFailed, "1 of 1,000 items failed, the first is item 13: LookupError: thirteen") as caught:
+        words = "1 of 1,000 items failed, the first is item 13: LookupError: thirteen"
+        with self.assertRaisesRegex(jv.SweepFailed, words) as caught:
             jv.sweep(range(1_000), slow)
         rows, errors = caught.exception.rows, caught.exception.errors
         self.assertEqual([at for at, row in enumerate(rows) if row is None], [13])
@@ -112,7 +113,9 @@ class Failures(unittest.TestCase):
         self.assertIn("is it 'goal'", str(caught.exception.errors[2]))
 
     def test_arguments_that_are_none(self):
-        for error, arguments in (ValueError, {"steps": 65_536}), (TypeError, {"steps": 1.5}), (TypeError, {"make": 5}), (ValueError, {"rows": [1, 2]}):
+        cases = [(ValueError, {"steps": 65_536}), (TypeError, {"steps": 1.5})]
+        cases += [(TypeError, {"make": 5}), (ValueError, {"rows": [1, 2]})]
+        for error, arguments in cases:
             with self.subTest(arguments=arguments), self.assertRaises(error):
                 jv.sweep([MODEL], **arguments)
         with self.assertRaises(jv.SweepFailed):
@@ -252,8 +255,9 @@ class Executors(unittest.TestCase):
             self.skipTest("Dask is not here: no python3 at hand has 'distributed' (python3-distributed of Debian)")
         environment = {**os.environ, "PYTHONPATH": f"{ROOT / 'python'}", "PYTHONDONTWRITEBYTECODE": "1"}
         command = [python, "-W", "ignore", "-m", "tests.dask_sweep", str(EXAMPLES / "counting.model")]
-        ended = subprocess.run(command, env=environment, cwd=ROOT / "python", capture_output=True, text=True, timeout=110, check=False)
-        self.assertEqual(ended.stdout.splitlines()[-1:], ["2 workers, 3000 rows alike"], ended.stderr[-2000:])
+        options = {"cwd": ROOT / "python", "capture_output": True, "text": True, "timeout": 110, "check": False}
+        said = subprocess.run(command, env=environment, **options)
+        self.assertEqual(said.stdout.splitlines()[-1:], ["2 workers, 3000 rows alike"], said.stderr[-2000:])
 
 
 def _python_with_dask():

@@ -29,7 +29,8 @@ class Integers(unittest.TestCase):
         self.assertEqual([self.put(value) for value in (symbol(5), "#5", symbol(4095))], [5, 5, 4095])
 
     def test_an_integer_that_is_no_name_is_refused(self):
-        for value, words in (4, r"no symbol is named '4'; the symbol of number 4 is jv.symbol\(4\)"), (-1, "no symbol is named '-1'$"):
+        advice = r"no symbol is named '4'; the symbol of number 4 is jv.symbol\(4\)"
+        for value, words in (4, advice), (-1, "no symbol is named '-1'$"):
             with self.assertRaisesRegex(ValueError, words):
                 self.put(value)
         for value in True, 5.0, None:

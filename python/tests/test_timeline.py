@@ -170,7 +170,8 @@ class Command(unittest.TestCase):
 
     def test_a_text_is_drawn_like_its_image(self):
         self.assertEqual(self.status(COUNTING.with_suffix(".model"), "-o", self.folder / "text.svg"), 0)
-        text, image = (self.folder / "text.svg").read_text(encoding="utf-8"), (PICTURES / "counting.svg").read_text(encoding="utf-8")
+        image = (PICTURES / "counting.svg").read_text(encoding="utf-8")
+        text = (self.folder / "text.svg").read_text(encoding="utf-8")
         self.assertEqual(text, image.replace("counting.image", "counting.model"))
 
     def test_a_bad_text_is_told_with_its_line(self):
@@ -218,7 +219,8 @@ class Command(unittest.TestCase):
         with open("/dev/full", "wb") as full:
             command = [sys.executable, "-m", "jirvuntsag", "timeline", str(COUNTING)]
             ended = subprocess.run(command, cwd=ROOT / "python", stdout=full, stderr=subprocess.PIPE, text=True, check=False)
-        self.assertEqual((ended.returncode, ended.stderr), (2, "python3 -m jirvuntsag: standard output: No space left on device\n"))
+        words = "python3 -m jirvuntsag: standard output: No space left on device\n"
+        self.assertEqual((ended.returncode, ended.stderr), (2, words))
 
     def test_help(self):
         self.assertEqual(self.status("--help"), 0)

@@ -38,7 +38,8 @@ class Wheel(unittest.TestCase):
     @classmethod
     def run_(cls, *command, cwd=ROOT):
         """What a command prints, without the variables and paths of this clone."""
-        kept = {name: value for name, value in os.environ.items() if not name.startswith(("JIRVUNTSAG", "PYTHON", "VIRTUAL_ENV"))}
+        ours = "JIRVUNTSAG", "PYTHON", "VIRTUAL_ENV"
+        kept = {name: value for name, value in os.environ.items() if not name.startswith(ours)}
         ended = subprocess.run([*map(str, command)], cwd=cwd, env=kept, capture_output=True, text=True, check=False)
         if ended.returncode:
             raise AssertionError(f"{command[0]} ended with {ended.returncode}: {ended.stderr}{ended.stdout}")
@@ -51,11 +52,13 @@ class Wheel(unittest.TestCase):
     def test_it_holds_the_module_and_both_libraries(self):
         with zipfile.ZipFile(self.wheel) as wheel:
             names = set(wheel.namelist())
-            listed = [row[0] for row in csv.reader(wheel.read(f"jirvuntsag-{VERSION}.dist-info/RECORD").decode().splitlines())]
+            record = wheel.read(f"jirvuntsag-{VERSION}.dist-info/RECORD").decode()
+        listed = [row[0] for row in csv.reader(record.splitlines())]
         self.assertEqual(sorted(listed), sorted(names))
         package = ROOT / "python" / "jirvuntsag"
         modules = {f"jirvuntsag/{path.relative_to(package)}" for path in package.rglob("*.py")}
-        self.assertLessEqual(modules | {f"jirvuntsag/lib/{name}.so" for name in ("libjirvuntsag", "libjirvuntsag_packer")}, names)
+        libraries = {f"jirvuntsag/lib/{name}.so" for name in ("libjirvuntsag", "libjirvuntsag_packer")}
+        self.assertLessEqual(modules | libraries, names)
 
     def test_the_same_files_give_the_same_bytes(self):
         again = self.folder / "again"

@@ -70,8 +70,8 @@ pub unsafe extern "C" fn jirvuntsag_packer_fields(fields: *const u16, count: usi
 /// Makes runs: part 1 has 84 words for each, part 2 the events that are kept. There are fewer where it was stopped.
 ///
 /// # Safety
-/// `batch` is the address of a batch, and each address in it has as many things as it says, or it says 0; `stop` is null, or the
-/// address of a byte that nobody frees before the call is done.
+/// `batch` is the address of a batch, and each address in it has as many things as it says, or it says 0; `stop` is null,
+/// or the address of a byte that nobody frees before the call is done.
 #[no_mangle]
 pub unsafe extern "C" fn jirvuntsag_packer_runs(batch: *const Batch) -> *mut Answer {
     let batch = unsafe { batch.read() };
