@@ -4,6 +4,7 @@ from .refusals import HALTED, MEANINGS, Refused
 from .run import Run
 
 STEPS = 1000
+REQUEST = 1  # the kind of an action that asks for a fact
 
 
 def explain(run, steps=STEPS):
@@ -46,7 +47,7 @@ def _steps(run, steps):
     try:
         for event in run.steps(steps):
             events.append(event)
-            lines += [_step(run, event), *_changed(run, before)]
+            lines += [_step(run, event), *_changed(run, before, _asked(run, event))]
             before = dict(run.buffers)
     except Refused as refused:
         return events, lines, refused.number
@@ -75,19 +76,30 @@ def _held(run):
     return [f"{name}{_told(run, buffer)}" for name, buffer in _buffers(run)]
 
 
-def _changed(run, before):
-    """A line for each buffer that holds another chunk than before, or whose chunk has arrived."""
-    pairs = zip(_buffers(run), before.values())
-    return [f"{name}{_told(run, now)}" for (name, now), old in pairs if (now[:2], now.visible) != (old[:2], old.visible)]
+def _asked(run, event):
+    """The buffers that the rule that has fired asks a fact for."""
+    actions = () if event.rule is None else run.model.shape.rules[event.rule].actions
+    return {action.buffer for action in actions if action.kind == REQUEST}
+
+
+def _changed(run, before, asked):
+    """A line for each buffer that holds another chunk than before, whose chunk has arrived, or that was asked a fact for."""
+    lines = []
+    for number, ((name, now), old) in enumerate(zip(_buffers(run), before.values())):
+        if number in asked or (now[:2], now.visible) != (old[:2], old.visible):
+            failed = number in asked and _is_empty(run, now)
+            lines.append(f"{name}{_told(run, now)}{': no fact fits the request' if failed else ''}")
+    return lines
+
+
+def _is_empty(run, buffer):
+    return run.model.vocabulary.types.number(buffer.type) == 0
 
 
 def _told(run, buffer):
-    """What a buffer holds. One that is empty and pending waits for a request to fail."""
-    empty = run.model.vocabulary.types.number(buffer.type) == 0
-    pending = "" if buffer.visible else f", in {buffer.delay:,} ms"
-    if empty:
-        return f"empty{pending}: no fact fits the request" if pending else "empty"
-    return f"{buffer._replace(delay=0)}{pending}"
+    """What a buffer holds."""
+    held = "empty" if _is_empty(run, buffer) else str(buffer._replace(delay=0))
+    return held if buffer.visible else f"{held}, in {buffer.delay:,} ms"
 
 
 def _end(run, made, number):

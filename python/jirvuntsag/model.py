@@ -42,9 +42,10 @@ class Model:
         >>> Model.load("examples/counting.model").rules
         ['start', 'go-on', 'stop']
         """
-        with pathlib.Path(path).open("rb") as file:
+        path = pathlib.Path(path)
+        with path.open("rb") as file:
             content = file.read(LARGEST_TEXT + 1)
-        if not _is_text(content):
+        if not _is_text(content) and (content or path.suffix == ".image"):
             return cls(content, None if names is None else Names.load(names))
         if names is not None:
             raise ValueError(f"{shown(path)} is a text, which has its own names: leave the names file out")
@@ -215,5 +216,5 @@ def _counted(count, what, more):
 
 
 def _is_text(content):
-    """Whether a file is a text: an image begins with its version, the byte 1, and a text has no such bytes at all."""
+    """Whether this is a text: an image begins with its version, the byte 1, and a text has no such bytes at all."""
     return bool(content) and not any(byte < 32 and byte not in b"\t\n\v\f\r" for byte in content[:1024])

@@ -82,6 +82,11 @@ class Words(unittest.TestCase):
         self.assertEqual(late.clock, 4_294_967_200)
         self.assertIn("there are none", jv.explain(jv.Model.from_text("buffer goal")))
 
+    def test_a_request_that_fails_at_once_is_told(self):
+        model = jv.Model.load(EXAMPLES / "counting.model")
+        told = jv.explain(model.replace(facts=[], failure=0), 2)
+        self.assertEqual(told.count("has fired\n    retrieval  empty: no fact fits the request\n"), 2)
+
     def test_without_names(self):
         told = jv.explain(jv.Model.load(COUNTING), 1)
         self.assertIn("at 50 ms  rule 0 has fired\n    buffer 1  1 0=#1 1=#2, in 100 ms\n", told)

@@ -179,6 +179,9 @@ class Command(unittest.TestCase):
         bad.write_text("type t a\nbuffer goal t b 1\n", encoding="ascii")
         self.refused("bad.model:2:15: slot 'b' is not a slot of type 't' (a)", bad)
         self.refused("bad.model is a text, which has its own names", bad, "--names", COUNTING_NAMES)
+        for content in b"", b"\n", b"# nothing\n":
+            bad.write_bytes(content)
+            self.refused("bad.model: no buffer is declared", bad)
         bad.write_bytes(b"type t \xff\n")
         self.refused("bad.model: this is no text: a byte that is not UTF-8", bad)
         bad.write_bytes(b"x" * (16 * 1024 * 1024 + 2))
