@@ -99,8 +99,8 @@ class Work:
         try:
             for start in range(0, len(left), size):
                 handed.append(self._hand_out(executor, left[start : start + size]))
-            for places, batch, future in handed:
-                self._take_in(places, batch, future)
+            for places, known, future in handed:
+                self._take_in(places, known, future)
                 done += len(places)
                 report(done, len(self.items))
         except BaseException:
@@ -108,18 +108,18 @@ class Work:
             raise
 
     def _hand_out(self, executor, places):
-        """Gives a batch to the executor."""
+        """Gives a batch to the executor: its places, what is known of it before it is run, and its future."""
         items = [self.items[at] for at in places]
         stop = [] if self.stop is None else [self.stop]
         if self.make is not None:
             return places, None, executor.submit(make_and_run, self.make, items, self.steps, self.events, *stop)
         batch = Batch(items, self.steps, self.events)
-        return places, batch, executor.submit(run_all, batch.runs, *stop)
+        return places, (batch.models, batch.failed), executor.submit(run_all, batch.runs, *stop)
 
-    def _take_in(self, places, batch, future):
+    def _take_in(self, places, known, future):
         """Waits for a batch and keeps its rows. A worker that fails fails its own batch alone."""
         try:
-            models, made, failed = (batch.models, future.result(), batch.failed) if batch else future.result()
+            models, made, failed = future.result() if known is None else (known[0], future.result(), known[1])
         except Exception as error:  # an executor may raise anything of its own
             self.errors.update(dict.fromkeys(places, error))
             return
@@ -133,6 +133,6 @@ class Work:
         if self.stop is not None:
             self.stop.value = 1
         going_on = [one for one in handed if one[2].done() or not one[2].cancel()]
-        for places, batch, future in going_on:
+        for places, known, future in going_on:
             if self.rows[places[-1]] is None:
-                self._take_in(places, batch, future)
+                self._take_in(places, known, future)

@@ -52,6 +52,7 @@ class NamesFiles(unittest.TestCase):
     def test_names_that_stand_twice(self):
         self.refused("buffers: 'goal' stands twice", lambda names: names.update(buffers=["goal", "goal"]))
         self.refused("symbols: 'nil' stands twice", lambda names: names["symbols"].update({"4": "nil"}))
+        self.refused("'#5' would name symbol 4", lambda names: names["symbols"].update({"4": "#5"}))
         self.refused("slots of 'count': 'current' stands twice", lambda names: names["types"][2].update(slots=["current"] * 2))
 
     def test_names_of_another_image(self):
