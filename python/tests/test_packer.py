@@ -102,7 +102,7 @@ class Fields(unittest.TestCase):
     def test_any_fields(self):
         chooser, packed = random.Random(6), 0
         good = fields_of(shape_of(COUNTING.read_bytes()))
-        for _ in range(20_000):
+        for _ in range(10_000):
             fields = list(good)
             for _ in range(chooser.randrange(3)):
                 fields[chooser.randrange(len(fields))] = chooser.choice([0, 1, 2, 3, 255, 4_095, 4_096, 65_535])
@@ -112,7 +112,7 @@ class Fields(unittest.TestCase):
                 packed += 1
             except NotPacked:
                 pass
-        self.assertGreater(packed, 1_000)
+        self.assertGreater(packed, 500)
 
     def test_numbers_that_are_no_fields(self):
         for fields, error in ([70_000], OverflowError), ([-1], OverflowError), (["a"], TypeError), ([1.5], TypeError):
@@ -172,14 +172,16 @@ class Memory(unittest.TestCase):
         return memory() - before
 
     def test_nothing_is_kept(self):
-        fields = fields_of(shape_of(COUNTING.read_bytes()))
+        facts = "".join(f"fact t a {'x' * 100}{number} b {number}\n" for number in range(512))
+        text = f"type t a b\n{facts}buffer goal"
+        fields = fields_of(shape_of(packer.pack_text(text)[0]))
         runs = packer.Runs([COUNTING.read_bytes()], array("I", [0] * 500), array("I"), bytes([1] * 257), 100)
 
         def refused():
             with self.assertRaises(NotPacked):
                 packer.pack_text("rule " + "x" * 50_000)
 
-        calls = [lambda: packer.pack_text(TEXT), lambda: packer.pack_fields(fields), refused, lambda: packer.run_all(runs)]
-        for call, times in zip(calls, (3_000, 20_000, 1_000, 200)):
-            # a leak of every answer would be some 10 to 200 MB
+        calls = [lambda: packer.pack_text(text), lambda: packer.pack_fields(fields), refused, lambda: packer.run_all(runs)]
+        for call, times in zip(calls, (200, 4_000, 500, 200)):
+            # a leak of every answer would be some 14 MB or more
             self.assertLess(self.held(call, times), 4_096)
