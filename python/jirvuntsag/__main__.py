@@ -12,7 +12,7 @@ from .explaining import STEPS, explain
 from .model import Model
 from .refusals import Refused
 from .version import VERSION
-from .wording import shown
+from .wording import LONGEST_LINE, shown, shown_path
 
 PROGRAM = "python3 -m jirvuntsag"
 
@@ -32,7 +32,7 @@ class _Parser(argparse.ArgumentParser):
     """A parser that repeats nothing whole that is long, and nothing that a terminal would obey."""
 
     def error(self, message):
-        super().error(shown(message, 300))
+        super().error(shown(message, LONGEST_LINE))
 
 
 def _number(least, most):
@@ -69,9 +69,9 @@ def _load(model, names):
     try:
         return Model.load(model, names)
     except Refused as refused:
-        raise Failure(f"{shown(model)}: {refused}") from refused
+        raise Failure(f"{shown_path(model)}: {refused}") from refused
     except OSError as error:
-        raise Failure(f"{shown(error.filename)}: {error.strerror}" if error.filename else str(error)) from error
+        raise Failure(f"{shown_path(error.filename)}: {error.strerror}" if error.filename else str(error)) from error
     except ValueError as error:
         raise Failure(str(error)) from error
 
@@ -79,7 +79,7 @@ def _load(model, names):
 def _write(text, path):
     """Writes a file whole or not at all: beside its place first, and then there."""
     if path.exists() and not path.is_file():
-        raise Failure(f"{shown(path)}: not a file that can be replaced")
+        raise Failure(f"{shown_path(path)}: not a file that can be replaced")
     handle, beside = tempfile.mkstemp(dir=path.parent, prefix=f".{path.name}.")
     try:
         with open(handle, "w", encoding="utf-8", newline="\n") as file:
@@ -118,7 +118,7 @@ def _carry_out(arguments):
         else:
             _write(text, pathlib.Path(arguments.output))
     except OSError as error:
-        raise Failure(f"{shown(arguments.output or 'standard output')}: {error.strerror}") from error
+        raise Failure(f"{shown_path(arguments.output or 'standard output')}: {error.strerror}") from error
 
 
 def main(arguments=None):

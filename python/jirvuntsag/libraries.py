@@ -3,7 +3,7 @@ import ctypes
 import os
 import pathlib
 
-from .wording import shown
+from .wording import shown_path
 
 _HERE = pathlib.Path(__file__).resolve().parent
 
@@ -29,12 +29,12 @@ def load_library(name, variable, make, functions):
     """A library with its functions declared: of each its arguments and what it answers."""
     path, advice = library_path(name, variable), _ADVICE.format(make=make, variable=variable)
     if not path.is_file():
-        raise NoLibrary(f"no shared library at {shown(path)}: {advice}")
+        raise NoLibrary(f"no shared library at {shown_path(path)}: {advice}")
     try:
         library = ctypes.CDLL(str(path.resolve()))
         for function, (arguments, answer) in functions.items():
             declared = getattr(library, function)
             declared.argtypes, declared.restype = arguments, answer
     except (OSError, AttributeError) as error:
-        raise NoLibrary(f"{shown(path)} is not the library of this module ({error}): {advice}") from error
+        raise NoLibrary(f"{shown_path(path)} is not the library of this module ({error}): {advice}") from error
     return library

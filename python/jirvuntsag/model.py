@@ -13,7 +13,7 @@ from .run import Run
 from .shape import fields_of, shape_of
 from .states import Buffers, state_words
 from .vocabulary import Vocabulary
-from .wording import shown
+from .wording import shown_path
 
 
 class Model:
@@ -48,13 +48,13 @@ class Model:
         if not _is_text(content) and (content or path.suffix == ".image"):
             return cls(content, None if names is None else Names.load(names))
         if names is not None:
-            raise ValueError(f"{shown(path)} is a text, which has its own names: leave the names file out")
+            raise ValueError(f"{shown_path(path)} is a text, which has its own names: leave the names file out")
         try:
             return cls.from_text(content.decode("utf-8", "surrogateescape"))
         except NotPacked as error:
             raise NotPacked("\n".join(_in_file(path, line) for line in str(error).split("\n"))) from None
         except NoLibrary as error:
-            raise NoLibrary(f"{shown(path)} is a text, and without the packer only images are taken: {error}") from error
+            raise NoLibrary(f"{shown_path(path)} is a text, and without the packer only images are taken: {error}") from error
 
     @classmethod
     def from_text(cls, text):
@@ -200,7 +200,7 @@ class Model:
 
 def _in_file(path, told):
     """A fault with the file that it lies in; most begin with a line and a column."""
-    return f"{shown(path)}:{'' if told[:1].isdigit() else ' '}{told.lstrip()}"
+    return f"{shown_path(path)}:{'' if told[:1].isdigit() else ' '}{told.lstrip()}"
 
 
 def _opened(image):

@@ -11,7 +11,7 @@ import re
 from typing import Dict, NamedTuple, Tuple
 
 from .symbols import MOST_SYMBOLS, written_number
-from .wording import shown
+from .wording import shown, shown_path
 
 LARGEST_FILE = 16 * 1024 * 1024
 
@@ -45,7 +45,7 @@ class Names(NamedTuple):
                 raise BadNames(f"over {LARGEST_FILE:,} bytes, too large for names")
             return cls.parse(content.decode("utf-8"))
         except (BadNames, UnicodeDecodeError) as error:
-            raise BadNames(f"{shown(path)}: {error}") from error
+            raise BadNames(f"{shown_path(path)}: {error}") from error
 
     @classmethod
     def parse(cls, text):

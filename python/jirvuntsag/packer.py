@@ -8,7 +8,7 @@ from array import array
 from typing import NamedTuple
 
 from .libraries import NoLibrary, load_library
-from .wording import clean_lines
+from .wording import shown_lines
 
 VARIABLE = "JIRVUNTSAG_PACKER"
 INTERFACE = 1
@@ -81,7 +81,7 @@ def _parts(answer, count):
     try:
         error = part(0)
         if error:
-            raise NotPacked(clean_lines(error.decode("utf-8", "replace")))
+            raise NotPacked(shown_lines(error.decode("utf-8", "replace")))
         return [part(number) for number in range(1, count + 1)]
     finally:
         packer.jirvuntsag_packer_free(answer)

@@ -1,6 +1,8 @@
 """How what was handed in is repeated in an error: cut where it is long, and with nothing that a terminal would obey."""
 
 LONGEST = 60
+LONGEST_LINE = 300
+MOST_LINES = 50
 
 
 def shown(text, longest=LONGEST):
@@ -14,9 +16,21 @@ def shown(text, longest=LONGEST):
     return start if len(text) <= longest else f"{start}.. ({len(text):,} characters)"
 
 
-def clean_lines(text):
-    """A text of several lines with what cannot be printed escaped."""
-    return "\n".join("".join(map(_plain, line)) for line in text.split("\n"))
+def shown_path(path):
+    """The name of a file, to be repeated: most are longer than other names."""
+    return shown(path, LONGEST_LINE)
+
+
+def shown_lines(text):
+    """A text of several lines, to be repeated: each is cut and escaped, and of very many the first are taken.
+
+    >>> print(shown_lines("a\\x1b\\nb"))
+    a\\x1b
+    b
+    """
+    lines = text.rstrip("\n").split("\n")
+    more = [f"and {len(lines) - MOST_LINES:,} more lines"] if len(lines) > MOST_LINES else []
+    return "\n".join([shown(line, LONGEST_LINE) for line in lines[:MOST_LINES]] + more)
 
 
 def _plain(character):

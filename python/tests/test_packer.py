@@ -7,6 +7,7 @@ from array import array
 
 from jirvuntsag import Model, NotPacked, Refused, calls, packer
 from jirvuntsag.shape import fields_of, shape_of
+from jirvuntsag.wording import shown_lines
 
 from . import COUNTING, EXAMPLES
 from .test_vectors import cases, read_bytes
@@ -57,6 +58,18 @@ class Texts(unittest.TestCase):
         with self.assertRaises(NotPacked) as caught:
             Model.from_text("\x1b[2J\x07 goal")
         self.assertTrue(all(character.isprintable() or character == "\n" for character in str(caught.exception)))
+
+    def test_a_very_large_text_is_refused_in_few_words(self):
+        line = "fact t a 1\n"
+        texts = [line * 1_000_000, "x " * 4_000_000, "#" + "x" * 8_000_000, "symbol a = 1\n" * 500_000, "type t\n" * 500_000]
+        for text in texts:
+            with self.subTest(text=text[:12]), self.assertRaises(NotPacked) as caught:
+                Model.from_text(text)
+            self.assertLess(len(str(caught.exception)), 50_000)
+
+    def test_of_very_many_faults_the_first_are_told(self):
+        told = shown_lines("".join(f"{number}:1: wrong\n" for number in range(1_000))).split("\n")
+        self.assertEqual((len(told), told[-1]), (51, "and 950 more lines"))
 
     def test_any_damaged_text(self):
         chooser, packed = random.Random(5), 0
