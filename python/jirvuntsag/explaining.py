@@ -1,7 +1,9 @@
 """A run told in words: each step and what it changed, the buffers at the end, why it ended, why each rule does not match."""
+from .calls import small_number
 from .model import Model
 from .refusals import HALTED, MEANINGS, Refused
 from .run import Run
+from .wording import printable
 
 STEPS = 1000
 REQUEST = 1  # the kind of an action that asks for a fact
@@ -34,11 +36,12 @@ def explain(run, steps=STEPS):
     """
     if not isinstance(run, (Model, Run)):
         raise TypeError(f"a Model or a Run is explained, not a {type(run).__name__}")
-    run = run.open() if isinstance(run, Model) else run.copy()
+    run, steps = run.open() if isinstance(run, Model) else run.copy(), small_number(steps, "the steps asked")
     start = [f"at {run.clock:,} ms", *_held(run)]
     events, steps_told, number = _steps(run, steps)
     end = [_end(run, len(events), number), "", "The buffers then:", *_held(run), "", "The rules then:"]
-    return "\n".join([*start, *steps_told, "", *end, *_rules(run, {event.rule for event in events})]) + "\n"
+    lines = [*start, *steps_told, "", *end, *_rules(run, {event.rule for event in events})]
+    return "".join(f"{printable(line)}\n" for line in lines)
 
 
 def _steps(run, steps):

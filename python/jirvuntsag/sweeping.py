@@ -36,7 +36,7 @@ def sweep(items, make=None, *, steps=MOST_STEPS, events=False, executor=None, wo
     An item is a `Model`, a `Run` (which is not moved), or a pair of a Model and a dict that says what buffers hold instead.
     With `make` an item is anything, and `make(item)` gives one of these, in the worker.
 
-    `events`: False for none, True for all, or the names of rules whose firings are kept.
+    `events`: False for none, True for all, or the name or names of rules whose firings are kept.
     `executor`: anything with `submit` as in concurrent.futures; without one, as many threads as there are cores (`workers`).
     `progress`: None for a line if standard error is a terminal, True, False, or a function of how many are done, of how many.
     `rows`: a list that is filled as rows come. Handed in again, what is done in it is not done again.
@@ -52,7 +52,7 @@ def sweep(items, make=None, *, steps=MOST_STEPS, events=False, executor=None, wo
     [400, 850, 1350]
     """
     items, rows = list(items), [] if rows is None else rows
-    kept = events if isinstance(events, bool) else tuple(events)
+    kept = events if isinstance(events, bool) else (events,) if isinstance(events, str) else tuple(events)
     work = Work(items, make, small_number(steps, "the steps asked"), kept, rows)
     report, end = reporter(progress, "sweep")
     try:

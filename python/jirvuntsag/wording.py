@@ -12,8 +12,17 @@ def shown(text, longest=LONGEST):
     gaol a\\x1b[2Jb xxxxxxxxxxxxxxxxxxxxxxxxxxxxxxxxxxxxxxxxxxxxxxxxxxxxxxxxxxxx.. (1,000,000 characters)
     """
     text = text if isinstance(text, str) else str(text)
-    start = "".join(_plain(character) for character in text[:longest])
+    start = printable(text[:longest])
     return start if len(text) <= longest else f"{start}.. ({len(text):,} characters)"
+
+
+def printable(text):
+    """A text, whole, with what cannot be printed escaped.
+
+    >>> print(printable("a\\x1b[2Jb"))
+    a\\x1b[2Jb
+    """
+    return text if text.isprintable() else "".join(map(_plain, text))
 
 
 def shown_path(path):

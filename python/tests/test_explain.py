@@ -94,6 +94,15 @@ class Words(unittest.TestCase):
     def test_what_cannot_be_explained(self):
         with self.assertRaisesRegex(TypeError, "a Model or a Run is explained, not a str"):
             jv.explain("counting.model")
+        for steps, error in (None, TypeError), (-1, ValueError), (65_536, ValueError):
+            with self.assertRaisesRegex(error, "the steps asked"):
+                jv.explain(jv.Model.load(COUNTING), steps)
+
+    def test_names_that_a_terminal_would_obey(self):
+        names = COUNTING_NAMES.read_text(encoding="utf-8").replace("go-on", "go\\u001b[2Jon")
+        told = jv.explain(jv.Model(COUNTING.read_bytes(), jv.Names.parse(names)))
+        self.assertIn("at 200 ms  go\\x1b[2Jon has fired\n", told)
+        self.assertNotIn("\x1b", told)
 
 
 class Command(unittest.TestCase):

@@ -78,6 +78,9 @@ class Rows(unittest.TestCase):
         self.assertEqual([(row.number, row.made) for row in rows], [(0, 100), (9, 7), (8, 1)])
         self.assertEqual(rows[2].meaning, "the clock would pass 4,294,967,295")
 
+    def test_one_rule_may_be_named_alone(self):
+        self.assertEqual([str(event) for event in jv.sweep([MODEL], events="stop")[0].events], ["400 fire stop"])
+
     def test_events_of_a_long_run_are_all_there(self):
         (row,) = jv.sweep([jv.Model(FOREVER)], events=True)
         self.assertEqual([event.clock for event in row.events], [50 * (at + 1) for at in range(65_535)])
