@@ -27,28 +27,52 @@ retrieval is pending for another 100 ms
 What is refused is raised as `Refused`, with its number and what that means; what Python can tell by itself as ValueError or
 TypeError. Nothing is altered by a call that raises, but for the steps that a run has made before it is refused.
 """
-from .calls import NoLibrary
 from .drawing.timeline import timeline
+from .equations import base_level, failure_latency, latency, latency_factor, level, spread, strength
 from .events import Ended, Event
+from .explaining import explain
+from .libraries import NoLibrary
 from .matches import Match, Miss
 from .model import Model
 from .names import BadNames, Names
+from .packer import NotPacked
 from .refusals import MEANINGS, Refused
+from .rules import Fact, Rule
+from .rows import Row
 from .run import Run
 from .states import Buffer
+from .sweeping import SweepFailed, sweep
+from .symbols import symbol
+from .version import VERSION as __version__
 
 __all__ = [
     "BadNames",
     "Buffer",
     "Ended",
     "Event",
+    "Fact",
     "MEANINGS",
     "Match",
     "Miss",
     "Model",
     "Names",
     "NoLibrary",
+    "NotPacked",
     "Refused",
+    "Row",
+    "Rule",
     "Run",
+    "SweepFailed",
+    "__version__",
+    "base_level",
+    "explain",
+    "failure_latency",
+    "latency",
+    "latency_factor",
+    "level",
+    "spread",
+    "strength",
+    "sweep",
+    "symbol",
     "timeline",
 ]

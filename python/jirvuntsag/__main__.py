@@ -1,4 +1,4 @@
-"""Commands: `python3 -m jirvuntsag timeline MODEL.image` writes a picture of a run."""
+"""Commands: `python3 -m jirvuntsag explain MODEL` tells a run in words, `timeline MODEL` writes a picture of it."""
 import argparse
 import os
 import pathlib
@@ -8,9 +8,17 @@ import tempfile
 
 from .calls import MOST_STEPS
 from .drawing.timeline import NARROWEST, WIDEST, timeline
+from .explaining import STEPS, explain
 from .model import Model
 from .refusals import Refused
+from .version import VERSION
+from .wording import LONGEST_LINE, shown, shown_path
 
+PROGRAM = "python3 -m jirvuntsag"
+
+EXPLAIN = """\
+Runs a model from its opening and tells the run in words: each step and what it changed, the buffers at the end, why the run
+ended, and for each rule whether it matches then, or the first of its tests that does not hold."""
 TIMELINE = """\
 Runs a model from its opening and writes a timeline as SVG: the steps, and what each buffer holds, against the clock.
 Hatched bars are pending. Every bar says all that it stands for where a pointer rests on it."""
@@ -20,27 +28,39 @@ class Failure(Exception):
     """What is said to the user before the program ends."""
 
 
+class _Parser(argparse.ArgumentParser):
+    """A parser that repeats nothing whole that is long, and nothing that a terminal would obey."""
+
+    def error(self, message):
+        super().error(shown(message, LONGEST_LINE))
+
+
 def _number(least, most):
     """What reads an argument that must be a whole number in this range."""
 
     def read(text):
         if not (re.fullmatch("[0-9]{1,9}", text) and least <= int(text) <= most):
-            raise argparse.ArgumentTypeError(f"'{text}' is not a number from {least} to {most}")
+            raise argparse.ArgumentTypeError(f"'{shown(text)}' is not a number from {least} to {most}")
         return int(text)
 
     return read
 
 
 def _parser():
-    parser = argparse.ArgumentParser(prog="jirvuntsag", description="Commands on packed models.")
+    parser = _Parser(prog=PROGRAM, description="Commands on models, texts or packed images.")
+    parser.add_argument("--version", action="version", version=f"jirvuntsag for Python {VERSION}")
     commands = parser.add_subparsers(required=True, metavar="COMMAND")
-    command = commands.add_parser("timeline", help="write a picture of a run as SVG", description=TIMELINE)
-    command.add_argument("model", metavar="MODEL.image", help="the packed image")
-    command.add_argument("--names", metavar="FILE", help="the names file of the model; without it everything goes by its number")
-    command.add_argument("-o", "--output", metavar="FILE.svg", help="where to write; standard output if it is not given")
-    steps, width = _number(0, MOST_STEPS), _number(NARROWEST, 20_000)
-    command.add_argument("--steps", metavar="N", type=steps, default=1000, help="the most steps to make, 0 to 65535 (1000)")
-    command.add_argument("--width", metavar="PIXELS", type=width, default=WIDEST, help="the most pixels of the lanes (1600)")
+    told = commands.add_parser("explain", help="tell a run in words", description=EXPLAIN)
+    drawn = commands.add_parser("timeline", help="write a picture of a run as SVG", description=TIMELINE)
+    for command, work, result in (told, _tell, "FILE"), (drawn, _draw, "FILE.svg"):
+        command.set_defaults(work=work)
+        command.add_argument("model", metavar="MODEL", help="a text, or a packed image")
+        command.add_argument("--names", metavar="FILE", help="the names file of an image; without it all goes by numbers")
+        command.add_argument("-o", "--output", metavar=result, help="where to write; standard output if it is not given")
+        steps = {"type": _number(0, MOST_STEPS), "default": STEPS, "help": "the most steps to make, 0 to 65535 (1000)"}
+        command.add_argument("--steps", metavar="N", **steps)
+    width = {"type": _number(NARROWEST, 20_000), "default": WIDEST, "help": "the most pixels of the lanes (1600)"}
+    drawn.add_argument("--width", metavar="PIXELS", **width)
     return parser
 
 
@@ -49,9 +69,9 @@ def _load(model, names):
     try:
         return Model.load(model, names)
     except Refused as refused:
-        raise Failure(f"{model}: {refused}") from refused
+        raise Failure(f"{shown_path(model)}: {refused}") from refused
     except OSError as error:
-        raise Failure(f"{error.filename}: {error.strerror}" if error.filename else str(error)) from error
+        raise Failure(f"{shown_path(error.filename)}: {error.strerror}" if error.filename else str(error)) from error
     except ValueError as error:
         raise Failure(str(error)) from error
 
@@ -59,7 +79,7 @@ def _load(model, names):
 def _write(text, path):
     """Writes a file whole or not at all: beside its place first, and then there."""
     if path.exists() and not path.is_file():
-        raise Failure(f"{path}: not a file that can be replaced")
+        raise Failure(f"{shown_path(path)}: not a file that can be replaced")
     handle, beside = tempfile.mkstemp(dir=path.parent, prefix=f".{path.name}.")
     try:
         with open(handle, "w", encoding="utf-8", newline="\n") as file:
@@ -82,24 +102,31 @@ def _print(text):
         raise
 
 
-def _draw(arguments):
-    model = _load(arguments.model, arguments.names)
-    svg = timeline(model.open(), arguments.steps, pathlib.Path(arguments.model).name, arguments.width)
+def _draw(model, arguments):
+    return timeline(model.open(), arguments.steps, pathlib.Path(arguments.model).name, arguments.width)
+
+
+def _tell(model, arguments):
+    return explain(model, arguments.steps)
+
+
+def _carry_out(arguments):
+    text = arguments.work(_load(arguments.model, arguments.names), arguments)
     try:
         if arguments.output is None:
-            _print(svg)
+            _print(text)
         else:
-            _write(svg, pathlib.Path(arguments.output))
+            _write(text, pathlib.Path(arguments.output))
     except OSError as error:
-        raise Failure(f"{arguments.output or 'standard output'}: {error.strerror}") from error
+        raise Failure(f"{shown_path(arguments.output or 'standard output')}: {error.strerror}") from error
 
 
 def main(arguments=None):
     """Carries out a command: the exit status, 0 if all is well and 2 if not."""
     try:
-        _draw(_parser().parse_args(arguments))
+        _carry_out(_parser().parse_args(arguments))
     except Failure as failure:
-        print(f"jirvuntsag: {failure}", file=sys.stderr)
+        print(f"{PROGRAM}: {failure}", file=sys.stderr)
         return 2
     return 0
 

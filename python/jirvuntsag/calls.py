@@ -15,10 +15,10 @@ sees memory that Python could change or free meanwhile. An image is bytes, a sta
 import ctypes
 import functools
 import operator
-import os
-import pathlib
 from array import array
 from typing import NamedTuple
+
+from .libraries import load_library
 
 STATE_WORDS = 81
 EVENT_WORDS = 3
@@ -40,10 +40,6 @@ _ARGUMENTS = {
     "jirvuntsag_trace": _IMAGE + _STATE + _TABLE + [ctypes.c_uint16] + _EVENTS,
     "jirvuntsag_refresh": _IMAGE + _STATE + [ctypes.c_uint16] + _TABLE,
 }
-
-
-class NoLibrary(OSError):
-    """The shared library is not there, or is another one."""
 
 
 class Opened(NamedTuple):
@@ -81,26 +77,11 @@ class Refreshed(NamedTuple):
     table: array
 
 
-def library_path():
-    """Where the library is looked for: what JIRVUNTSAG_LIBRARY names, else target/lib of the clone that this file is in."""
-    named = os.environ.get(VARIABLE)
-    return pathlib.Path(named) if named else pathlib.Path(__file__).resolve().parents[2] / "target" / "lib" / "libjirvuntsag.so"
-
-
 @functools.lru_cache(maxsize=1)
 def _library():
     """The library, loaded once and with its functions declared."""
-    path = library_path()
-    if not path.is_file():
-        raise NoLibrary(f"no shared library at {path}: make it with `make lib`, or name it in {VARIABLE}")
-    try:
-        library = ctypes.CDLL(str(path.resolve()))
-        for name, arguments in _ARGUMENTS.items():
-            function = getattr(library, name)
-            function.argtypes, function.restype = arguments, ctypes.c_uint32
-    except (OSError, AttributeError) as error:
-        raise NoLibrary(f"{path} is not the library of this module ({error}): make it with `make lib`") from error
-    return library
+    functions = {name: (arguments, ctypes.c_uint32) for name, arguments in _ARGUMENTS.items()}
+    return load_library("libjirvuntsag.so", VARIABLE, "make lib", functions)
 
 
 def _image_of(image):

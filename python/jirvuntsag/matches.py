@@ -1,8 +1,8 @@
 """Rules that match, with the values of their variables, and why a rule does not match: that it does not is the table's word."""
 from typing import Dict, NamedTuple, Optional
 
-from .names import MOST_SYMBOLS
 from .states import Name, place
+from .symbols import MOST_SYMBOLS
 
 
 class Match(NamedTuple):

@@ -10,7 +10,10 @@ import pathlib
 import re
 from typing import Dict, NamedTuple, Tuple
 
-MOST_SYMBOLS = 4_096
+from .symbols import MOST_SYMBOLS, written_number
+from .wording import shown, shown_path
+
+LARGEST_FILE = 16 * 1024 * 1024
 
 
 class BadNames(ValueError):
@@ -35,10 +38,14 @@ class Names(NamedTuple):
     @classmethod
     def load(cls, path):
         """The names in a file."""
+        with pathlib.Path(path).open("rb") as file:
+            content = file.read(LARGEST_FILE + 1)
         try:
-            return cls.parse(pathlib.Path(path).read_text(encoding="utf-8"))
+            if len(content) > LARGEST_FILE:
+                raise BadNames(f"over {LARGEST_FILE:,} bytes, too large for names")
+            return cls.parse(content.decode("utf-8"))
         except (BadNames, UnicodeDecodeError) as error:
-            raise BadNames(f"{path}: {error}") from error
+            raise BadNames(f"{shown_path(path)}: {error}") from error
 
     @classmethod
     def parse(cls, text):
@@ -65,7 +72,7 @@ def _once(pairs):
     """A JSON object, whose members must differ in their names."""
     members = dict(pairs)
     if len(members) != len(pairs):
-        raise BadNames(f"a member stands twice among {', '.join(name for name, _ in pairs)}")
+        raise BadNames(f"a member stands twice among {shown(', '.join(name for name, _ in pairs))}")
     return members
 
 
@@ -90,7 +97,7 @@ def _texts(values, where):
     texts = {}
     for value in values:
         if _text(value, where) in texts:
-            raise BadNames(f"{where}: '{value}' stands twice")
+            raise BadNames(f"{where}: '{shown(value)}' stands twice")
         texts[value] = None
     return tuple(texts)
 
@@ -100,7 +107,7 @@ def _owners(values, where, parts):
         raise BadNames(f"{where}: a list is expected")
     names = _texts([_member(value, "name") for value in values], where)
     lists = [_member(value, parts) for value in values]
-    return tuple(Owner(name, _texts(texts, f"{where}, {parts} of '{name}'")) for name, texts in zip(names, lists))
+    return tuple(Owner(name, _texts(texts, f"{where}, {parts} of '{shown(name)}'")) for name, texts in zip(names, lists))
 
 
 def _symbols(values):
@@ -108,6 +115,9 @@ def _symbols(values):
         raise BadNames("symbols: an object is expected")
     for key in values:
         if not (re.fullmatch("0|[1-9][0-9]{0,3}", key) and int(key) < MOST_SYMBOLS):
-            raise BadNames(f"symbols: '{key}' is no symbol number, 0 to 4095")
-    names = _texts(list(values.values()), "symbols")
-    return {int(key): name for key, name in zip(values, names)}
+            raise BadNames(f"symbols: '{shown(key)}' is no symbol number, 0 to 4095")
+    names = dict(zip(map(int, values), _texts(list(values.values()), "symbols")))
+    for number, name in names.items():
+        if written_number(name) not in (None, number):
+            raise BadNames(f"symbols: '{name}' would name symbol {number}, and stands for symbol {name[1:]}")
+    return names

@@ -32,7 +32,7 @@ def record(run, steps):
     >>> from jirvuntsag import Model
     >>> recording = record(Model.load("examples/counting.image").open(), 2)
     >>> [(span.start, span.end, str(span.buffer)) for span in recording.lanes[1]]
-    [(0, 50, '0'), (50, 150, '1 0=1 1=2 in 100 ms'), (150, None, '1 0=1 1=2')]
+    [(0, 50, '0'), (50, 150, '1 0=#1 1=#2 in 100 ms'), (150, None, '1 0=#1 1=#2')]
     """
     if not isinstance(run, Run):
         raise TypeError(f"a Run is recorded, not a {type(run).__name__}")

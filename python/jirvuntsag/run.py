@@ -1,6 +1,8 @@
 """A run of a model: a state with its table, which moves on by steps."""
+import functools
 import itertools
 import operator
+import threading
 from array import array
 
 from . import calls
@@ -10,6 +12,19 @@ from .refusals import HALTED, Refused
 from .states import Buffer, Buffers, buffer_words, clock_of, place, state_from, state_words
 
 ENTRY_WORDS = 9
+# a run is traced in pieces: the first is short, since most runs are, and the others keep what is laid out for events small
+FIRST_PIECE, LARGEST_PIECE = 64, 4_096
+
+
+def _alone(method):
+    """A method that has its run for itself: a second thread waits until it is done."""
+
+    @functools.wraps(method)
+    def locked(run, *arguments, **named):
+        with run._lock:
+            return method(run, *arguments, **named)
+
+    return locked
 
 
 class Run:
@@ -17,6 +32,9 @@ class Run:
 
     A model that halts is no error: `step` gives None, `steps` ends, `run` says 9. A clock that would pass its largest is
     one: `Refused`, by 8, after the steps that could be made.
+
+    Threads may share a run: each call has it for itself, and the others wait. What two of them do with it in several calls
+    goes in any order, so that a run of its own (`copy`) is what a thread mostly wants. A model is never written to.
 
     >>> from jirvuntsag import Model
     >>> run = Model.load("examples/counting.image").open()
@@ -33,6 +51,11 @@ class Run:
         self._model = model
         # the two arrays are replaced, both at once, and never written to: they always fit, and copies may share them
         self._kept = array("I", state), array("H", table)
+        self._lock = threading.RLock()
+
+    def __reduce__(self):
+        """How a run is copied and kept by `copy` and `pickle`: without its lock, which a copy has of its own."""
+        return Run, (self._model, *self._kept)
 
     @property
     def model(self):
@@ -45,6 +68,7 @@ class Run:
         return self._kept[0][0]
 
     @clock.setter
+    @_alone
     def clock(self, clock):
         self._move_to([clock_of(clock), *self.words[1:]])
 
@@ -57,6 +81,11 @@ class Run:
     def words(self):
         """The state as 81 words: the clock, then type, eight slots and delay of each of eight buffers."""
         return tuple(self._kept[0])
+
+    @property
+    def start(self):
+        """The words that a run from here begins with: an array that must not be written to."""
+        return self._kept[0]
 
     @property
     def state(self):
@@ -75,6 +104,7 @@ class Run:
         return state_from(self._kept[0], self._model.vocabulary)
 
     @state.setter
+    @_alone
     def state(self, state):
         self._move_to(state_words(state, self._model.vocabulary))
 
@@ -84,6 +114,7 @@ class Run:
         table = self._kept[1]
         return [tuple(table[start : start + ENTRY_WORDS]) for start in range(0, len(table), ENTRY_WORDS)]
 
+    @_alone
     def put(self, buffer, type, slots=None, delay=0):
         """Puts a chunk into a buffer from outside. Slots that are not named hold nil.
 
@@ -91,7 +122,7 @@ class Run:
         >>> run = Model.load("examples/counting.image").open()
         >>> run.put(0, 2, {0: 2, 1: 3})
         >>> print(run.buffers[0])
-        2 0=2 1=3
+        2 0=#2 1=#3
         """
         number = self._model.vocabulary.buffers.number(buffer)
         chunk = Buffer(type, {} if slots is None else slots, delay)
@@ -110,7 +141,7 @@ class Run:
 
         >>> from jirvuntsag import Model
         >>> Model.load("examples/counting.image").open().matching()
-        [Match(rule=0, name=0, utility=0, values={0: 1})]
+        [Match(rule=0, name=0, utility=0, values={0: #1})]
         """
         entries = enumerate(self.table)
         return [self._match(rule, entry[1:]) for rule, entry in entries if entry[0] == 1]
@@ -121,7 +152,7 @@ class Run:
         >>> from jirvuntsag import Model
         >>> run = Model.load("examples/counting.image").open()
         >>> print(run.why_not(2))
-        slot 1 of buffer 0 is 3, not 1
+        slot 1 of buffer 0 is #3, not #1
         >>> print(run.why_not(0))
         None
         """
@@ -148,17 +179,40 @@ class Run:
         events = (self.step() for _ in numbers)
         return itertools.takewhile(lambda event: event is not None, events)
 
-    def run(self, steps=calls.MOST_STEPS):
-        """Makes at most so many steps, 65,535 at once at the most: how it ended."""
-        traced = calls.trace_steps(self._model.image, *self._kept, steps)
-        self._kept = traced.state, traced.table
-        starts = range(0, len(traced.events), calls.EVENT_WORDS)
-        rules = self._model.vocabulary.rules
-        events = [event_from(traced.events[start : start + calls.EVENT_WORDS], rules) for start in starts]
-        if traced.number not in (0, HALTED):
-            raise Refused(traced.number, traced.made, events)
-        return Ended(traced.number, traced.made, events)
+    @_alone
+    def run(self, steps=calls.MOST_STEPS, events=True):
+        """Makes at most so many steps, 65,535 at once at the most: how it ended. Without `events` none are told.
 
+        >>> from jirvuntsag import Model
+        >>> run = Model.load("examples/counting.image").open()
+        >>> run.run(events=False)
+        Ended(number=9, made=7, events=[])
+        """
+        steps = calls.small_number(steps, "the steps asked")
+        number, made, told = self._traced(steps) if events else self._made(steps)
+        if number not in (0, HALTED):
+            raise Refused(number, made, told)
+        return Ended(number, made, told)
+
+    def _made(self, steps):
+        """Makes steps and tells none."""
+        ran = calls.run_steps(self._model.image, *self._kept, steps)
+        self._kept = ran.state, ran.table
+        return ran.number, ran.made, []
+
+    def _traced(self, steps):
+        """Makes steps piece by piece and tells all: the number of the last piece is the run's."""
+        rules, events, piece = self._model.vocabulary.rules, [], FIRST_PIECE
+        while True:
+            traced = calls.trace_steps(self._model.image, *self._kept, min(piece, steps - len(events)))
+            self._kept = traced.state, traced.table
+            starts = range(0, len(traced.events), calls.EVENT_WORDS)
+            events += [event_from(traced.events[start : start + calls.EVENT_WORDS], rules) for start in starts]
+            if traced.number or len(events) == steps:
+                return traced.number, len(events), events
+            piece = min(4 * piece, LARGEST_PIECE)
+
+    @_alone
     def until(self, clock):
         """Makes steps while the clock is below `clock`: how it ended, 0 if the clock has got there.
 

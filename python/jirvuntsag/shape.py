@@ -1,4 +1,4 @@
-"""What states and tables do not tell of an accepted image: its buffers, the slots of each type, the tests of each rule."""
+"""An accepted image as plain data, by numbers: its types, what its buffers open with, its facts and its rules."""
 from typing import NamedTuple, Tuple
 
 
@@ -10,20 +10,52 @@ class Test(NamedTuple):
     terms: Tuple[Tuple[int, int], ...]
 
 
+class Action(NamedTuple):
+    """An action: its buffer, its kind (0 modifies, 1 requests, 2 clears), the type that a request names, its terms."""
+
+    buffer: int
+    kind: int
+    type: int
+    terms: Tuple[Tuple[int, int], ...]
+
+
 class RuleShape(NamedTuple):
-    """A rule's utility, in thousandths, how many variables it has, and its tests."""
+    """A rule's utility, in thousandths, how many variables it has, its tests and its actions."""
 
     utility: int
     variables: int
     tests: Tuple[Test, ...]
+    actions: Tuple[Action, ...]
+
+
+class Chunk(NamedTuple):
+    """A type, and a symbol for each of its slots."""
+
+    type: int
+    values: Tuple[int, ...]
+
+
+class FactShape(NamedTuple):
+    """A fact."""
+
+    chunk: Chunk
+    activation: int
+    latency: int
 
 
 class Shape(NamedTuple):
-    """The counts of an image; `slots` has one for each type from 0 on."""
+    """All of an image; `slots` has a count for each type from 0 on."""
 
-    buffers: int
+    failure: int
     slots: Tuple[int, ...]
+    opening: Tuple[Chunk, ...]
+    facts: Tuple[FactShape, ...]
     rules: Tuple[RuleShape, ...]
+
+    @property
+    def buffers(self):
+        """How many buffers there are."""
+        return len(self.opening)
 
 
 class _Fields:
@@ -31,9 +63,6 @@ class _Fields:
 
     def __init__(self, image):
         self.image, self.at = image, 0
-
-    def skip(self, width):
-        self.at += width
 
     def take(self, width):
         """A field of at most 16 bits: three bytes hold it."""
@@ -47,38 +76,66 @@ class _Fields:
         mask = self.take(8)
         return tuple((slot, self.take(13)) for slot in range(8) if mask >> 7 - slot & 1)
 
+    def chunk(self, slots):
+        """A type, and a symbol of 12 bits for each slot that it has."""
+        isa = self.take(6)
+        return Chunk(isa, tuple(self.take(12) for _ in range(slots[isa])))
+
 
 def _rule(fields):
     utility = fields.take(16)
     count, actions, variables = fields.take(4), fields.take(4), fields.take(4)
     tests = tuple(Test(fields.take(3), fields.take(6), fields.terms()) for _ in range(count))
-    for _ in range(actions):
-        fields.skip(3)
-        _skip_deed(fields, fields.take(2))
-    return RuleShape(utility - 65_536 if utility > 32_767 else utility, variables, tests)
+    deeds = tuple(_action(fields) for _ in range(actions))
+    return RuleShape(utility - 65_536 if utility > 32_767 else utility, variables, tests, deeds)
 
 
-def _skip_deed(fields, kind):
-    """What follows an action's kind: a modify has terms, a request a type and terms, a clear nothing."""
-    if kind == 1:
-        fields.skip(6)
-    if kind < 2:
-        fields.terms()
+def _action(fields):
+    """A buffer and a kind; then a modification has terms, a request a type and terms, a clearing nothing."""
+    buffer, kind = fields.take(3), fields.take(2)
+    isa = fields.take(6) if kind == 1 else 0
+    return Action(buffer, kind, isa, fields.terms() if kind < 2 else ())
 
 
 def shape_of(image):
     """The shape of an image that the library has accepted; of any other it says nothing.
 
     >>> shape_of(bytes.fromhex("0110000000000000"))
-    Shape(buffers=1, slots=(0,), rules=())
+    Shape(failure=0, slots=(0,), opening=(Chunk(type=0, values=()),), facts=(), rules=())
     """
     fields = _Fields(image)
-    fields.skip(8)
-    buffers, types, rules, facts = (fields.take(width) for width in (4, 6, 9, 10))
-    fields.skip(16)
+    _, buffers, types, rules, facts, failure = (fields.take(width) for width in (8, 4, 6, 9, 10, 16))
     slots = (0, *(fields.take(4) for _ in range(types)))
-    for _ in range(buffers):
-        fields.skip(12 * slots[fields.take(6)])
-    for _ in range(facts):
-        fields.skip(12 * slots[fields.take(6)] + 32)
-    return Shape(buffers, slots, tuple(_rule(fields) for _ in range(rules)))
+    opening = tuple(fields.chunk(slots) for _ in range(buffers))
+    known = tuple(FactShape(fields.chunk(slots), fields.take(16), fields.take(16)) for _ in range(facts))
+    return Shape(failure, slots, opening, known, tuple(_rule(fields) for _ in range(rules)))
+
+
+def fields_of(shape):
+    """The fields of an image in their order, one number each, for the packer.
+
+    >>> fields_of(shape_of(bytes.fromhex("0110000000000000")))
+    [1, 1, 0, 0, 0, 0, 0]
+    """
+    fields = [1, shape.buffers, len(shape.slots) - 1, len(shape.rules), len(shape.facts), shape.failure, *shape.slots[1:]]
+    for chunk in shape.opening:
+        fields += [chunk.type, *chunk.values]
+    for fact in shape.facts:
+        fields += [fact.chunk.type, *fact.chunk.values, fact.activation, fact.latency]
+    for rule in shape.rules:
+        fields += [rule.utility % 65_536, len(rule.tests), len(rule.actions), rule.variables]
+        for test in rule.tests:
+            fields += [test.buffer, test.type, *_terms_fields(test.terms)]
+        for action in rule.actions:
+            fields += _action_fields(action)
+    return fields
+
+
+def _terms_fields(terms):
+    return [sum(128 >> slot for slot, _ in terms), *(term for _, term in terms)]
+
+
+def _action_fields(action):
+    isa = [action.type] if action.kind == 1 else []
+    terms = _terms_fields(action.terms) if action.kind < 2 else []
+    return [action.buffer, action.kind, *isa, *terms]

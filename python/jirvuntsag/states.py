@@ -8,6 +8,7 @@ from collections.abc import Mapping
 from typing import Dict, NamedTuple, Union
 
 from .calls import STATE_WORDS, small_number
+from .wording import shown
 
 BUFFER_WORDS = 10
 MOST_SLOTS = 8
@@ -80,21 +81,33 @@ class Buffers(Mapping):
         return "{" + ", ".join(f"{name}: {buffer}" for name, buffer in self.items()) + "}"
 
 
-def buffer_words(buffer, vocabulary):
-    """The ten words of a buffer. A slot that is not named holds nil."""
-    isa = vocabulary.types.number(buffer.type)
+def chunk_words(type_name, slots, vocabulary):
+    """The nine words of a chunk, its type and eight slots. A slot that is not named holds nil."""
+    isa = vocabulary.types.number(type_name)
     values = [0] * MOST_SLOTS
-    if not isinstance(buffer.slots, dict):
-        raise TypeError(f"slots are given as a dict, not as {type(buffer.slots).__name__}")
-    for slot, value in buffer.slots.items():
+    if not isinstance(slots, dict):
+        raise TypeError(f"slots are given as a dict, not as {type(slots).__name__}")
+    for slot, value in slots.items():
         values[vocabulary.slots[isa].number(slot)] = vocabulary.symbols.number(value)
-    return array("I", [isa, *values, small_number(buffer.delay, "a delay")])
+    return isa, *values
+
+
+def buffer_words(buffer, vocabulary):
+    """The ten words of a buffer."""
+    return array("I", [*chunk_words(buffer.type, buffer.slots, vocabulary), small_number(buffer.delay, "a delay")])
 
 
 def state_from(words, vocabulary):
     """A well-formed state as plain data."""
-    buffers = {name: buffer_from(words, number, vocabulary)._asdict() for number, name in enumerate(vocabulary.buffers)}
+    buffers = {name: _plain(words, number, vocabulary) for number, name in enumerate(vocabulary.buffers)}
     return {"clock": words[0], "buffers": buffers}
+
+
+def _plain(words, number, vocabulary):
+    """A buffer as plain data: a symbol without a name is written so that it is the same symbol when it is read again."""
+    isa, *slots, delay = words[place(number)]
+    named = {slot: vocabulary.symbols.plain(value) for slot, value in zip(vocabulary.slots[isa], slots)}
+    return {"type": vocabulary.types.name(isa), "slots": named, "delay": delay}
 
 
 def state_words(state, vocabulary):
@@ -105,10 +118,18 @@ def state_words(state, vocabulary):
     if not isinstance(state["buffers"], dict):
         raise TypeError(f"the buffers of a state are given as a dict, not as {type(state['buffers']).__name__}")
     for name, members in state["buffers"].items():
-        _check_members(members, f"buffer {name!r}", {"type"}, {"type", "slots", "delay"})
-        buffer = Buffer(members["type"], members.get("slots", {}), members.get("delay", 0))
-        words[place(vocabulary.buffers.number(name))] = buffer_words(buffer, vocabulary)
+        words[place(vocabulary.buffers.number(name))] = buffer_words(buffer_of(name, members), vocabulary)
     return words
+
+
+def buffer_of(name, members):
+    """What is said of a buffer: a `Buffer`, plain data, or None for nil."""
+    if members is None:
+        return Buffer(0, {})
+    if isinstance(members, Buffer):
+        return members
+    _check_members(members, f"buffer '{shown(name)}'", {"type"}, {"type", "slots", "delay"})
+    return Buffer(members["type"], members.get("slots", {}), members.get("delay", 0))
 
 
 def clock_of(clock):
@@ -127,4 +148,4 @@ def _check_members(members, what, needed, known):
         raise ValueError(f"{what} lacks '{name}'")
     for name in members:
         if name not in known:
-            raise ValueError(f"{what} has no '{name}'; it has {', '.join(sorted(known))}")
+            raise ValueError(f"{what} has no '{shown(name)}'; it has {', '.join(sorted(known))}")

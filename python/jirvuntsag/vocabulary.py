@@ -3,7 +3,9 @@ import difflib
 import operator
 import re
 
-from .names import MOST_SYMBOLS, BadNames
+from .names import BadNames
+from .symbols import MOST_SYMBOLS, Symbol, symbol, written_number
+from .wording import LONGEST, shown
 
 
 class Series:
@@ -45,7 +47,8 @@ class Series:
         except TypeError:
             raise TypeError(f"a {self.what} is given by its name or number, not by {type(key).__name__}") from None
         if not 0 <= number < self.count:
-            raise ValueError(f"there is no {self.what} {number}: there are {self.count}, numbered from 0")
+            called = number if abs(number) < 10**LONGEST else "of so large a number"
+            raise ValueError(f"there is no {self.what} {called}: there are {self.count:,}, numbered from 0")
         return number
 
     def _named(self, name):
@@ -53,8 +56,64 @@ class Series:
             return self._numbers[name]
         if not self._names and re.fullmatch("[0-9]{1,5}", name):
             return self.number(int(name))
-        near = difflib.get_close_matches(name, self._numbers, 1)
-        raise ValueError(f"no {self.what} is named '{name}'" + (f"; is it '{near[0]}'?" if near else ""))
+        raise ValueError(f"no {self.what} is named '{shown(name)}'" + self._guess(name))
+
+    def _guess(self, name):
+        """The name that is nearest to one that is none. A number is near to no other, and a long text is no slip."""
+        words = [word for word in self._numbers if not word.isdigit()]
+        near = [] if name.isdigit() or len(name) > LONGEST else difflib.get_close_matches(name, words, 1)
+        return f"; is it '{shown(near[0])}'?" if near else ""
+
+
+class Symbols(Series):
+    """The symbols. Where some have names, a whole number is a name like others: 4 is the symbol that is called 4.
+
+    >>> symbols = Symbols({0: "nil", 1: "4"})
+    >>> symbols.number(4), symbols.number(symbol(4)), symbols.number("#4"), symbols.name(4)
+    (1, 4, 4, #4)
+    >>> symbols.number(5)
+    Traceback (most recent call last):
+    ValueError: no symbol is named '5'; the symbol of number 5 is jv.symbol(5)
+    """
+
+    def __init__(self, names):
+        super().__init__("symbol", MOST_SYMBOLS, names)
+
+    def name(self, number):
+        """The name of a number; a `Symbol` if it has none."""
+        return self._names.get(number, Symbol(number))
+
+    def plain(self, number):
+        """As `name`, in a form that JSON keeps: where others have names, a symbol without one is written `#4`."""
+        return self._names.get(number, f"#{number}" if self._names else number)
+
+    def number(self, key):
+        """The number that a name, a symbol or, where nothing has a name, a number stands for."""
+        if isinstance(key, str) or not self._names:
+            return super().number(key)
+        if isinstance(key, Symbol):
+            return int(symbol(key))
+        try:
+            if isinstance(key, bool):
+                raise TypeError
+            key = operator.index(key)
+        except TypeError:
+            raise TypeError(f"a symbol is given by its name or by jv.symbol, not by {type(key).__name__}") from None
+        return self._called(key)
+
+    def _called(self, number):
+        """The symbol that is called by a number."""
+        if not abs(number) < 10**LONGEST:
+            raise ValueError("no symbol is named by so large a number")
+        name = str(number)
+        if name not in self._numbers:
+            advice = f"; the symbol of number {name} is jv.symbol({name})" if 0 <= number < MOST_SYMBOLS else ""
+            raise ValueError(f"no symbol is named '{name}'{advice}")
+        return self._numbers[name]
+
+    def _named(self, name):
+        written = None if name in self._numbers else written_number(name)
+        return super()._named(name) if written is None else written
 
 
 class Vocabulary:
@@ -66,7 +125,7 @@ class Vocabulary:
         types = names.types if names else [None] * len(shape.slots)
         rules = names.rules if names else [None] * len(shape.rules)
         self.buffers = Series("buffer", shape.buffers, enumerate(names.buffers if names else ()))
-        self.symbols = Series("symbol", MOST_SYMBOLS, names.symbols if names else {})
+        self.symbols = Symbols(names.symbols if names else {})
         self.types, self.slots = _owners("type", "slot", types, shape.slots)
         self.rules, self.variables = _owners("rule", "variable", rules, [rule.variables for rule in shape.rules])
 
@@ -75,7 +134,7 @@ def _owners(what, part, owners, counts):
     """The series of owners, and for each one that of its parts."""
     series = Series(what, len(counts), ((number, owner.name) for number, owner in enumerate(owners) if owner))
     parts = [
-        Series(f"{part} of {series.text(number)}", count, enumerate(owner.parts if owner else ()))
+        Series(f"{part} of {shown(series.text(number))}", count, enumerate(owner.parts if owner else ()))
         for number, (owner, count) in enumerate(zip(owners, counts))
     ]
     return series, parts
@@ -87,9 +146,9 @@ def _check_fit(shape, names):
     _check_count("types", names.types, len(shape.slots))
     _check_count("rules", names.rules, len(shape.rules))
     for owner, count in zip(names.types, shape.slots):
-        _check_count(f"slots of '{owner.name}'", owner.parts, count)
+        _check_count(f"slots of '{shown(owner.name)}'", owner.parts, count)
     for owner, rule in zip(names.rules, shape.rules):
-        _check_count(f"variables of '{owner.name}'", owner.parts, rule.variables)
+        _check_count(f"variables of '{shown(owner.name)}'", owner.parts, rule.variables)
 
 
 def _check_count(what, names, count):

@@ -1,8 +1,9 @@
 """Whatever is handed in, what comes back is an answer or an error with words, and nothing is altered by what was refused."""
+import json
 import random
 import unittest
 
-from jirvuntsag import Model, Refused, calls
+from jirvuntsag import Model, Names, Refused, calls
 
 from . import COUNTING, COUNTING_NAMES
 
@@ -99,7 +100,19 @@ class BadStates(unittest.TestCase):
         self.refused(ValueError, "no type is named 'counts'; is it 'count'", "goal", "counts")
         self.refused(ValueError, "no slot of count is named 'curent'; is it 'current'", "goal", "count", {"curent": 1})
         self.refused(ValueError, "no symbol is named 'seven'", "goal", "count", {"current": "seven"})
-        self.refused(ValueError, "there is no symbol 4096", "goal", "count", {"current": 4096})
+        self.refused(ValueError, "no symbol is named '4096'$", "goal", "count", {"current": 4096})
+
+    def test_what_is_repeated_is_cut_and_escaped(self):
+        long, rude = "x" * 1_000_000, "go\x1b[2J\x07al"
+        for name, words in (long, r"xxx\.\. \(1,000,000 characters\)'"), (rude, r"'go\\x1b\[2J\\x07al'"):
+            self.refused(ValueError, words, name, "count")
+            self.refused(ValueError, words, "goal", name)
+            self.refused(ValueError, words, "goal", "count", {name: 1})
+            self.refused(ValueError, words, "goal", "count", {"current": name})
+            with self.assertRaisesRegex(ValueError, words):
+                self.run_.state = {"clock": 0, "buffers": {}, name: 1}
+            with self.assertRaisesRegex(ValueError, words):
+                Names.parse('{"buffers": ["N", "N"], "types": [], "symbols": {}, "rules": []}'.replace("N", json.dumps(name)[1:-1]))
 
     def test_things_of_another_type(self):
         self.refused(TypeError, "a buffer is given by its name or number", None, "count")

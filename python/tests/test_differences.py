@@ -91,7 +91,7 @@ class Timing(unittest.TestCase):
     def test_a_requested_buffer_holds_the_fact_at_once(self):
         run = run_of((1, 5, 0), (1, 8, 8), facts=[((1, 5, 5), 0, 70)], rules=[ASK])
         run.step()
-        self.assertEqual(str(run.buffers[1]), "1 0=5 1=5 in 70 ms")
+        self.assertEqual(str(run.buffers[1]), "1 0=#5 1=#5 in 70 ms")
 
 
 class Choosing(unittest.TestCase):

@@ -6,6 +6,8 @@ import sys
 import tempfile
 import unittest
 
+from jirvuntsag.libraries import library_path
+
 from . import COUNTING, ROOT
 
 PROGRAM = """\
@@ -20,16 +22,17 @@ except jirvuntsag.NoLibrary as error:
 class Library(unittest.TestCase):
     """Each in an interpreter of its own, since a library is loaded once."""
 
-    def said(self, library):
-        """What is said where JIRVUNTSAG_LIBRARY is this path."""
-        environment = {**os.environ, "JIRVUNTSAG_LIBRARY": str(library), "PYTHONPATH": str(ROOT / "python")}
-        command = [sys.executable, "-c", PROGRAM, str(COUNTING)]
+    def said(self, library, variable="JIRVUNTSAG_LIBRARY", model=COUNTING):
+        """What is said where the library, or the packer, is at this path."""
+        environment = {**os.environ, variable: str(library), "PYTHONPATH": str(ROOT / "python")}
+        command = [sys.executable, "-c", PROGRAM, str(model)]
         return subprocess.run(command, env=environment, capture_output=True, text=True, check=True).stdout
 
     def test_a_library_that_is_not_there(self):
         said = self.said("no/such/library.so")
         self.assertIn("no shared library at no/such/library.so", said)
         self.assertIn("make lib", said)
+        self.assertIn("make wheel", said)
 
     def test_a_file_that_is_no_library(self):
         with tempfile.TemporaryDirectory() as folder:
@@ -38,3 +41,16 @@ class Library(unittest.TestCase):
             said = self.said(path)
         self.assertIn("is not the library of this module", said)
         self.assertIn("make lib", said)
+
+    def test_a_text_without_the_packer(self):
+        said = self.said("no/packer.so", "JIRVUNTSAG_PACKER", COUNTING.with_suffix(".model"))
+        self.assertIn("counting.model is a text, and without the packer only images are taken", said)
+        self.assertIn("tools/wheel --libraries", said)
+
+    def test_an_image_needs_no_packer(self):
+        self.assertEqual(self.said("no/packer.so", "JIRVUNTSAG_PACKER"), "")
+
+    def test_another_library_in_the_packers_place(self):
+        other = library_path("libjirvuntsag.so", "JIRVUNTSAG_LIBRARY")
+        said = self.said(other, "JIRVUNTSAG_PACKER", COUNTING.with_suffix(".model"))
+        self.assertIn("is not the library of this module", said)

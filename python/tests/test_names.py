@@ -5,7 +5,7 @@ import pathlib
 import tempfile
 import unittest
 
-from jirvuntsag import BadNames, Model, Names
+from jirvuntsag import BadNames, Model, Names, symbol
 
 from . import COUNTING, COUNTING_NAMES
 
@@ -31,9 +31,9 @@ class NamesFiles(unittest.TestCase):
     def test_symbols_without_a_name_keep_their_numbers(self):
         self.good["symbols"] = {"0": "nil", "1": "one"}
         run = Model(self.image, Names.parse(json.dumps(self.good))).open()
-        self.assertEqual(run.buffers["goal"].slots, {"current": "one", "target": 3})
-        run.put("goal", "count", {"current": 3, "target": "one"})
-        self.assertEqual(run.buffers["goal"].slots, {"current": 3, "target": "one"})
+        self.assertEqual(run.buffers["goal"].slots, {"current": "one", "target": symbol(3)})
+        run.put("goal", "count", {"current": symbol(3), "target": "one"})
+        self.assertEqual(run.buffers["goal"].slots, {"current": symbol(3), "target": "one"})
 
     def test_members_that_are_missing(self):
         for member in "buffers", "types", "symbols", "rules":
@@ -52,6 +52,7 @@ class NamesFiles(unittest.TestCase):
     def test_names_that_stand_twice(self):
         self.refused("buffers: 'goal' stands twice", lambda names: names.update(buffers=["goal", "goal"]))
         self.refused("symbols: 'nil' stands twice", lambda names: names["symbols"].update({"4": "nil"}))
+        self.refused("'#5' would name symbol 4", lambda names: names["symbols"].update({"4": "#5"}))
         self.refused("slots of 'count': 'current' stands twice", lambda names: names["types"][2].update(slots=["current"] * 2))
 
     def test_names_of_another_image(self):

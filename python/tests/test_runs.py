@@ -2,11 +2,18 @@
 import concurrent.futures
 import copy
 import json
+import pickle
 import unittest
+import unittest.mock
 
-from jirvuntsag import Buffer, Model, Refused
+from jirvuntsag import Buffer, Model, Refused, calls
 
 from . import COUNT_FROM, COUNT_FROM_NAMES, COUNTING, COUNTING_NAMES
+from .packing import Rule, pack
+
+TRACE = calls.trace_steps
+# a rule that always matches: it runs for ever
+FOREVER = pack([1], [(1, 1)], rules=[Rule([(0, 1, {})], [(0, "modify", {0: 2})])])
 
 LINES = ["50 fire start", "150 wait 100", "200 fire go-on", "300 wait 100", "350 fire go-on", "400 fire stop", "550 wait 150"]
 
@@ -129,6 +136,58 @@ class Runs(unittest.TestCase):
         with concurrent.futures.ThreadPoolExecutor(4) as threads:
             self.assertEqual([*threads.map(work, range(4))], [None] * 4)
         self.assertEqual(self.run_.table, self.fresh_table())
+
+    def test_four_threads_lose_no_step(self):
+        run = Model(FOREVER).open()
+
+        def work(_):
+            return sum(run.run(3, events=False).made + (run.step() is not None) for _ in range(500))
+
+        with concurrent.futures.ThreadPoolExecutor(4) as threads:
+            made = sum(threads.map(work, range(4)))
+        self.assertEqual((made, run.clock), (4 * 500 * 4, 50 * 4 * 500 * 4))
+
+    def test_a_run_can_be_kept_by_pickle(self):
+        self.run_.run(3)
+        again = pickle.loads(pickle.dumps(self.run_))
+        self.assertEqual((again.words, again.table, again.run()), (self.run_.words, self.run_.table, self.run_.run()))
+
+    def test_a_run_in_pieces_is_the_run(self):
+        for steps in 0, 1, 63, 64, 65, 319, 320, 321, 10_000, 65_535:
+            whole = calls.trace_steps(FOREVER, *Model(FOREVER).open()._kept, steps)
+            run = Model(FOREVER).open()
+            ended = run.run(steps)
+            self.assertEqual((ended.number, ended.made, list(run._kept)), (0, steps, [whole.state, whole.table]))
+            self.assertEqual([event.clock for event in ended.events], list(whole.events[::3]))
+
+    def test_a_run_without_events_is_the_run(self):
+        told, untold = self.run_.copy(), self.run_.copy()
+        ended, other = told.run(), untold.run(events=False)
+        self.assertEqual((other.number, other.made, other.events), (ended.number, ended.made, []))
+        self.assertEqual(untold.words, told.words)
+        untold.clock = 0xFFFF_FFFF
+        untold.put("goal", "count", {"current": 1, "target": 3})
+        with self.assertRaises(Refused) as caught:
+            untold.run(events=False)
+        self.assertEqual((caught.exception.number, caught.exception.events), (8, []))
+
+    def test_a_run_lays_out_no_more_than_it_needs(self):
+        asked = []
+
+        def trace(*given):
+            asked.append(given[-1])
+            return TRACE(*given)
+
+        with unittest.mock.patch.object(calls, "trace_steps", trace):
+            self.run_.run()
+        self.assertEqual(asked, [64])
+
+    def test_a_clock_that_passes_in_a_later_piece(self):
+        run = Model(FOREVER).open()
+        run.clock = 4_294_967_295 - 50 * 100
+        with self.assertRaises(Refused) as caught:
+            run.run()
+        self.assertEqual((caught.exception.number, caught.exception.made, len(caught.exception.events)), (8, 100, 100))
 
     def test_the_clock_can_be_set_up_to_its_largest(self):
         self.run_.clock = 4_294_967_245

@@ -168,6 +168,30 @@ class Command(unittest.TestCase):
             self.assertEqual(self.written.buffer.getvalue(), (PICTURES / picture).read_bytes())
         self.assertEqual(len(list(self.folder.iterdir())), 2)
 
+    def test_a_text_is_drawn_like_its_image(self):
+        self.assertEqual(self.status(COUNTING.with_suffix(".model"), "-o", self.folder / "text.svg"), 0)
+        image = (PICTURES / "counting.svg").read_text(encoding="utf-8")
+        text = (self.folder / "text.svg").read_text(encoding="utf-8")
+        self.assertEqual(text, image.replace("counting.image", "counting.model"))
+
+    def test_a_bad_text_is_told_with_its_line(self):
+        bad = self.folder / "bad.model"
+        bad.write_text("type t a\nbuffer goal t b 1\n", encoding="ascii")
+        self.refused("bad.model:2:15: slot 'b' is not a slot of type 't' (a)", bad)
+        self.refused("bad.model is a text, which has its own names", bad, "--names", COUNTING_NAMES)
+        for content in b"", b"\n", b"# nothing\n":
+            bad.write_bytes(content)
+            self.refused("bad.model: no buffer is declared", bad)
+        bad.write_bytes(b"type t \xff\n")
+        self.refused("bad.model: this is no text: a byte that is not UTF-8", bad)
+        bad.write_bytes(b"x" * (16 * 1024 * 1024 + 2))
+        self.refused("bad.model: the text has over 16,777,216 bytes, too many for a model", bad)
+
+    def test_what_is_repeated_is_cut_and_escaped(self):
+        self.refused(".. (100,000 characters)' is not a number", COUNTING, f"--steps={'9' * 100_000}")
+        self.refused("a\\x1b[2Jb", "a\x1b[2Jb")
+        self.assertNotIn("\x1b", self.said)
+
     def test_steps(self):
         self.assertEqual(self.status(COUNTING, "--steps", 2), 0)
         svg = self.written.buffer.getvalue().decode()
@@ -192,13 +216,14 @@ class Command(unittest.TestCase):
         for steps in "-1", "65536", "1.5", "x", "":
             self.refused("--steps", COUNTING, f"--steps={steps}")
         self.refused("--width", COUNTING, "--width=5")
-        self.refused("MODEL.image", "--steps", 1)
+        self.refused("MODEL", "--steps", 1)
 
     def test_an_output_that_is_full(self):
         with open("/dev/full", "wb") as full:
             command = [sys.executable, "-m", "jirvuntsag", "timeline", str(COUNTING)]
             ended = subprocess.run(command, cwd=ROOT / "python", stdout=full, stderr=subprocess.PIPE, text=True, check=False)
-        self.assertEqual((ended.returncode, ended.stderr), (2, "jirvuntsag: standard output: No space left on device\n"))
+        words = "python3 -m jirvuntsag: standard output: No space left on device\n"
+        self.assertEqual((ended.returncode, ended.stderr), (2, words))
 
     def test_help(self):
         self.assertEqual(self.status("--help"), 0)

@@ -1,0 +1,128 @@
+//! The calls as a caller by address makes them: what is read, what is given back, and what is refused.
+#![allow(unsafe_code)]
+
+use std::sync::atomic::AtomicU8;
+
+use jirvuntsag_packer::{
+    jirvuntsag_packer_fields, jirvuntsag_packer_free, jirvuntsag_packer_interface, jirvuntsag_packer_part,
+    jirvuntsag_packer_runs, jirvuntsag_packer_text, Answer, Batch,
+};
+
+const TEXT: &str = include_str!("../../../examples/counting.model");
+const IMAGE: &[u8] = include_bytes!("../../../examples/counting.image");
+
+/// The error and the first two parts of an answer, which is freed.
+fn taken(answer: *mut Answer) -> (String, Vec<u8>, Vec<u8>) {
+    let part = |number| {
+        let mut length = usize::MAX;
+        let at = unsafe { jirvuntsag_packer_part(answer, number, &mut length) };
+        unsafe { std::slice::from_raw_parts(at, length) }.to_vec()
+    };
+    let parts = (String::from_utf8(part(0)).expect("UTF-8"), part(1), part(2));
+    assert!(part(3).is_empty() && part(u32::MAX).is_empty());
+    unsafe { jirvuntsag_packer_free(answer) };
+    parts
+}
+
+fn packed(text: &[u8]) -> (String, Vec<u8>, Vec<u8>) {
+    taken(unsafe { jirvuntsag_packer_text(text.as_ptr(), text.len()) })
+}
+
+fn words(bytes: &[u8]) -> Vec<u32> {
+    bytes.chunks_exact(4).map(|four| u32::from_ne_bytes(four.try_into().expect("four"))).collect()
+}
+
+/// Runs of one image, with all events kept.
+fn run(image: &[u8], jobs: &[u32], states: &[u32], steps: u16) -> (String, Vec<u8>, Vec<u8>) {
+    run_unless(std::ptr::null(), image, jobs, states, steps)
+}
+
+/// The same, unless it is stopped.
+fn run_unless(
+    stop: *const AtomicU8,
+    image: &[u8],
+    jobs: &[u32],
+    states: &[u32],
+    steps: u16,
+) -> (String, Vec<u8>, Vec<u8>) {
+    let (ends, keep) = ([image.len() as u32], [1; 257]);
+    let batch = Batch {
+        images: image.as_ptr(),
+        images_len: image.len(),
+        ends: ends.as_ptr(),
+        ends_len: 1,
+        jobs: jobs.as_ptr(),
+        jobs_len: jobs.len(),
+        states: states.as_ptr(),
+        states_len: states.len(),
+        keep: keep.as_ptr(),
+        keep_len: keep.len(),
+        steps,
+        stop,
+    };
+    taken(unsafe { jirvuntsag_packer_runs(&batch) })
+}
+
+#[test]
+fn a_text_gives_its_image_and_names() {
+    let (error, image, names) = packed(TEXT.as_bytes());
+    assert_eq!((error.as_str(), image.as_slice()), ("", IMAGE));
+    assert!(String::from_utf8(names).expect("UTF-8").contains("\"go-on\""));
+}
+
+#[test]
+fn a_wrong_text_gives_its_place_and_nothing_else() {
+    let (error, image, names) = packed(b"type t a\nbuffer goal t b 1");
+    assert!(error.starts_with("2:15: "), "{error}");
+    assert!(image.is_empty() && names.is_empty());
+    assert!(packed(b"type \xff").0.contains("UTF-8"));
+}
+
+#[test]
+fn nothing_may_stand_at_any_address() {
+    let nothing = std::ptr::null();
+    assert!(!taken(unsafe { jirvuntsag_packer_text(nothing, 0) }).0.is_empty());
+    assert!(taken(unsafe { jirvuntsag_packer_fields(std::ptr::null(), 0) }).0.contains("end before"));
+    unsafe { jirvuntsag_packer_free(std::ptr::null_mut()) };
+}
+
+#[test]
+fn fields_give_an_image_only_if_it_opens() {
+    let fields = |words: &[u16]| taken(unsafe { jirvuntsag_packer_fields(words.as_ptr(), words.len()) });
+    assert_eq!(fields(&[1, 1, 0, 0, 0, 0, 0]).1, [1, 0x10, 0, 0, 0, 0, 0, 0]);
+    assert!(fields(&[1, 9, 0, 0, 0, 0, 0, 0, 0, 0, 0, 0, 0, 0, 0]).0.starts_with("refused: 3"));
+    assert!(fields(&[1, 1, 1, 0, 0, 0, 1, 1, 4_096]).0.contains("too large"));
+}
+
+#[test]
+fn runs_are_those_of_the_library() {
+    let (error, rows, events) = run(IMAGE, &[0, 0], &[], 1_000);
+    let (rows, events) = (words(&rows), words(&events));
+    assert_eq!((error.as_str(), rows.len(), events.len()), ("", 2 * 84, 2 * 7 * 3));
+    assert_eq!((&rows[..4], &rows[84..88]), (&[9, 7, 7, 550][..], &[9, 7, 7, 550][..]));
+    assert_eq!(events[..6], [50, 0, 0, 150, 1, 100]);
+    let again = words(&run(IMAGE, &[0], &rows[3..84], 1_000).1);
+    assert_eq!((again[..3].to_vec(), &again[3..]), (vec![9, 0, 0], &rows[3..84]));
+}
+
+#[test]
+fn runs_that_cannot_be_made_are_told() {
+    assert!(run(b"no image", &[0], &[], 1).0.contains("image 0"));
+    assert!(run(IMAGE, &[1], &[], 1).0.contains("not there"));
+    assert!(run(IMAGE, &[0], &[0; 80], 1).0.contains("80 words"));
+    assert!(run(IMAGE, &[0], &[65_536; 81], 1).0.contains("65,535"));
+    let mut broken = [0; 81];
+    broken[1] = 9;
+    assert_eq!(words(&run(IMAGE, &[0], &broken, 1).1)[..2], [6, 0]);
+}
+
+#[test]
+fn a_stopped_call_begins_no_further_run() {
+    assert_eq!(run_unless(&AtomicU8::new(1), IMAGE, &[0; 9], &[], 5), Default::default());
+    assert_eq!(words(&run_unless(&AtomicU8::new(0), IMAGE, &[0; 9], &[], 5).1).len(), 9 * 84);
+}
+
+#[test]
+fn the_interface_has_its_number() {
+    assert_eq!(jirvuntsag_packer_interface(), 1);
+}

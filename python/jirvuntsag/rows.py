@@ -1,0 +1,101 @@
+"""What a sweep gives back for each item: how its run ended, and what its buffers hold then."""
+from .calls import EVENT_WORDS
+from .events import event_from
+from .refusals import HALTED, MEANINGS
+from .states import Buffers, state_from
+
+ROW_WORDS = 84
+
+
+class Row:
+    """The end of a run: its item and model, the number that it ended by, the steps made, clock, buffers, the events kept.
+
+    >>> import jirvuntsag as jv
+    >>> (row,) = jv.sweep([jv.Model.load("examples/counting.model")], events=["stop"])
+    >>> row
+    <Row end 9 7 at 550 ms: {goal: chunk, retrieval: chunk}>
+    >>> row.halted, row.clock, [str(event) for event in row.events]
+    (True, 550, ['400 fire stop'])
+    """
+
+    __slots__ = ("item", "model", "_words", "_at", "_events")
+
+    def __init__(self, item, model, words, at, events):
+        # the words are those of a whole batch: nothing is taken out until it is asked for
+        self.item, self.model, self._words, self._at, self._events = item, model, words, at, events
+
+    @property
+    def number(self):
+        """The number that the run ended by."""
+        return self._words[self._at]
+
+    @property
+    def made(self):
+        """The steps made."""
+        return self._words[self._at + 1]
+
+    @property
+    def clock(self):
+        """The clock at the end, in ms."""
+        return self._words[self._at + 3]
+
+    @property
+    def _state(self):
+        return self._words[self._at + 3 : self._at + ROW_WORDS]
+
+    @property
+    def buffers(self):
+        """The buffers at the end, by name or number."""
+        return Buffers(self._state, self.model.vocabulary)
+
+    @property
+    def state(self):
+        """The state at the end, as plain data: `row.model.at(row.state)` goes on from there."""
+        return state_from(self._state, self.model.vocabulary)
+
+    @property
+    def events(self):
+        """The events that were asked for, in their order."""
+        starts, rules = range(0, len(self._events), EVENT_WORDS), self.model.vocabulary.rules
+        return [event_from(self._events[start : start + EVENT_WORDS], rules) for start in starts]
+
+    @property
+    def halted(self):
+        """No rule matched and nothing was pending."""
+        return self.number == HALTED
+
+    @property
+    def meaning(self):
+        """What the number says, in words."""
+        return MEANINGS[self.number]
+
+    def as_dict(self):
+        """The row as plain data, for a table: the number, the steps made, the clock, and each buffer as a text.
+
+        >>> import jirvuntsag as jv
+        >>> jv.sweep([jv.Model.load("examples/counting.model")], steps=2)[0].as_dict()
+        {'number': 0, 'made': 2, 'clock': 150, 'goal': 'count current=1 target=3', 'retrieval': 'follows first=1 second=2'}
+        """
+        buffers = {str(name): str(buffer) for name, buffer in self.buffers.items()}
+        return {"number": self.number, "made": self.made, "clock": self.clock, **buffers}
+
+    def __reduce__(self):
+        """How a row is kept by `pickle`: with its own words alone."""
+        return Row, (self.item, self.model, self._words[self._at : self._at + ROW_WORDS], 0, self._events)
+
+    def __repr__(self):
+        return f"<Row end {self.number} {self.made} at {self.clock} ms: {self.buffers!r}>"
+
+
+def rows_from(items, models, made):
+    """The rows of a batch: for each run its item, its model, and its words among those that the packer gave."""
+    words, events = made
+    if not events:
+        starts = range(0, len(words), ROW_WORDS)
+        return [Row(item, model, words, start, events) for item, model, start in zip(items, models, starts)]
+    rows, at = [], 0
+    for item, model, start in zip(items, models, range(0, len(words), ROW_WORDS)):
+        end = at + EVENT_WORDS * words[start + 2]
+        rows.append(Row(item, model, words, start, events[at:end]))
+        at = end
+    return rows
