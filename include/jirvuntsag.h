@@ -27,7 +27,7 @@ extern "C" {
 #define JIRVUNTSAG_VERSION_MAJOR 0
 #define JIRVUNTSAG_VERSION_MINOR 1
 #define JIRVUNTSAG_VERSION_PATCH 0
-#define JIRVUNTSAG_VERSION "0.1.0"
+#define JIRVUNTSAG_VERSION "0.2.0"
 const char *jirvuntsag_version(void);
 
 #define JIRVUNTSAG_STATE_WORDS 81

@@ -57,6 +57,7 @@ fn these_are_all_and_the_page_lists_them() {
     let mut wanted: Vec<String> =
         NAMES.iter().flat_map(|name| endings.map(|ending| format!("{name}.{ending}"))).collect();
     wanted.push("README.md".into());
+    wanted.push("fan-effect".into());
     wanted.sort();
     assert_eq!(files, wanted);
     let page = std::fs::read_to_string(folder().join("README.md")).expect("the page");
