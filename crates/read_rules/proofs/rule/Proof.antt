@@ -8,7 +8,7 @@ use lib.ListN.{length}
 use Rattle.meaning.specs.Model.{Test}
 use Rattle.meaning.specs.Read.{Got}
 use Rattle.meaning.specs.Image.{Head, head, tests}
-use Rattle.laws.specs.PartsLaws.{HeadFits, head-fits}
+use Rattle.laws.specs.ImageLaws.{HeadFits, head-fits}
 use Rattle.layout.specs.Walks.{answer}
 use Rattle.layout.specs.Rows.{sizes, testsIn, actionsIn, testedMask}
 use Rattle.layout.proofs.WalkLaws.{answer-bad, answer-next, bad-within, bad-never}
