@@ -2,7 +2,10 @@
 -- and Semantics (demand 2); their proofs stand apart, in Proofs.
 pub mod Words
 pub mod Published
+pub mod Sentences
+pub mod Numbers
 pub mod Refreshing
+pub mod Marking
 pub mod Keeping
 pub mod Clearing
 pub mod Semantics

@@ -2,13 +2,14 @@
 use mathlib.Core.Path.{_≡_}
 use mathlib.Core.Bool.{true, false}
 use mathlib.Core.List.{List, _∷_, List·Memᴰ}
-use Prim.Native.Nat.{ℕ, zero, suc, _*_}
+use Prim.Native.Nat.{ℕ, zero, suc, _*_, _<_}
 use lib.ListN.{length, take, drop}
 use Rattle.meaning.specs.declared.State.{State}
 use Rattle.meaning.specs.Base.{keep}
-use Rattle.meaning.specs.Model.{Model, Rule, Test}
+use Rattle.meaning.specs.Model.{Model, Rule, Test, Action}
 use Rattle.meaning.specs.State.{bufferOf}
 use Rattle.meaning.specs.Match.{shows, matches, entryOf}
+use Rattle.meaning.specs.Step.{Event, Fired}
 use Rattle.meaning.specs.Refresh.{testsMarked}
 use Rattle.meaning.specs.Calls.{openOf, runOf, refreshOf}
 
@@ -46,3 +47,8 @@ pub record Matching (m : Model) (s : State) (k : ℕ) : Type 0 where
   pub numbered : At rule k (m .rules)
   pub matching : matches rule s ≡ true
   pub tests-hold : (t : Test) → List·Memᴰ t (rule .tests) → shows t (bufferOf s (t .buffer)) ≡ true
+
+-- "Marked by a step: buffers acted on, and buffers that went from pending to visible."
+pub data Touched (m : Model) (s : State) (e : Event) (s′ : State) (b : ℕ) : Type 0 where
+  acted-on : {k : ℕ} {r : Rule} {a : Action} → e ≡ Fired k → At r k (m .rules) → List·Memᴰ a (r .actions) → a .buffer ≡ b → Touched m s e s′ b
+  came : 0 < bufferOf s b .delay → bufferOf s′ b .delay ≡ 0 → Touched m s e s′ b

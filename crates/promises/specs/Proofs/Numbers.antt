@@ -1,0 +1,212 @@
+-- The rows of document 01's table: which one an image and a table fall under, and what the calls answer there.
+use mathlib.Core.Path.{_≡_, refl, sym, ap, subst, _∙_}
+use mathlib.Core.Logic.{_↔_}
+use mathlib.Core.Bool.{Bool, true, false, not}
+use mathlib.Core.List.{List, _++_}
+use Prim.Native.Nat.{ℕ, _+_, _*_, _^_, _≤_, _<_}
+use native.Mathlib.Omega.{arith}
+use borrow.Author.Tests.{lt-ltb, le-ltb, leb-true, leb-false, le-leb, lt-leb, eqb-true, eqb-false, eq-eqb, ne-eqb}
+use lib.Dec.{leb, eqb}
+use lib.ListN.{length, length-append}
+use Rattle.meaning.specs.declared.State.{State}
+use Rattle.meaning.specs.Base.{if_then_else_}
+use Rattle.meaning.specs.Numbers.{all-done, too-long, not-there, bad-number, bad-end, wrong-table, ill-formed, bad-mark}
+use Rattle.meaning.specs.Model.{Model}
+use Rattle.meaning.specs.State.{zeroState, wellFormed}
+use Rattle.meaning.specs.Read.{Read, Refused, Got}
+use Rattle.meaning.specs.Image.{model, decode}
+use Rattle.meaning.specs.Match.{freshTable}
+use Rattle.meaning.specs.Refresh.{refresh, refreshCount}
+use Rattle.meaning.specs.Calls.{fitting, accepted, tableLength, Opened, openState, openedBy, openOf, Ran, ranBy, runOf, Refreshed, refreshedBy, refreshOf}
+use Rattle.laws.specs.ReadLaws.{no-got}
+use Rattle.laws.specs.WindowLaws.{by-lt}
+use Rattle.promises.specs.Words.{RefreshedTo}
+use Rattle.promises.specs.Sentences.{Stops, missing, broken, unended, Taken, Given, over, lacking, against, trailing, unfit, taken, AfterOpen, AfterRefresh, ill, high, renewed}
+use Rattle.promises.specs.Proofs.Reading.{Onward, wants, stuck, ended, model-whole}
+use Rattle.promises.specs.Proofs.Tables.{refresh-made}
+
+-- ---- an image
+
+module _ (image : List ℕ) where
+  pub decode-long : 65536 < length image → decode image ≡ Refused too-long 0
+  unfolding decode
+  decode-long h = rw (lt-ltb 65536 (length image) h) refl
+
+  pub decode-short : length image ≤ 65536 → decode image ≡ model image 0
+  unfolding decode
+  decode-short h = rw (le-ltb 65536 (length image) h) refl
+
+  -- an image that is accepted is not too long, and its fields read so
+  pub decode-got : (m : Model) (end : ℕ) → decode image ≡ Got m end → (length image ≤ 65536) × (model image 0 ≡ Got m end)
+  decode-got m end d =
+      by-lt 65536 (length image) (λ h. absurd (no-got too-long 0 m end (sym (decode-long h) ∙ d))) (λ h. (h, sym (decode-short h) ∙ d))
+
+  pub reading-stops : (n at : ℕ) → model image 0 ≡ Refused n at → Stops image at n
+  reading-stops n at e = model-whole .stops image 0 n at (omega arith) e
+
+-- ---- an image and a table
+
+module _ (image table : List ℕ) where
+  taken-accepted : {m : Model} (t : Taken image table m) → accepted image table ≡ Got m (t .end)
+  unfolding accepted
+  taken-accepted {m} t = rw (decode-short image (t .short), t .reads, eq-eqb (length table) (9 * length (m .rules)) (t .fits)) refl
+
+  unread-accepted : (n at : ℕ) → length image ≤ 65536 → model image 0 ≡ Refused n at → accepted image table ≡ Refused n at
+  unfolding accepted
+  unread-accepted n at h e = rw (decode-short image h, e) refl
+
+  long-accepted : 65536 < length image → accepted image table ≡ Refused too-long 0
+  unfolding accepted
+  long-accepted h = rw (decode-long image h) refl
+
+  unfit-accepted : (m : Model) (end : ℕ) → length image ≤ 65536 → model image 0 ≡ Got m end → (length table ≡ 9 * length (m .rules) → ⊥) → accepted image table ≡ Refused wrong-table 0
+  unfolding accepted
+  unfit-accepted m end h e l = rw (decode-short image h, e, ne-eqb (length table) (9 * length (m .rules)) l) refl
+
+  -- which row they fall under
+  data Look (after : Model → ℕ → Type 0) : Type 0 where
+    refused : (n at : ℕ) → accepted image table ≡ Refused n at → Given image table after n → Look after
+    took : (m : Model) → Taken image table m → Look after
+
+  module _ (after : Model → ℕ → Type 0) where
+    stopped-look : (n at : ℕ) → length image ≤ 65536 → model image 0 ≡ Refused n at → Stops image at n → Look after
+    stopped-look n at h e (missing w a b) = refused not-there at (unread-accepted not-there at h e) (lacking h e)
+    stopped-look n at h e (broken a) = refused bad-number at (unread-accepted bad-number at h e) (against h e)
+    stopped-look n at h e (unended x a b) = refused bad-end at (unread-accepted bad-end at h e) (trailing h e)
+
+    read-look : length image ≤ 65536 → (r : Read Model) → model image 0 ≡ r → Look after
+    read-look h (Refused n at) e = stopped-look n at h e (reading-stops image n at e)
+    read-look h (Got m end) e =
+        (elim (eqb (length table) (9 * length (m .rules))) as (λ t. eqb (length table) (9 * length (m .rules)) ≡ t → Look after) [
+          | true ↦ λ t. took m (record { short = h; end = end; reads = e; fits = eqb-true (length table) (9 * length (m .rules)) t })
+          | false ↦ λ t. let l = eqb-false (length table) (9 * length (m .rules)) t in refused wrong-table 0 (unfit-accepted m end h e l) (unfit h e l)
+        ]) refl
+
+    look : Look after
+    look = by-lt 65536 (length image) (λ h. refused too-long 0 (long-accepted h) (over h)) (λ h. read-look h (model image 0) refl)
+
+  -- a call that refuses by the number of what was refused, and answers otherwise by `after`, answers by the table
+  module _ (answers : Read Model → ℕ) (after : Model → ℕ → Type 0) (refuses : (n at : ℕ) → answers (Refused n at) ≡ n)
+      (goes : (m : Model) (end n : ℕ) → (answers (Got m end) ≡ n) ↔ after m n) where
+    answers-given : (n : ℕ) → answers (accepted image table) ≡ n → Given image table after n
+    answers-given n e = by (look after)
+      where
+        by : Look after → Given image table after n
+        by (refused k at q g) = subst (Given image table after) (sym (refuses k at) ∙ ap answers (sym q) ∙ e) g
+        by (took m t) = taken t (goes m (t .end) n .0 (ap answers (sym (taken-accepted t)) ∙ e))
+
+    given-answers : (n : ℕ) → Given image table after n → answers (accepted image table) ≡ n
+    given-answers n (over h) = ap answers (long-accepted h) ∙ refuses too-long 0
+    given-answers n (lacking {at} h e) = ap answers (unread-accepted not-there at h e) ∙ refuses not-there at
+    given-answers n (against {at} h e) = ap answers (unread-accepted bad-number at h e) ∙ refuses bad-number at
+    given-answers n (trailing {at} h e) = ap answers (unread-accepted bad-end at h e) ∙ refuses bad-end at
+    given-answers n (unfit {m} {end} h e l) = ap answers (unfit-accepted m end h e l) ∙ refuses wrong-table 0
+    given-answers n (taken {m} t a) = ap answers (taken-accepted t) ∙ goes m (t .end) n .1 a
+
+    pub exactly : (n : ℕ) → (answers (accepted image table) ≡ n) ↔ Given image table after n
+    exactly n = (answers-given n, given-answers n)
+
+  -- ---- open
+
+  opened-by : (r : Read Model) → (openedBy table r .number ≡ 0 → ⊥) → (openedBy table r .state ≡ zeroState) × (openedBy table r .table ≡ table)
+  opened-by (Refused n at) h = (refl, refl)
+  opened-by (Got m at) h = absurd (h refl)
+
+  pub open-refused : (openOf image table .number ≡ 0 → ⊥) → (openOf image table .state ≡ zeroState) × (openOf image table .table ≡ table)
+  unfolding openOf
+  open-refused h = opened-by (accepted image table) h
+
+  pub open-number : (n : ℕ) → (openOf image table .number ≡ n) ↔ Given image table AfterOpen n
+  unfolding openOf
+  open-number n = exactly (λ r. openedBy table r .number) AfterOpen (λ k at. refl) (λ m end k. (λ e. sym e, λ e. sym e)) n
+
+  pub open-taken : (m : Model) → Taken image table m → openOf image table ≡ record { number = 0; state = openState m; table = freshTable (m .rules) (openState m) }
+  unfolding openOf
+  open-taken m t = rw (taken-accepted t) refl
+
+  -- ---- refresh
+
+  module _ (s : State) (mark : ℕ) where
+    -- by whether the state is well formed, and the mark too large
+    abbrev refreshed : Model → Bool → Bool → Refreshed
+    refreshed m t u =
+        if not t then record { number = ill-formed; count = 0; table = table }
+        else (if u then record { number = bad-mark; count = 0; table = table }
+        else record { number = all-done; count = refreshCount (m .rules) mark; table = refresh (m .rules) s mark table })
+
+    refresh-row : (m : Model) (end n : ℕ) → (refreshedBy s mark table (Got m end) .number ≡ n) ↔ AfterRefresh s mark m n
+    refresh-row m end n = (there (wellFormed m s) (leb (2 ^ m .buffers) mark) refl refl, back)
+      where
+        there : (t u : Bool) → wellFormed m s ≡ t → leb (2 ^ m .buffers) mark ≡ u → refreshed m t u .number ≡ n → AfterRefresh s mark m n
+        there true true w l e = subst (AfterRefresh s mark m) e (high w (leb-true (2 ^ m .buffers) mark l))
+        there true false w l e = subst (AfterRefresh s mark m) e (renewed w (leb-false (2 ^ m .buffers) mark l))
+        there false u w l e = subst (AfterRefresh s mark m) e (ill w)
+
+        back : {k : ℕ} → AfterRefresh s mark m k → refreshedBy s mark table (Got m end) .number ≡ k
+        back (ill w) = rw w refl
+        back (high w l) = rw (w, le-leb (2 ^ m .buffers) mark l) refl
+        back (renewed w l) = rw (w, lt-leb (2 ^ m .buffers) mark l) refl
+
+    pub refresh-number : (n : ℕ) → (refreshOf image s mark table .number ≡ n) ↔ Given image table (AfterRefresh s mark) n
+    unfolding refreshOf
+    refresh-number n = exactly (λ r. refreshedBy s mark table r .number) (AfterRefresh s mark) (λ k at. refl) refresh-row n
+
+    refused-by : (r : Read Model) → (refreshedBy s mark table r .number ≡ 0 → ⊥) → (refreshedBy s mark table r .count ≡ 0) × (refreshedBy s mark table r .table ≡ table)
+    refused-by (Refused n at) h = (refl, refl)
+    refused-by (Got m at) h = by (wellFormed m s) (leb (2 ^ m .buffers) mark) h
+      where
+        by : (t u : Bool) → (refreshed m t u .number ≡ 0 → ⊥) → (refreshed m t u .count ≡ 0) × (refreshed m t u .table ≡ table)
+        by true true k = (refl, refl)
+        by true false k = absurd (k refl)
+        by false u k = (refl, refl)
+
+    pub refresh-refused : (refreshOf image s mark table .number ≡ 0 → ⊥) → (refreshOf image s mark table .count ≡ 0) × (refreshOf image s mark table .table ≡ table)
+    unfolding refreshOf
+    refresh-refused h = refused-by (accepted image table) h
+
+    pub refresh-taken : (m : Model) → Taken image table m → wellFormed m s ≡ true → mark < 2 ^ m .buffers
+        → refreshOf image s mark table ≡ record { number = 0; count = refreshCount (m .rules) mark; table = refresh (m .rules) s mark table }
+    unfolding refreshOf
+    refresh-taken m t w l = rw (taken-accepted t, w, lt-leb (2 ^ m .buffers) mark l) refl
+
+-- ---- what follows an image
+
+-- a beginning of an accepted image lacks a field
+pub cut-short : (image rest : List ℕ) → 0 < length rest → (m : Model) (end : ℕ) → decode (image ++ rest) ≡ Got m end → (at : ℕ) × (decode image ≡ Refused not-there at)
+cut-short image rest something m end d = by (model-whole .onward image rest 0 (omega arith) something)
+  where
+    whole : (length (image ++ rest) ≤ 65536) × (model (image ++ rest) 0 ≡ Got m end)
+    whole = decode-got (image ++ rest) m end d
+
+    short : length image ≤ 65536
+    short = omega (arith, whole .0, length-append image rest)
+
+    by : Onward model image rest 0 → (at : ℕ) × (decode image ≡ Refused not-there at)
+    by (wants x t) = (x, decode-short image short ∙ t)
+    by (stuck x t u) = absurd (no-got bad-number x m end (sym u ∙ whole .1))
+    by (ended f t) = absurd (no-got bad-end 0 m end (sym t ∙ whole .1))
+
+module _ (image rest : List ℕ) (something : 0 < length rest) (short : length (image ++ rest) ≤ 65536) where
+  shorter : length image ≤ 65536
+  shorter = omega (arith, length-append image rest)
+
+  goes-on : Onward model image rest 0
+  goes-on = model-whole .onward image rest 0 (omega arith) something
+
+  -- an accepted image is refused by 4 if anything follows
+  pub accepted-longer : (m : Model) (end : ℕ) → decode image ≡ Got m end → decode (image ++ rest) ≡ Refused bad-end 0
+  accepted-longer m end d = by goes-on (sym (decode-short image shorter) ∙ d)
+    where
+      by : Onward model image rest 0 → model image 0 ≡ Got m end → decode (image ++ rest) ≡ Refused bad-end 0
+      by (wants x t) e = absurd (no-got not-there x m end (sym t ∙ e))
+      by (stuck x t u) e = absurd (no-got bad-number x m end (sym t ∙ e))
+      by (ended f t) e = decode-short (image ++ rest) short ∙ t
+
+  -- an image that is refused by 3 is refused by 3 there whatever follows
+  pub broken-longer : (at : ℕ) → decode image ≡ Refused bad-number at → decode (image ++ rest) ≡ Refused bad-number at
+  broken-longer at d = by goes-on (sym (decode-short image shorter) ∙ d)
+    where
+      by : Onward model image rest 0 → model image 0 ≡ Refused bad-number at → decode (image ++ rest) ≡ Refused bad-number at
+      by (wants x t) e = let z : _≡_ {A = ℕ} 2 3 = cc in absurd (omega arith)
+      by (stuck x t u) e = decode-short (image ++ rest) short ∙ u ∙ cc
+      by (ended f t) e = absurd (f at e)

@@ -1,0 +1,61 @@
+-- Document 01's table "Given exactly when" as relations: a constructor for each row, with its sentence, and with what says that no row before it holds.
+use mathlib.Core.Path.{_≡_}
+use mathlib.Core.Logic.{_⊎_}
+use mathlib.Core.Bool.{true, false}
+use mathlib.Core.List.{List}
+use Prim.Native.Nat.{ℕ, _+_, _*_, _^_, _≤_, _<_}
+use lib.ListN.{length}
+use Rattle.meaning.specs.declared.State.{State}
+use Rattle.meaning.specs.Numbers.{all-done, too-long, not-there, bad-number, bad-end, wrong-table, ill-formed, not-fresh, clock-full, halted, bad-mark}
+use Rattle.meaning.specs.Model.{Model}
+use Rattle.meaning.specs.State.{wellFormed}
+use Rattle.meaning.specs.Read.{Refused, Got}
+use Rattle.meaning.specs.Bits.{fieldAt}
+use Rattle.meaning.specs.Image.{padding, model}
+use Rattle.meaning.specs.Step.{Stopped, stepOf}
+
+-- where the reading of an image can stop, and by which number: at a field that is reached and not wholly there; at one that is reached and breaks its rule;
+-- after all fields, if a bit up to the byte's end is 1 or a byte follows
+pub data Stops (image : List ℕ) (at : ℕ) : ℕ → Type 0 where
+  missing : (width : ℕ) → at ≤ 8 * length image → 8 * length image < at + width → Stops image at not-there
+  broken : at ≤ 8 * length image → Stops image at bad-number
+  unended : (end : ℕ) → end ≤ 8 * length image → (fieldAt image end (padding end) ≡ 0 → ⊥) ⊎ (end + padding end < 8 * length image) → Stops image at bad-end
+
+-- ---- "Order: 1; then 2 and 3, the earlier in reading order; 4; 5"
+
+-- an image that is not too long, whose fields are all there and keep their rules, which ends as it must, and a table of nine words a rule
+pub record Taken (image table : List ℕ) (m : Model) : Type 0 where
+  pub short : length image ≤ 65536
+  pub end : ℕ
+  pub reads : model image 0 ≡ Got m end
+  pub fits : length table ≡ 9 * length (m .rules)
+
+-- what all calls look at first; `after` is what a call answers with a model and a table that were taken
+pub data Given (image table : List ℕ) (after : Model → ℕ → Type 0) : ℕ → Type 0 where
+  -- "image over 65,536 bytes"
+  over : 65536 < length image → Given image table after too-long
+  -- "a field is not wholly there"
+  lacking : {at : ℕ} → length image ≤ 65536 → model image 0 ≡ Refused not-there at → Given image table after not-there
+  -- "a field breaks its rule above"
+  against : {at : ℕ} → length image ≤ 65536 → model image 0 ≡ Refused bad-number at → Given image table after bad-number
+  -- "a pad bit is 1, or a byte follows"
+  trailing : {at : ℕ} → length image ≤ 65536 → model image 0 ≡ Refused bad-end at → Given image table after bad-end
+  -- "table length is not 9 × rules"
+  unfit : {m : Model} {end : ℕ} → length image ≤ 65536 → model image 0 ≡ Got m end → (length table ≡ 9 * length (m .rules) → ⊥) → Given image table after wrong-table
+  -- none of these
+  taken : {m : Model} {n : ℕ} → Taken image table m → after m n → Given image table after n
+
+-- ---- what follows, call by call
+
+-- open: "all that was asked is done"
+abbrev pub AfterOpen : Model → ℕ → Type 0
+AfterOpen m n = n ≡ all-done
+
+-- refresh: "6; 10"
+pub data AfterRefresh (s : State) (mark : ℕ) (m : Model) : ℕ → Type 0 where
+  -- "state not well formed"
+  ill : wellFormed m s ≡ false → AfterRefresh s mark m ill-formed
+  -- "mark is 2 to the power of the buffer count, or more"
+  high : wellFormed m s ≡ true → 2 ^ m .buffers ≤ mark → AfterRefresh s mark m bad-mark
+  -- "all that was asked is done"
+  renewed : wellFormed m s ≡ true → mark < 2 ^ m .buffers → AfterRefresh s mark m all-done
