@@ -14,7 +14,8 @@ use Rattle.meaning.specs.Model.{Sizes, Test}
 use Rattle.meaning.specs.State.{slotCount}
 use Rattle.meaning.specs.Bits.{bitAt, fieldAt}
 use Rattle.meaning.specs.Read.{Read, Refused, Got, Reader, follow, andThen, next, give, Judgement, must, _also_, judged, field, require, times, rising}
-use Rattle.meaning.specs.Image.{between, aType, aBuffer, aMask, aTerm, anything, header, slotCounts, chunk, fact, slotsIn, terms, masked, test, tests, standsIn, isTested, testedType, kindRule, deed, action, actions, rule, padding, ending, model}
+use Rattle.meaning.specs.Image.{between, aType, aBuffer, aMask, aTerm, anything, header, slotCounts, chunk, fact, slotsIn, terms, masked, Head, head, test, tests, standsIn, isTested, testedType, kindRule, deed, action, actions, body, rule}
+use Rattle.meaning.specs.Image.{padding, ending, beginning, contents, model}
 use Rattle.laws.specs.ReadLaws.{no-got, FieldRead, field-got, split}
 use Rattle.laws.specs.WindowLaws.{by-lt}
 use Rattle.promises.specs.Sentences.{Stops, missing, broken, unended}
@@ -233,16 +234,33 @@ tests-reads z variables n = rising-reads (test z variables) (λ t. t .buffer) (t
 actions-reads : (z : Sizes) (variables : ℕ) (ts : List Test) (n : ℕ) → Reads (actions z variables ts n)
 actions-reads z variables ts n = rising-reads (action z variables ts) (λ a. a .buffer) (action-reads z variables ts) n 0
 
+head-reads : (buffers : ℕ) → Reads (head buffers)
+unfolding head
+head-reads buffers =
+    then-reads (field 16 anything) _ (plain 16) λ utility.
+    then-reads (field 4 (must bad-number (between 1 buffers))) _ (ruled 4 (between 1 buffers)) λ n.
+    then-reads (field 4 (must bad-number (between 0 buffers))) _ (ruled 4 (between 0 buffers)) λ m.
+    then-reads (field 4 (must bad-number (between 0 8))) _ (ruled 4 (between 0 8)) λ variables.
+    give-reads _
+
+body-reads : (z : Sizes) (h : Head) → Reads (body z h)
+unfolding body
+body-reads z h =
+    then-reads (tests z (h .variables) (h .tests)) _ (tests-reads z (h .variables) (h .tests)) λ ts.
+    then-reads (require bad-variable (every (standsIn ts) (upFrom 0 (h .variables)))) _ (require-reads (every (standsIn ts) (upFrom 0 (h .variables)))) λ u.
+    then-reads (actions z (h .variables) ts (h .actions)) _ (actions-reads z (h .variables) ts (h .actions)) λ as′.
+    give-reads _
+
 rule-reads : (z : Sizes) → Reads (rule z)
 unfolding rule
-rule-reads z =
-    then-reads (field 16 anything) _ (plain 16) λ utility.
-    then-reads (field 4 (must bad-number (between 1 (z .buffers)))) _ (ruled 4 (between 1 (z .buffers))) λ n.
-    then-reads (field 4 (must bad-number (between 0 (z .buffers)))) _ (ruled 4 (between 0 (z .buffers))) λ m.
-    then-reads (field 4 (must bad-number (between 0 8))) _ (ruled 4 (between 0 8)) λ variables.
-    then-reads (tests z variables n) _ (tests-reads z variables n) λ ts.
-    then-reads (require bad-variable (every (standsIn ts) (upFrom 0 variables))) _ (require-reads (every (standsIn ts) (upFrom 0 variables))) λ u.
-    then-reads (actions z variables ts m) _ (actions-reads z variables ts m) λ as′.
+rule-reads z = then-reads (head (z .buffers)) _ (head-reads (z .buffers)) λ h. body-reads z h
+
+beginning-reads : Reads beginning
+unfolding beginning
+beginning-reads =
+    then-reads header _ header-reads λ h.
+    then-reads (slotCounts (h .declared)) _ (times-reads (field 4 (must bad-number (between 0 8))) (ruled 4 (between 0 8)) (h .declared)) λ counts.
+    then-reads (times (h .buffers) (chunk (0 ∷ counts) 0)) _ (times-reads (chunk (0 ∷ counts) 0) (chunk-reads (0 ∷ counts) 0) (h .buffers)) λ opening.
     give-reads _
 
 -- ---- a reader that goes to the image's end
@@ -338,12 +356,34 @@ module _ {A B : Type 0} (p : Reader A) (k : A → Reader B) (first : Reads p) (s
             (λ (t : p (image ++ rest) at ≡ p image at). whole-on image rest at h l t (p image at) refl) (first .more image rest at);
       }
 
+-- what is made of all that was read, at the end
+module _ {A B : Type 0} (p : Reader A) (f : A → B) (whole : Whole p) where
+  abbrev made : List ℕ → ℕ → Read A → Read B
+  made image at r = follow r (λ a after. give (f a) image after)
+
+  made-refused : (image : List ℕ) (at n x : ℕ) (r : Read A) → made image at r ≡ Refused n x → r ≡ Refused n x
+  made-refused image at n x (Refused n′ x′) e = cc
+  made-refused image at n x (Got a after) e = absurd (no-got n x (f a) after (sym e))
+
+  give-onward : (image rest : List ℕ) (at : ℕ) → Onward p image rest at → Onward (andThen p (λ a. give (f a))) image rest at
+  give-onward image rest at (wants x t) = wants x (rw t refl)
+  give-onward image rest at (stuck x t u) = stuck x (rw t refl) (rw u refl)
+  give-onward image rest at (ended g t) = ended (λ x e. g x (made-refused image at bad-number x (p image at) e)) (rw t refl)
+
+  give-whole : Whole (andThen p (λ a. give (f a)))
+  give-whole =
+      record {
+        stops = λ image at n x h e. whole .stops image at n x h (made-refused image at n x (p image at) e);
+        onward = λ image rest at h l. give-onward image rest at (whole .onward image rest at h l);
+      }
+
+contents-whole : (z : Sizes) (n m : ℕ) → Whole (contents z n m)
+unfolding contents
+contents-whole z n m =
+    then-whole (times n (fact (z .types))) _ (times-reads (fact (z .types)) (fact-reads (z .types)) n) λ facts.
+    then-whole (times m (rule z)) _ (times-reads (rule z) (rule-reads z) m) λ rules.
+    end-whole _
+
 pub model-whole : Whole model
 unfolding model
-model-whole =
-    then-whole header _ header-reads λ h.
-    then-whole (slotCounts (h .declared)) _ (times-reads (field 4 (must bad-number (between 0 8))) (ruled 4 (between 0 8)) (h .declared)) λ counts.
-    then-whole (times (h .buffers) (chunk (0 ∷ counts) 0)) _ (times-reads (chunk (0 ∷ counts) 0) (chunk-reads (0 ∷ counts) 0) (h .buffers)) λ opening.
-    then-whole (times (h .facts) (fact (0 ∷ counts))) _ (times-reads (fact (0 ∷ counts)) (fact-reads (0 ∷ counts)) (h .facts)) λ facts.
-    then-whole (times (h .rules) (rule (record { buffers = h .buffers; types = 0 ∷ counts }))) _ (times-reads (rule (record { buffers = h .buffers; types = 0 ∷ counts })) (rule-reads (record { buffers = h .buffers; types = 0 ∷ counts })) (h .rules)) λ rules.
-    end-whole _
+model-whole = then-whole beginning _ beginning-reads λ b. give-whole _ _ (contents-whole _ _ _)
