@@ -15,5 +15,6 @@ pub mod Retrieving
 pub mod Effects
 pub mod Transitions
 pub mod Outcomes
+pub mod Stopping
 pub mod Reading
 pub mod Numbers

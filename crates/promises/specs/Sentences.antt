@@ -3,16 +3,20 @@ use mathlib.Core.Path.{_≡_}
 use mathlib.Core.Logic.{_⊎_}
 use mathlib.Core.Bool.{true, false}
 use mathlib.Core.List.{List}
+use mathlib.Core.Option.{none, some}
 use Prim.Native.Nat.{ℕ, _+_, _*_, _^_, _≤_, _<_}
 use lib.ListN.{length}
 use Rattle.meaning.specs.declared.State.{State}
 use Rattle.meaning.specs.Numbers.{all-done, too-long, not-there, bad-number, bad-end, wrong-table, ill-formed, not-fresh, clock-full, halted, bad-mark}
 use Rattle.meaning.specs.Model.{Model}
-use Rattle.meaning.specs.State.{wellFormed}
+use Rattle.meaning.specs.State.{bufferOf, wellFormed}
 use Rattle.meaning.specs.Read.{Refused, Got}
 use Rattle.meaning.specs.Bits.{fieldAt}
 use Rattle.meaning.specs.Image.{padding, model}
-use Rattle.meaning.specs.Step.{Stopped, stepOf}
+use Rattle.meaning.specs.Match.{entryOf}
+use Rattle.meaning.specs.Choice.{Candidate, choose, utilities}
+use Rattle.meaning.specs.Step.{largest}
+use Rattle.promises.specs.Published.{LeastDelay}
 
 -- where the reading of an image can stop, and by which number: at a field that is reached and not wholly there; at one that is reached and breaks its rule;
 -- after all fields, if a bit up to the byte's end is 1 or a byte follows
@@ -59,3 +63,13 @@ pub data AfterRefresh (s : State) (mark : ℕ) (m : Model) : ℕ → Type 0 wher
   high : wellFormed m s ≡ true → 2 ^ m .buffers ≤ mark → AfterRefresh s mark m bad-mark
   -- "all that was asked is done"
   renewed : wellFormed m s ≡ true → mark < 2 ^ m .buffers → AfterRefresh s mark m all-done
+
+-- why the next step is not made, with the table as it is: "In a step 7 comes before 8."
+pub data Why (m : Model) (s : State) (table : List ℕ) : ℕ → Type 0 where
+  -- "chosen entry is not the fresh one"
+  stale : {c : Candidate} → choose (m .rules) (utilities (m .rules)) table ≡ some c → (c .entry ≡ entryOf (c .rule) s → ⊥) → Why m s table not-fresh
+  -- "clock would pass 4,294,967,295", by a firing or by a wait
+  late-fire : {c : Candidate} → choose (m .rules) (utilities (m .rules)) table ≡ some c → c .entry ≡ entryOf (c .rule) s → largest < s .clock + 50 → Why m s table clock-full
+  late-wait : {ms : ℕ} → choose (m .rules) (utilities (m .rules)) table ≡ none → LeastDelay s ms → largest < s .clock + ms → Why m s table clock-full
+  -- "halted": "No entry matches and nothing is pending."
+  quiet : choose (m .rules) (utilities (m .rules)) table ≡ none → ((b : ℕ) → b < length (s .buffers) → bufferOf s b .delay ≡ 0) → Why m s table halted

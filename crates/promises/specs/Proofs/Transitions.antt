@@ -161,7 +161,14 @@ none-pending s h b l = zero-or (bufferOf s b .delay) (λ p. absurd (omega (arith
     zero-or zero f = refl
     zero-or (suc d) f = absurd (f (omega arith))
 
-least-once : (s : State) (j k : ℕ) → LeastDelay s j → LeastDelay s k → j ≡ k
+-- the soonest delay of a state is the least that is pending, and 0 if none is
+pub soonest-pending : (s : State) (n : ℕ) → soonest 0 (s .buffers) ≡ suc n → LeastDelay s (suc n)
+soonest-pending s n e = is-least s n (rw e at (soonest-least 0 (s .buffers)))
+
+pub soonest-quiet : (s : State) → soonest 0 (s .buffers) ≡ 0 → (b : ℕ) → b < length (s .buffers) → bufferOf s b .delay ≡ 0
+soonest-quiet s e = none-pending s (rw e at (soonest-least 0 (s .buffers)))
+
+pub least-once : (s : State) (j k : ℕ) → LeastDelay s j → LeastDelay s k → j ≡ k
 least-once s j k a b =
     omega (arith, a .least (b .buffer) (b .there) (omega (arith, b .is, b .above)), b .least (a .buffer) (a .there) (omega (arith, a .is, a .above)), a .is, b .is)
 
@@ -240,9 +247,9 @@ module _ (m : Model) (d : Decoded m) (s : State) where
     stays : NoneSelected m s → ((b : ℕ) → b < length (s .buffers) → bufferOf s b .delay ≡ 0) → freshStep ≡ Stopped halted → Outcome
 
   by-wait : (n : ℕ) → soonest 0 (s .buffers) ≡ n → NoneSelected m s → freshStep ≡ waitStep s n → Outcome
-  by-wait zero e none-is q = stays none-is (none-pending s (rw e at (soonest-least 0 (s .buffers)))) q
+  by-wait zero e none-is q = stays none-is (soonest-quiet s e) q
   by-wait (suc n) e none-is q =
-      goes (Waited (suc n)) (wait (suc n) s) (markOf [] s (wait (suc n) s)) (no-rule none-is (is-least s n (rw e at (soonest-least 0 (s .buffers)))) (wait-passed (suc n) s)) q
+      goes (Waited (suc n)) (wait (suc n) s) (markOf [] s (wait (suc n) s)) (no-rule none-is (soonest-pending s n e) (wait-passed (suc n) s)) q
 
   by-fire : (c : Candidate) → choose (m .rules) (utilities (m .rules)) (freshTable (m .rules) s) ≡ some c → freshStep ≡ stepBy (m .failure) (m .facts) s (some c) → Outcome
   by-fire c e q =
