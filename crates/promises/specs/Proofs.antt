@@ -18,3 +18,4 @@ pub mod Outcomes
 pub mod Stopping
 pub mod Reading
 pub mod Numbers
+pub mod Machines

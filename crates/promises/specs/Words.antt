@@ -1,15 +1,17 @@
 -- The words in which the promises about tables are stated.
 use mathlib.Core.Path.{_≡_}
-use mathlib.Core.Bool.{true, false}
+use mathlib.Core.Bool.{Bool, true, false, _&&_}
 use mathlib.Core.List.{List, _∷_, List·Memᴰ}
-use Prim.Native.Nat.{ℕ, zero, suc, _*_, _<_}
+use Prim.Native.Nat.{ℕ, zero, suc, _*_, _≤_, _<_}
+use lib.Dec.{leb, eqb}
 use lib.ListN.{length, take, drop}
+use Rattle.meaning.specs.declared.Buffer.{Buffer}
 use Rattle.meaning.specs.declared.State.{State}
-use Rattle.meaning.specs.Base.{keep}
+use Rattle.meaning.specs.Base.{every, keep}
 use Rattle.meaning.specs.Model.{Model, Rule, Test, Action}
 use Rattle.meaning.specs.State.{bufferOf}
 use Rattle.meaning.specs.Match.{shows, matches, entryOf}
-use Rattle.meaning.specs.Step.{Event, Fired}
+use Rattle.meaning.specs.Step.{Event, Fired, largest}
 use Rattle.meaning.specs.Refresh.{testsMarked}
 use Rattle.meaning.specs.Calls.{openOf, runOf, refreshOf}
 
@@ -32,6 +34,19 @@ pub record RefreshedTo (rules : List Rule) (s : State) (mark : ℕ) (table new :
   pub as-long : length new ≡ length table
   -- the number says how many rules test a marked buffer
   pub counted : count ≡ length (keep (testsMarked mark) rules)
+
+-- "eight buffers, each with a type, eight slot values and a delay in ms (0 to 65,535), and a 32-bit clock in ms": a word of 16 bits for each
+abbrev pub isWord : ℕ → Bool
+isWord v = leb v 65535
+
+abbrev pub isBuffer : Buffer → Bool
+isBuffer b = eqb (length (b .slots)) 8 && (isWord (b .isa) && (every isWord (b .slots) && isWord (b .delay)))
+
+-- a state as the machine has it: what a caller can hand in at all
+pub record Machine (s : State) : Type 0 where
+  pub eight : length (s .buffers) ≡ 8
+  pub all-buffers : every isBuffer (s .buffers) ≡ true
+  pub in-time : s .clock ≤ largest
 
 -- the states and tables that a caller of one image can hold: those of an accepted opening, and then those that any call gives back
 -- when it is handed the state and table left before it, whatever its number says (a refused call too)

@@ -26,7 +26,7 @@ pub and-true : (a b : Bool) → a ≡ true → b ≡ true → (a && b) ≡ true
 and-true true b p q = q
 and-true false b p q = p
 
-all-weaken : {A : Type 0} (p q : A → Bool) → ((x : A) → p x ≡ true → q x ≡ true) → (xs : List A) → every p xs ≡ true → every q xs ≡ true
+pub all-weaken : {A : Type 0} (p q : A → Bool) → ((x : A) → p x ≡ true → q x ≡ true) → (xs : List A) → every p xs ≡ true → every q xs ≡ true
 all-weaken p q h [] e = refl
 all-weaken p q h (x ∷ xs) e = and-true (q x) (every q xs) (h x (and-left (p x) (every p xs) e)) (all-weaken p q h xs (and-right (p x) (every p xs) e))
 

@@ -20,10 +20,10 @@ use Rattle.promises.specs.Proofs.Marks.{length-change}
 use Rattle.promises.specs.Proofs.Chains.{chain-keeps}
 use Rattle.promises.specs.Proofs.Steps.{FiredBy, WaitedBy, step-fired, step-waited}
 
-abbrev Eight : State → Type 0
+abbrev pub Eight : State → Type 0
 Eight s = length (s .buffers) ≡ 8
 
-open-eight : (m : Model) → Decoded m → Eight (openState m)
+pub open-eight : (m : Model) → Decoded m → Eight (openState m)
 unfolding openState
 open-eight m d =
     length-append (map opens (m .opening)) (replicate (8 - m .buffers) (nilAfter 0))
@@ -37,7 +37,7 @@ wait-eight : (ms : ℕ) (s : State) → length (wait ms s .buffers) ≡ length (
 unfolding wait
 wait-eight ms s = length-change (λ i b. later ms b) 0 (s .buffers)
 
-step-eight : (m : Model) (s : State) (table : List ℕ) → Eight s → (e : Event) (s′ : State) (mark : ℕ) → stepOf m s table ≡ Made e s′ mark → Eight s′
+pub step-eight : (m : Model) (s : State) (table : List ℕ) → Eight s → (e : Event) (s′ : State) (mark : ℕ) → stepOf m s table ≡ Made e s′ mark → Eight s′
 step-eight m s table h (Fired k) s′ mark q =
     let f : FiredBy m (m .facts) (utilities (m .rules)) s table k s′ mark = step-fired m (m .facts) (utilities (m .rules)) s table k s′ mark q in
     ap (λ (x : State). length (x .buffers)) (sym (f .state-is)) ∙ fire-eight (m .failure) (m .facts) (f .candidate .rule) (f .candidate .entry) s ∙ h

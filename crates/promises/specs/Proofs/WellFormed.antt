@@ -44,7 +44,7 @@ all-three : (a b c : Bool) → a ≡ true → b ≡ true → c ≡ true → (a &
 all-three a b c p q r = and-true (a && b) c (and-true a b p q) r
 
 -- what a well-formed buffer is, and what nil is, part by part
-buffer-parts : (types : List ℕ) (b : Buffer) → wellBuffer types b ≡ true
+pub buffer-parts : (types : List ℕ) (b : Buffer) → wellBuffer types b ≡ true
     → (ltb (b .isa) (length types) ≡ true) × (every (λ v. leb v 4095) (b .slots) ≡ true) × (every (λ v. eqb v 0) (drop (slotCount types (b .isa)) (b .slots)) ≡ true)
 buffer-parts types b e = three (ltb (b .isa) (length types)) (every (λ v. leb v 4095) (b .slots)) (every (λ v. eqb v 0) (drop (slotCount types (b .isa)) (b .slots))) e
 
@@ -53,7 +53,7 @@ nil-parts b e = three (eqb (b .isa) 0) (every (λ v. eqb v 0) (b .slots)) (eqb (
 
 -- ---- lists
 
-all-getD : {A : Type 0} (p : A → Bool) (xs : List A) (i : ℕ) (d : A) → every p xs ≡ true → p d ≡ true → p (getD xs i d) ≡ true
+pub all-getD : {A : Type 0} (p : A → Bool) (xs : List A) (i : ℕ) (d : A) → every p xs ≡ true → p d ≡ true → p (getD xs i d) ≡ true
 all-getD p [] i d e h = h
 all-getD p (x ∷ xs) zero d e h = and-left (p x) (every p xs) e
 all-getD p (x ∷ xs) (suc i) d e h = all-getD p xs i d (and-right (p x) (every p xs) e) h
@@ -69,7 +69,7 @@ all-at p r (next {k} {y = q} {xs = rs} h) e = all-at p r h (and-right (p q) (eve
 
 -- ---- buffers made anew
 
-all-change : (p : Buffer → Bool) (f : ℕ → Buffer → Buffer) (i : ℕ) (bs : List Buffer) → ((j : ℕ) → j < length bs → p (f (i + j) (getD bs j nothing)) ≡ true) → every p (change f i bs) ≡ true
+pub all-change : (p : Buffer → Bool) (f : ℕ → Buffer → Buffer) (i : ℕ) (bs : List Buffer) → ((j : ℕ) → j < length bs → p (f (i + j) (getD bs j nothing)) ≡ true) → every p (change f i bs) ≡ true
 unfolding change
 all-change p f i [] h = refl
 all-change p f i (b ∷ bs) h =
