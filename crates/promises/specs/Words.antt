@@ -7,7 +7,7 @@ use lib.Dec.{leb, eqb}
 use lib.ListN.{length, take, drop}
 use Rattle.meaning.specs.declared.Buffer.{Buffer}
 use Rattle.meaning.specs.declared.State.{State}
-use Rattle.meaning.specs.Base.{every, keep}
+use Rattle.meaning.specs.Base.{every, keep, bit}
 use Rattle.meaning.specs.Model.{Model, Rule, Test, Action}
 use Rattle.meaning.specs.State.{bufferOf}
 use Rattle.meaning.specs.Match.{shows, matches, entryOf}
@@ -49,12 +49,15 @@ pub record Machine (s : State) : Type 0 where
   pub in-time : s .clock ≤ largest
 
 -- the states and tables that a caller of one image can hold: those of an accepted opening, and then those that any call gives back
--- when it is handed the state and table left before it, whatever its number says (a refused call too)
+-- when it is handed the state and table left before it, whatever its number says (a refused call too); and the states that the caller itself makes of them
 pub data Reached (image : List ℕ) : State → List ℕ → Type 0 where
   opened : (table : List ℕ) → openOf image table .number ≡ 0 → Reached image (openOf image table .state) (openOf image table .table)
   ran : {s : State} {table : List ℕ} → Reached image s table → (steps : ℕ)
       → Reached image (runOf image s table steps .state) (runOf image s table steps .table)
   refreshed : {s : State} {table : List ℕ} → Reached image s table → (mark : ℕ) → Reached image s (refreshOf image s mark table .table)
+  -- the caller puts other chunks into buffers, or sets the clock, and refreshes with a mark of every buffer that it changed: the refresh answers 0
+  changed : {s : State} {table : List ℕ} → Reached image s table → (s′ : State) (mark : ℕ) → Machine s′ → ((b : ℕ) → bit mark b ≡ false → bufferOf s b ≡ bufferOf s′ b)
+      → refreshOf image s′ mark table .number ≡ 0 → Reached image s′ (refreshOf image s′ mark table .table)
 
 -- rule number k matches the state as it is: each of its tests finds a visible chunk of its type in its buffer
 pub record Matching (m : Model) (s : State) (k : ℕ) : Type 0 where

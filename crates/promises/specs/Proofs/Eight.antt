@@ -1,4 +1,4 @@
--- A chain of calls always holds a state of eight buffers.
+-- A state of eight buffers: an opening has them, and a step keeps them.
 use mathlib.Core.Path.{_≡_, sym, ap, _∙_}
 use mathlib.Core.List.{List, map}
 use Prim.Native.Nat.{ℕ, _-_}
@@ -14,10 +14,8 @@ use Rattle.meaning.specs.Fire.{later, after, deedOn, fire}
 use Rattle.meaning.specs.Wait.{wait}
 use Rattle.meaning.specs.Step.{Event, Fired, Waited, Made, stepOf}
 use Rattle.meaning.specs.Calls.{opens, openState}
-use Rattle.promises.specs.Words.{Reached}
 use Rattle.promises.specs.Proofs.Decoded.{Decoded, decoded}
 use Rattle.promises.specs.Proofs.Marks.{length-change}
-use Rattle.promises.specs.Proofs.Chains.{chain-keeps}
 use Rattle.promises.specs.Proofs.Steps.{FiredBy, WaitedBy, step-fired, step-waited}
 
 abbrev pub Eight : State → Type 0
@@ -44,7 +42,3 @@ step-eight m s table h (Fired k) s′ mark q =
 step-eight m s table h (Waited ms) s′ mark q =
     let f : WaitedBy m (utilities (m .rules)) s table ms s′ mark = step-waited m (m .facts) (utilities (m .rules)) s table ms s′ mark q in
     ap (λ (x : State). length (x .buffers)) (sym (f .state-is)) ∙ wait-eight ms s ∙ h
-
-pub chain-eight : (image : List ℕ) (m : Model) (at : ℕ) → decode image ≡ Got m at → {s : State} {table : List ℕ} → Reached image s table → length (s .buffers) ≡ 8
-chain-eight image m at d r =
-    chain-keeps m (λ s table. Eight s) (λ s table h e s′ mark q. step-eight m s table h e s′ mark q) (open-eight m (decoded image m at d)) (λ s mark table h. h) image at d r

@@ -1,5 +1,6 @@
 -- A chain of calls holds states of the machine: eight buffers of eight slots, each word in 16 bits.
-use mathlib.Core.Path.{_≡_, refl, sym, ap, _∙_}
+use mathlib.Core.Path.{_≡_, refl, sym, ap, subst, _∙_}
+use mathlib.Core.Logic.{_⊎_, ⊎-elim}
 use mathlib.Core.Bool.{Bool, true, false, _&&_}
 use mathlib.Core.List.{List, [], _∷_, _++_, map, List·Memᴰ, List·Memᴰ·head, Memᴰ·append-right}
 use mathlib.Core.Option.{Option, none, some}
@@ -35,6 +36,7 @@ use Rattle.promises.specs.Proofs.Decoded.{Decoded, decoded, and-true, al
 use Rattle.promises.specs.Proofs.Numbers.{decode-got}
 use Rattle.promises.specs.Proofs.Marks.{length-change}
 use Rattle.promises.specs.Proofs.Steps.{FiredBy, WaitedBy, step-fired, step-waited}
+use Rattle.promises.specs.Proofs.Chains.{chain-keeps}
 use Rattle.promises.specs.Proofs.Eight.{open-eight, step-eight}
 use Rattle.promises.specs.Proofs.WellFormed.{buffer-parts, all-getD, all-change, step-well}
 
@@ -253,3 +255,14 @@ module _ (image : List ℕ) (m : Model) (at : ℕ) (d : decode image ≡ Got m a
   pub open-sound : Sound m (openState m)
   unfolding openState
   open-sound = made-sound m (openState m) (open-eight m (decoded image m at d)) (open-rough m fit) (omega arith) (open-well image m at d)
+
+  -- a change of the caller's is of the machine and well formed, or there is none
+  changed-sound : (s s′ : State) → Sound m s → (s ≡ s′) ⊎ (Machine s′ × (wellFormed m s′ ≡ true)) → Sound m s′
+  changed-sound s s′ h given =
+      ⊎-elim (λ (e : s ≡ s′). subst (Sound m) e h) (λ (k : Machine s′ × (wellFormed m s′ ≡ true)). record { well = k .1; machine = k .0 }) given
+
+  pub chain-sound : {s : State} {table : List ℕ} → Reached image s table → Sound m s
+  chain-sound r = chain-keeps m (λ s table. Sound m s) step-sound open-sound (λ s s′ mark table h given same. changed-sound s s′ h given) image at d r
+
+  pub chain-well : {s : State} {table : List ℕ} → Reached image s table → wellFormed m s ≡ true
+  chain-well r = chain-sound r .well

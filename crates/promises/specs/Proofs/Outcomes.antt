@@ -24,7 +24,7 @@ use Rattle.promises.specs.Words.{Reached}
 use Rattle.promises.specs.Published.{Selected, NoneSelected, Transition, Final, Transitions, no-step, one-step, Passes, Ended, done, full, over, RanOn}
 use Rattle.promises.specs.Proofs.Decoded.{Decoded, decoded}
 use Rattle.promises.specs.Proofs.Runs.{step-fresh, chain-fresh}
-use Rattle.promises.specs.Proofs.WellFormed.{chain-well}
+use Rattle.promises.specs.Proofs.Machines.{chain-well}
 use Rattle.promises.specs.Proofs.Selection.{chosen-selected}
 use Rattle.promises.specs.Proofs.Steps.{no-made, InTime, unless-made, unless-stopped, unless-full, unless-on}
 use Rattle.promises.specs.Proofs.Transitions.{transition-once, Outcome, goes, stays, outcome, stays-final}

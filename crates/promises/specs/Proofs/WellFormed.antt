@@ -286,7 +286,3 @@ step-well m d s table w (Fired k) s′ mark h =
 step-well m d s table w (Waited ms) s′ mark h =
     let f : WaitedBy m (utilities (m .rules)) s table ms s′ mark = step-waited m (m .facts) (utilities (m .rules)) s table ms s′ mark h in
     ap (wellFormed m) (sym (f .state-is)) ∙ wait-well m ms s w
-
-pub chain-well : (image : List ℕ) (m : Model) (at : ℕ) → decode image ≡ Got m at → {s : State} {table : List ℕ} → Reached image s table → wellFormed m s ≡ true
-chain-well image m at d r =
-    chain-keeps m (λ s table. wellFormed m s ≡ true) (λ s table w e s′ mark q. step-well m (decoded image m at d) s table w e s′ mark q) (open-well image m at d) (λ s mark table w. w) image at d r
