@@ -14,8 +14,8 @@ use Rattle.meaning.specs.Read.{Refused, Got}
 use Rattle.meaning.specs.Image.{model, decode}
 use Rattle.meaning.specs.Match.{freshTable}
 use Rattle.meaning.specs.Refresh.{refresh, refreshCount}
-use Rattle.meaning.specs.Calls.{openState, openOf, refreshOf}
-use Rattle.promises.specs.Sentences.{Stops, Taken, Given, AfterOpen, AfterRefresh}
+use Rattle.meaning.specs.Calls.{openState, openOf, traceOf, runOf, refreshOf}
+use Rattle.promises.specs.Sentences.{Stops, Taken, Given, AfterOpen, AfterRefresh, AfterRun, RanTo}
 use Rattle.promises.specs.Proofs.Numbers as numbers
 
 -- ---- an image alone
@@ -67,3 +67,19 @@ module _ (image table : List ℕ) (s : State) (mark : ℕ) where
   -- Refused, it counts nothing and leaves the table.
   pub refresh-refused : (refreshOf image s mark table .number ≡ 0 → ⊥) → (refreshOf image s mark table .count ≡ 0) × (refreshOf image s mark table .table ≡ table)
   refresh-refused h = numbers.refresh-refused image table s mark h
+
+-- ---- run
+
+module _ (image table : List ℕ) (s : State) (asked : ℕ) where
+  -- Run answers a number exactly when its row holds and none before it: after 6, as many steps as there are, and 0 if they are those asked, 7, 8 or 9 if not.
+  pub run-exactly : (n : ℕ) → (runOf image s table asked .number ≡ n) ↔ Given image table (AfterRun s table asked) n
+  run-exactly n = numbers.run-number image table s asked n
+
+  -- A well-formed state is never refused: number 0, 7, 8 or 9, and the state, table and count after the steps made, whatever the table holds.
+  pub run-taken : (m : Model) → Taken image table m → wellFormed m s ≡ true → RanTo m s table asked (traceOf image s table asked .events) (runOf image s table asked)
+  run-taken m t w = numbers.run-taken image table s asked m t w
+
+  -- Refused by 1 to 6, it gives the state back, counts nothing and leaves the table.
+  pub run-refused : 0 < runOf image s table asked .number → runOf image s table asked .number < 7
+      → runOf image s table asked ≡ record { number = runOf image s table asked .number; state = s; table = table; made = 0 }
+  run-refused a b = numbers.run-refused image table s asked a b

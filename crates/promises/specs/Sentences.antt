@@ -2,7 +2,7 @@
 use mathlib.Core.Path.{_≡_}
 use mathlib.Core.Logic.{_⊎_}
 use mathlib.Core.Bool.{true, false}
-use mathlib.Core.List.{List}
+use mathlib.Core.List.{List, [], _∷_}
 use mathlib.Core.Option.{none, some}
 use Prim.Native.Nat.{ℕ, _+_, _*_, _^_, _≤_, _<_}
 use lib.ListN.{length}
@@ -15,7 +15,10 @@ use Rattle.meaning.specs.Bits.{fieldAt}
 use Rattle.meaning.specs.Image.{padding, model}
 use Rattle.meaning.specs.Match.{entryOf}
 use Rattle.meaning.specs.Choice.{Candidate, choose, utilities}
-use Rattle.meaning.specs.Step.{largest}
+use Rattle.meaning.specs.Step.{Event, Made, largest, stepOf}
+use Rattle.meaning.specs.Refresh.{refresh}
+use Rattle.meaning.specs.Run.{Timed}
+use Rattle.meaning.specs.Calls.{Ran}
 use Rattle.promises.specs.Published.{LeastDelay}
 
 -- where the reading of an image can stop, and by which number: at a field that is reached and not wholly there; at one that is reached and breaks its rule;
@@ -73,3 +76,29 @@ pub data Why (m : Model) (s : State) (table : List ℕ) : ℕ → Type 0 where
   late-wait : {ms : ℕ} → choose (m .rules) (utilities (m .rules)) table ≡ none → LeastDelay s ms → largest < s .clock + ms → Why m s table clock-full
   -- "halted": "No entry matches and nothing is pending."
   quiet : choose (m .rules) (utilities (m .rules)) table ≡ none → ((b : ℕ) → b < length (s .buffers) → bufferOf s b .delay ≡ 0) → Why m s table halted
+
+-- steps made one after the other, with what each did and the clock after it: "After each step the table is refreshed with that mark."
+pub data Steps (m : Model) : List Timed → State → List ℕ → State → List ℕ → Type 0 where
+  none-made : {s : State} {table : List ℕ} → Steps m [] s table s table
+  then-made : {e : Event} {es : List Timed} {s s′ s″ : State} {mark : ℕ} {table table″ : List ℕ} → stepOf m s table ≡ Made e s′ mark
+      → Steps m es s′ (refresh (m .rules) s′ mark table) s″ table″ → Steps m (record { clock = s′ .clock; event = e } ∷ es) s table s″ table″
+
+-- why a run of so many steps asked ends after so many made, in a state and with a table
+pub data EndsBy (m : Model) (asked made : ℕ) (s : State) (table : List ℕ) : ℕ → Type 0 where
+  -- "all that was asked is done"
+  enough : made ≡ asked → EndsBy m asked made s table all-done
+  -- 7, 8 or 9
+  before-that : {n : ℕ} → made < asked → Why m s table n → EndsBy m asked made s table n
+
+-- run: "6", and then its steps
+pub data AfterRun (s : State) (table : List ℕ) (asked : ℕ) (m : Model) : ℕ → Type 0 where
+  -- "state not well formed"
+  unwell : wellFormed m s ≡ false → AfterRun s table asked m ill-formed
+  went : {es : List Timed} {s′ : State} {table′ : List ℕ} {n : ℕ} → wellFormed m s ≡ true → Steps m es s table s′ table′
+      → EndsBy m asked (length es) s′ table′ n → AfterRun s table asked m n
+
+-- what a run gives back and leaves: "the state, table and count after the steps already made"
+pub record RanTo (m : Model) (s : State) (table : List ℕ) (asked : ℕ) (events : List Timed) (a : Ran) : Type 0 where
+  pub steps : Steps m events s table (a .state) (a .table)
+  pub counted : a .made ≡ length events
+  pub ended : EndsBy m asked (a .made) (a .state) (a .table) (a .number)

@@ -2,8 +2,8 @@
 use mathlib.Core.Path.{_≡_, refl, sym, ap, subst, _∙_}
 use mathlib.Core.Logic.{_↔_}
 use mathlib.Core.Bool.{Bool, true, false, not}
-use mathlib.Core.List.{List, _++_}
-use Prim.Native.Nat.{ℕ, _+_, _*_, _^_, _≤_, _<_}
+use mathlib.Core.List.{List, [], _∷_, _++_}
+use Prim.Native.Nat.{ℕ, zero, suc, _+_, _*_, _^_, _≤_, _<_}
 use native.Mathlib.Omega.{arith}
 use borrow.Author.Tests.{lt-ltb, le-ltb, leb-true, leb-false, le-leb, lt-leb, eqb-true, eqb-false, eq-eqb, ne-eqb}
 use lib.Dec.{leb, eqb}
@@ -17,13 +17,15 @@ use Rattle.meaning.specs.Read.{Read, Refused, Got}
 use Rattle.meaning.specs.Image.{model, decode}
 use Rattle.meaning.specs.Match.{freshTable}
 use Rattle.meaning.specs.Refresh.{refresh, refreshCount}
-use Rattle.meaning.specs.Calls.{fitting, accepted, tableLength, Opened, openState, openedBy, openOf, Ran, ranBy, runOf, Refreshed, refreshedBy, refreshOf}
+use Rattle.meaning.specs.Step.{Event, Step, Stopped, Made, stepOf}
+use Rattle.meaning.specs.Run.{Going, going, Timed, Run, ends, before, goOn, runFrom}
+use Rattle.meaning.specs.Calls.{accepted, openState, openedBy, openOf, tracedBy, traceOf, Ran, ranBy, runOf, Refreshed, refreshedBy, refreshOf}
 use Rattle.laws.specs.ReadLaws.{no-got}
 use Rattle.laws.specs.WindowLaws.{by-lt}
-use Rattle.promises.specs.Words.{RefreshedTo}
 use Rattle.promises.specs.Sentences.{Stops, missing, broken, unended, Taken, Given, over, lacking, against, trailing, unfit, taken, AfterOpen, AfterRefresh, ill, high, renewed}
+use Rattle.promises.specs.Sentences.{Why, stale, late-fire, late-wait, quiet, Steps, none-made, then-made, EndsBy, enough, before-that, AfterRun, unwell, went, RanTo}
 use Rattle.promises.specs.Proofs.Reading.{Onward, wants, stuck, ended, model-whole}
-use Rattle.promises.specs.Proofs.Tables.{refresh-made}
+use Rattle.promises.specs.Proofs.Stopping.{stopped-why, why-stopped}
 
 -- ---- an image
 
@@ -168,6 +170,81 @@ module _ (image table : List ℕ) where
         → refreshOf image s mark table ≡ record { number = 0; count = refreshCount (m .rules) mark; table = refresh (m .rules) s mark table }
     unfolding refreshOf
     refresh-taken m t w l = rw (taken-accepted t, w, lt-leb (2 ^ m .buffers) mark l) refl
+
+-- ---- run
+
+run-left : (m : Model) (n : ℕ) (g : Going) → let r : Run = runFrom m n g in RanTo m (g .state) (g .table) n (r .events) (ranBy r)
+unfolding runFrom
+run-left m zero g = record { steps = none-made; counted = refl; ended = enough refl }
+run-left m (suc n) g = by (λ g′. run-left m n g′) (stepOf m (g .state) (g .table)) refl
+  where
+    by : ((g′ : Going) → RanTo m (g′ .state) (g′ .table) n (runFrom m n g′ .events) (ranBy (runFrom m n g′))) → (st : Step) → stepOf m (g .state) (g .table) ≡ st
+        → let r : Run = goOn m g (λ g′. runFrom m n g′) st in RanTo m (g .state) (g .table) (suc n) (r .events) (ranBy r)
+    by ih (Stopped k) q = record { steps = none-made; counted = refl; ended = before-that (omega arith) (stopped-why m (g .state) (g .table) k q) }
+    by ih (Made e s′ mark) q =
+        let r = ih (going s′ (refresh (m .rules) s′ mark (g .table))) in
+        record { steps = then-made q (r .steps); counted = refl; ended = longer (r .ended) }
+      where
+        longer : {k number : ℕ} {x : State} {t : List ℕ} → EndsBy m n k x t number → EndsBy m (suc n) (suc k) x t number
+        longer (enough p) = enough (ap suc p)
+        longer (before-that l w) = before-that (omega arith) w
+
+run-ends : (m : Model) {es : List Timed} {s s′ : State} {table table′ : List ℕ} → Steps m es s table s′ table′ → (asked : ℕ) {n : ℕ} → EndsBy m asked (length es) s′ table′ n
+    → runFrom m asked (going s table) .number ≡ n
+unfolding runFrom
+run-ends m none-made zero (enough e) = refl
+run-ends m none-made zero (before-that l w) = absurd (omega arith)
+run-ends m none-made (suc k) (enough e) = absurd (omega arith)
+run-ends m (none-made {s} {table}) (suc k) (before-that l w) = rw (why-stopped m s table w) refl
+run-ends m (then-made q rest) zero (enough e) = absurd (omega arith)
+run-ends m (then-made q rest) zero (before-that l w) = absurd (omega arith)
+run-ends m (then-made q rest) (suc k) (enough e) = rw q (run-ends m rest k (enough (omega arith)))
+run-ends m (then-made q rest) (suc k) (before-that l w) = rw q (run-ends m rest k (before-that (omega arith) w))
+
+module _ (image table : List ℕ) (s : State) (asked : ℕ) where
+  -- by whether the state is well formed
+  abbrev traced : Model → Bool → Run
+  traced m t = if t then runFrom m asked (going s table) else (ends ill-formed (going s table))
+
+  run-row : (m : Model) (end n : ℕ) → (tracedBy (going s table) asked (Got m end) .number ≡ n) ↔ AfterRun s table asked m n
+  run-row m end n = (there (wellFormed m s) refl, back)
+    where
+      there : (t : Bool) → wellFormed m s ≡ t → traced m t .number ≡ n → AfterRun s table asked m n
+      there true w e = subst (AfterRun s table asked m) e (let r = run-left m asked (going s table) in went w (r .steps) (r .ended))
+      there false w e = subst (AfterRun s table asked m) e (unwell w)
+
+      back : {k : ℕ} → AfterRun s table asked m k → tracedBy (going s table) asked (Got m end) .number ≡ k
+      back (unwell w) = rw w refl
+      back (went w steps by) = rw w (run-ends m steps asked by)
+
+  pub run-number : (n : ℕ) → (runOf image s table asked .number ≡ n) ↔ Given image table (AfterRun s table asked) n
+  unfolding runOf traceOf
+  run-number n = exactly image table (λ r. tracedBy (going s table) asked r .number) (AfterRun s table asked) (λ k at. refl) run-row n
+
+  pub run-taken : (m : Model) → Taken image table m → wellFormed m s ≡ true → RanTo m s table asked (traceOf image s table asked .events) (runOf image s table asked)
+  unfolding runOf traceOf
+  run-taken m t w = rw (taken-accepted image table t, w) (run-left m asked (going s table))
+
+  -- a run that went does not end by 1 to 6
+  ends-late : (m : Model) {n made : ℕ} {x : State} {t : List ℕ} → EndsBy m asked made x t n → 0 < n → n < 7 → ⊥
+  ends-late m (enough e) a b = omega arith
+  ends-late m (before-that l (stale o d)) a b = omega arith
+  ends-late m (before-that l (late-fire o d e)) a b = omega arith
+  ends-late m (before-that l (late-wait o d e)) a b = omega arith
+  ends-late m (before-that l (quiet o d)) a b = omega arith
+
+  refused-left : (r : Read Model) → let t : Run = tracedBy (going s table) asked r in 0 < t .number → t .number < 7 → t ≡ ends (t .number) (going s table)
+  refused-left (Refused n at) a b = refl
+  refused-left (Got m at) a b = by (wellFormed m s) a b
+    where
+      by : (t : Bool) → 0 < traced m t .number → traced m t .number < 7 → traced m t ≡ ends (traced m t .number) (going s table)
+      by true a b = absurd (ends-late m (run-left m asked (going s table) .ended) a b)
+      by false a b = refl
+
+  pub run-refused : 0 < runOf image s table asked .number → runOf image s table asked .number < 7
+      → runOf image s table asked ≡ record { number = runOf image s table asked .number; state = s; table = table; made = 0 }
+  unfolding runOf traceOf
+  run-refused a b = ap ranBy (refused-left (accepted image table) a b)
 
 -- ---- what follows an image
 
