@@ -9,4 +9,5 @@ pub mod Marking
 pub mod Keeping
 pub mod Clearing
 pub mod Semantics
+pub mod Demands
 pub mod Proofs

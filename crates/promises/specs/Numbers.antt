@@ -4,7 +4,7 @@ use mathlib.Core.Path.{_≡_}
 use mathlib.Core.Logic.{_↔_}
 use mathlib.Core.Bool.{true}
 use mathlib.Core.List.{List, _++_}
-use Prim.Native.Nat.{ℕ, _^_, _≤_, _<_}
+use Prim.Native.Nat.{ℕ, _*_, _^_, _≤_, _<_}
 use lib.ListN.{length}
 use Rattle.meaning.specs.declared.State.{State}
 use Rattle.meaning.specs.Numbers.{not-there, bad-number, bad-end}
@@ -14,7 +14,7 @@ use Rattle.meaning.specs.Read.{Refused, Got}
 use Rattle.meaning.specs.Image.{model, decode}
 use Rattle.meaning.specs.Match.{freshTable}
 use Rattle.meaning.specs.Refresh.{refresh, refreshCount}
-use Rattle.meaning.specs.Calls.{openState, openOf, traceOf, runOf, refreshOf}
+use Rattle.meaning.specs.Calls.{tableLength, openState, openOf, traceOf, runOf, refreshOf}
 use Rattle.promises.specs.Sentences.{Stops, Taken, Given, AfterOpen, AfterRefresh, AfterRun, RanTo}
 use Rattle.promises.specs.Proofs.Numbers as numbers
 
@@ -36,6 +36,17 @@ cut-short image rest l m end e = numbers.cut-short image rest l m end e
 -- An accepted image that anything follows is refused by 4.
 pub bytes-follow : (image rest : List ℕ) → 0 < length rest → length (image ++ rest) ≤ 65536 → (m : Model) (end : ℕ) → decode image ≡ Got m end → decode (image ++ rest) ≡ Refused bad-end 0
 bytes-follow image rest l h m end e = numbers.accepted-longer image rest l h m end e
+
+-- The words that a table needs: nine for each rule of an accepted image, and 0 for an image that is refused.
+pub length-accepted : (image : List ℕ) (m : Model) (end : ℕ) → decode image ≡ Got m end → tableLength image ≡ 9 * length (m .rules)
+length-accepted image m end e = numbers.length-accepted image m end e
+
+pub length-refused : (image : List ℕ) (n at : ℕ) → decode image ≡ Refused n at → tableLength image ≡ 0
+length-refused image n at e = numbers.length-refused image n at e
+
+-- An image that is accepted, with a table of that length, is taken.
+pub accepted-taken : (image table : List ℕ) (m : Model) (end : ℕ) → decode image ≡ Got m end → length table ≡ 9 * length (m .rules) → Taken image table m
+accepted-taken image table m end e l = numbers.accepted-taken image table m end e l
 
 -- ---- open
 

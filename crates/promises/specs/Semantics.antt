@@ -16,9 +16,10 @@ use Rattle.meaning.specs.Match.{matches, freshTable}
 use Rattle.meaning.specs.Choice.{Candidate, choose, utilities}
 use Rattle.meaning.specs.Retrieval.{retrieve}
 use Rattle.meaning.specs.Step.{Event, Stopped, Made, largest, stepOf}
+use Rattle.meaning.specs.Run.{Timed}
 use Rattle.meaning.specs.Calls.{traceOf, runOf}
 use Rattle.promises.specs.Words.{At, Reached}
-use Rattle.promises.specs.Published.{Matches, Selected, NoneSelected, valuesIn, Fits, Retrieved, Transition, Final, Passes, RanOn}
+use Rattle.promises.specs.Published.{Matches, Selected, NoneSelected, valuesIn, Fits, Retrieved, Transition, Transitions, Final, Passes, RanOn}
 use Rattle.promises.specs.Proofs.Decoded.{decoded}
 use Rattle.promises.specs.Proofs.Matching as matching
 use Rattle.promises.specs.Proofs.Selection as selection
@@ -88,6 +89,10 @@ module _ (image : List ℕ) (m : Model) (at : ℕ) (accepted : decode image ≡ 
   -- Number 7 never comes.
   pub never-stale : stepOf m s (freshTable (m .rules) s) ≡ Stopped not-fresh → ⊥
   never-stale h = outcomes.not-seven m (decoded image m at accepted) s h
+
+  -- And so there is one path of so many transitions.
+  pub path-once : (es fs : List Timed) (s₁ s₂ : State) → Transitions m es s s₁ → Transitions m fs s s₂ → length es ≡ length fs → (es ≡ fs) × (s₁ ≡ s₂)
+  path-once es fs s₁ s₂ a b l = outcomes.transitions-once m (decoded image m at accepted) a b l
 
   -- ---- the chain of calls
 

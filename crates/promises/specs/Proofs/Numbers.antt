@@ -19,7 +19,7 @@ use Rattle.meaning.specs.Match.{freshTable}
 use Rattle.meaning.specs.Refresh.{refresh, refreshCount}
 use Rattle.meaning.specs.Step.{Event, Step, Stopped, Made, stepOf}
 use Rattle.meaning.specs.Run.{Going, going, Timed, Run, ends, before, goOn, runFrom}
-use Rattle.meaning.specs.Calls.{accepted, openState, openedBy, openOf, tracedBy, traceOf, Ran, ranBy, runOf, Refreshed, refreshedBy, refreshOf}
+use Rattle.meaning.specs.Calls.{accepted, tableLength, openState, openedBy, openOf, tracedBy, traceOf, Ran, ranBy, runOf, Refreshed, refreshedBy, refreshOf}
 use Rattle.laws.specs.ReadLaws.{no-got}
 use Rattle.laws.specs.WindowLaws.{by-lt}
 use Rattle.promises.specs.Sentences.{Stops, missing, broken, unended, Taken, Given, over, lacking, against, trailing, unfit, taken, AfterOpen, AfterRefresh, ill, high, renewed}
@@ -45,6 +45,19 @@ module _ (image : List ℕ) where
 
   pub reading-stops : (n at : ℕ) → model image 0 ≡ Refused n at → Stops image at n
   reading-stops n at e = model-whole .stops image 0 n at (omega arith) e
+
+-- ---- the words of a table
+
+pub length-accepted : (image : List ℕ) (m : Model) (end : ℕ) → decode image ≡ Got m end → tableLength image ≡ 9 * length (m .rules)
+unfolding tableLength
+length-accepted image m end d = rw d refl
+
+pub length-refused : (image : List ℕ) (n at : ℕ) → decode image ≡ Refused n at → tableLength image ≡ 0
+unfolding tableLength
+length-refused image n at d = rw d refl
+
+pub accepted-taken : (image table : List ℕ) (m : Model) (end : ℕ) → decode image ≡ Got m end → length table ≡ 9 * length (m .rules) → Taken image table m
+accepted-taken image table m end d l = let g = decode-got image m end d in record { short = g .0; end = end; reads = g .1; fits = l }
 
 -- ---- an image and a table
 

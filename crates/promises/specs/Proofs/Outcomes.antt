@@ -1,8 +1,8 @@
 -- What a step and a run with the fresh table come to.
-use mathlib.Core.Path.{_≡_, refl, sym, ap, subst, _∙_}
+use mathlib.Core.Path.{_≡_, refl, sym, ap, ap₂, subst, _∙_}
 use mathlib.Core.Logic.{_⊎_, inl, inr, ⊎-elim}
 use mathlib.Core.Bool.{true}
-use mathlib.Core.List.{List}
+use mathlib.Core.List.{List, _∷_}
 use mathlib.Core.Option.{Option, none, some}
 use Prim.Native.Nat.{ℕ, zero, suc, _*_, _≤_, _<_}
 use native.Mathlib.Omega.{arith}
@@ -16,7 +16,7 @@ use Rattle.meaning.specs.Image.{decode}
 use Rattle.meaning.specs.Match.{freshTable}
 use Rattle.meaning.specs.Choice.{Candidate, choose, utilities}
 use Rattle.meaning.specs.Step.{Event, Step, Stopped, Made, largest, unlessPast, stepOf}
-use Rattle.meaning.specs.Run.{Going, going, Run, before, runFrom}
+use Rattle.meaning.specs.Run.{Going, going, Timed, Run, before, runFrom}
 use Rattle.meaning.specs.Calls.{accepted, traceOf, Ran, ranBy, runOf}
 use Rattle.laws.specs.EntryLaws.{fresh-length}
 use Rattle.laws.specs.WindowLaws.{by-lt}
@@ -172,3 +172,13 @@ pub chain-step : (image : List ℕ) (m : Model) (at : ℕ) → decode image ≡ 
     → (e : Event) (s′ : State) (mark : ℕ) → stepOf m s table ≡ Made e s′ mark → Transition m s e s′
 chain-step image m at d {s} {table} r e s′ mark h =
     made-transition m (decoded image m at d) s e s′ mark (ap (stepOf m s) (sym (chain-fresh image m at d r)) ∙ h) .0
+
+-- there is no other way to make so many transitions
+pub transitions-once : (m : Model) → Decoded m → {es fs : List Timed} {s s₁ s₂ : State} → Transitions m es s s₁ → Transitions m fs s s₂ → length es ≡ length fs → (es ≡ fs) × (s₁ ≡ s₂)
+transitions-once m d no-step no-step l = (refl, refl)
+transitions-once m d no-step (one-step t c p) l = absurd (omega arith)
+transitions-once m d (one-step t c p) no-step l = absurd (omega arith)
+transitions-once m d (one-step {e} {es} {s} {s′} {s″ = s₁} t c p) (one-step {e = f} {es = fs} {s′ = t′} {s″ = s₂} u h q) l =
+    let once : (e ≡ f) × (s′ ≡ t′) = transition-once m d s t u in
+    let rest : (es ≡ fs) × (s₁ ≡ s₂) = transitions-once m d p (subst (λ (x : State). Transitions m fs x s₂) (sym (once .1)) q) (omega arith) in
+    (ap₂ (λ (x : Timed) (xs : List Timed). x ∷ xs) (ap₂ (λ (x : Event) (y : State). record { clock = y .clock; event = x }) (once .0) (once .1)) (rest .0), rest .1)
