@@ -62,7 +62,7 @@ accepted-taken image table m end d l = let g = decode-got image m end d in recor
 -- ---- an image and a table
 
 module _ (image table : List ℕ) where
-  taken-accepted : {m : Model} (t : Taken image table m) → accepted image table ≡ Got m (t .end)
+  pub taken-accepted : {m : Model} (t : Taken image table m) → accepted image table ≡ Got m (t .end)
   unfolding accepted
   taken-accepted {m} t = rw (decode-short image (t .short), t .reads, eq-eqb (length table) (9 * length (m .rules)) (t .fits)) refl
 
@@ -258,6 +258,38 @@ module _ (image table : List ℕ) (s : State) (asked : ℕ) where
       → runOf image s table asked ≡ record { number = runOf image s table asked .number; state = s; table = table; made = 0 }
   unfolding runOf traceOf
   run-refused a b = ap ranBy (refused-left (accepted image table) a b)
+
+-- ---- no number is larger than 10
+
+given-small : (image table : List ℕ) (after : Model → ℕ → Type 0) → ((m : Model) (n : ℕ) → after m n → n < 11) → (n : ℕ) → Given image table after n → n < 11
+given-small image table after h n (over l) = omega arith
+given-small image table after h n (lacking l e) = omega arith
+given-small image table after h n (against l e) = omega arith
+given-small image table after h n (trailing l e) = omega arith
+given-small image table after h n (unfit l e f) = omega arith
+given-small image table after h n (taken {m} t a) = h m n a
+
+pub open-small : (image table : List ℕ) → openOf image table .number < 11
+open-small image table = given-small image table AfterOpen (λ m n e. omega arith) (openOf image table .number) (open-number image table (openOf image table .number) .0 refl)
+
+pub refresh-small : (image table : List ℕ) (s : State) (mark : ℕ) → refreshOf image s mark table .number < 11
+refresh-small image table s mark = given-small image table (AfterRefresh s mark) by (refreshOf image s mark table .number) (refresh-number image table s mark (refreshOf image s mark table .number) .0 refl)
+  where
+    by : (m : Model) (n : ℕ) → AfterRefresh s mark m n → n < 11
+    by m n (ill w) = omega arith
+    by m n (high w l) = omega arith
+    by m n (renewed w l) = omega arith
+
+pub run-small : (image table : List ℕ) (s : State) (asked : ℕ) → runOf image s table asked .number < 11
+run-small image table s asked = given-small image table (AfterRun s table asked) by (runOf image s table asked .number) (run-number image table s asked (runOf image s table asked .number) .0 refl)
+  where
+    by : (m : Model) (n : ℕ) → AfterRun s table asked m n → n < 11
+    by m n (unwell w) = omega arith
+    by m n (went w p (enough e)) = omega arith
+    by m n (went w p (before-that l (stale o d))) = omega arith
+    by m n (went w p (before-that l (late-fire o d e))) = omega arith
+    by m n (went w p (before-that l (late-wait o d e))) = omega arith
+    by m n (went w p (before-that l (quiet o d))) = omega arith
 
 -- ---- what follows an image
 
