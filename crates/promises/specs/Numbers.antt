@@ -51,13 +51,13 @@ accepted-taken image table m end e l = numbers.accepted-taken image table m end 
 -- ---- open
 
 module _ (image table : List ℕ) where
+  -- An image and a table that are taken are opened, however large they are: number 0, the opening state, and the fresh table.
+  pub open-taken : (m : Model) → Taken image table m → openOf image table ≡ record { number = 0; state = openState m; table = freshTable (m .rules) (openState m) }
+  open-taken m t = numbers.open-taken image table m t
+
   -- Open answers a number exactly when its row holds and none before it.
   pub open-exactly : (n : ℕ) → (openOf image table .number ≡ n) ↔ Given image table AfterOpen n
   open-exactly n = numbers.open-number image table n
-
-  -- An image and a table that are taken are opened: number 0, the opening state, and the fresh table.
-  pub open-taken : (m : Model) → Taken image table m → openOf image table ≡ record { number = 0; state = openState m; table = freshTable (m .rules) (openState m) }
-  open-taken m t = numbers.open-taken image table m t
 
   -- Refused, it gives the all-zero state and leaves the table.
   pub open-refused : (openOf image table .number ≡ 0 → ⊥) → (openOf image table .state ≡ zeroState) × (openOf image table .table ≡ table)
@@ -66,14 +66,14 @@ module _ (image table : List ℕ) where
 -- ---- refresh
 
 module _ (image table : List ℕ) (s : State) (mark : ℕ) where
-  -- Refresh answers a number exactly when its row holds and none before it.
-  pub refresh-exactly : (n : ℕ) → (refreshOf image s mark table .number ≡ n) ↔ Given image table (AfterRefresh s mark) n
-  refresh-exactly n = numbers.refresh-number image table s mark n
-
   -- A well-formed state and a mark below 2 to the power of the buffer count are never refused: number 0, the count, and the table refreshed.
   pub refresh-taken : (m : Model) → Taken image table m → wellFormed m s ≡ true → mark < 2 ^ m .buffers
       → refreshOf image s mark table ≡ record { number = 0; count = refreshCount (m .rules) mark; table = refresh (m .rules) s mark table }
   refresh-taken m t w l = numbers.refresh-taken image table s mark m t w l
+
+  -- Refresh answers a number exactly when its row holds and none before it.
+  pub refresh-exactly : (n : ℕ) → (refreshOf image s mark table .number ≡ n) ↔ Given image table (AfterRefresh s mark) n
+  refresh-exactly n = numbers.refresh-number image table s mark n
 
   -- Refused, it counts nothing and leaves the table.
   pub refresh-refused : (refreshOf image s mark table .number ≡ 0 → ⊥) → (refreshOf image s mark table .count ≡ 0) × (refreshOf image s mark table .table ≡ table)
@@ -82,13 +82,13 @@ module _ (image table : List ℕ) (s : State) (mark : ℕ) where
 -- ---- run
 
 module _ (image table : List ℕ) (s : State) (asked : ℕ) where
-  -- Run answers a number exactly when its row holds and none before it: after 6, as many steps as there are, and 0 if they are those asked, 7, 8 or 9 if not.
-  pub run-exactly : (n : ℕ) → (runOf image s table asked .number ≡ n) ↔ Given image table (AfterRun s table asked) n
-  run-exactly n = numbers.run-number image table s asked n
-
   -- A well-formed state is never refused: number 0, 7, 8 or 9, and the state, table and count after the steps made, whatever the table holds.
   pub run-taken : (m : Model) → Taken image table m → wellFormed m s ≡ true → RanTo m s table asked (traceOf image s table asked .events) (runOf image s table asked)
   run-taken m t w = numbers.run-taken image table s asked m t w
+
+  -- Run answers a number exactly when its row holds and none before it: after 6, as many steps as there are, and 0 if they are those asked, 7, 8 or 9 if not.
+  pub run-exactly : (n : ℕ) → (runOf image s table asked .number ≡ n) ↔ Given image table (AfterRun s table asked) n
+  run-exactly n = numbers.run-number image table s asked n
 
   -- Refused by 1 to 6, it gives the state back, counts nothing and leaves the table.
   pub run-refused : 0 < runOf image s table asked .number → runOf image s table asked .number < 7

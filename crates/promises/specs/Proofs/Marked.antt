@@ -55,7 +55,8 @@ action-acted (x ∷ xs) a h =
           ⊎-elim (λ (q : a ≡ x). absurd (eqb-false (x .buffer) (a .buffer) t (ap (λ (y : Action). y .buffer) (sym q)))) (λ (k : List·Memᴰ a xs). action-acted xs a k) (List·Memᴰ·cases-cons h)
     ]) refl
 
--- ---- the places of a mark
+-- ---- the places of a mark: one is set
+-- where its buffer was acted on, or went from pending to visible
 
 or-cases : (a b : Bool) → (a || b) ≡ true → (a ≡ true) ⊎ (b ≡ true)
 or-cases true b e = inl refl

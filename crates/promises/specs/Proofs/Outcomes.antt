@@ -111,7 +111,8 @@ module _ (m : Model) (d : Decoded m) (s : State) where
 abbrev freshly : Model → State → Going
 freshly m s = going s (freshTable (m .rules) s)
 
--- what is promised of a run, of its answer and its events
+-- what is promised of a run: of its answer,
+-- and of its events in their order
 abbrev Goes : Model → State → ℕ → Run → Type 0
 Goes m s asked r = RanOn m s asked (r .events) (ranBy r)
 

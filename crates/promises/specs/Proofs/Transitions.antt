@@ -172,7 +172,8 @@ pub least-once : (s : State) (j k : ℕ) → LeastDelay s j → LeastDelay s k �
 least-once s j k a b =
     omega (arith, a .least (b .buffer) (b .there) (omega (arith, b .is, b .above)), b .least (a .buffer) (a .there) (omega (arith, a .is, a .above)), a .is, b .is)
 
--- ---- Apply
+-- ---- Apply: each action has its effect, and all other buffers age;
+-- a firing with the fresh entry does just that
 
 module _ (m : Model) (d : Decoded m) (s : State) where
   module _ (k : ℕ) (r : Rule) (at : At r k (m .rules)) (v : ℕ → ℕ) (binds : Binds r s v) where
