@@ -18,7 +18,7 @@ use Rattle.meaning.specs.Calls.{tableLength, openOf, Ran, traceOf, runOf, Refre
 use Rattle.laws.specs.EntryLaws.{fresh-length}
 use Rattle.promises.specs.Words.{RefreshedTo, Machine, Reached}
 use Rattle.promises.specs.Sentences.{Given, AfterOpen, AfterRun, AfterRefresh}
-use Rattle.promises.specs.Published.{Transitions, Ended, RanOn}
+use Rattle.promises.specs.Published.{Transitions, Ended}
 use Rattle.promises.specs.Numbers as numbers
 use Rattle.promises.specs.Semantics as semantics
 use Rattle.promises.specs.Refreshing as refreshing

@@ -7,14 +7,12 @@ use lib.ListN.{length, replicate, length-append, length-map, length-replicate}
 use Rattle.meaning.specs.declared.State.{State}
 use Rattle.meaning.specs.Model.{Model, Rule, Fact}
 use Rattle.meaning.specs.State.{nilAfter}
-use Rattle.meaning.specs.Read.{Got}
-use Rattle.meaning.specs.Image.{decode}
 use Rattle.meaning.specs.Choice.{utilities}
 use Rattle.meaning.specs.Fire.{later, after, deedOn, fire}
 use Rattle.meaning.specs.Wait.{wait}
 use Rattle.meaning.specs.Step.{Event, Fired, Waited, Made, stepOf}
 use Rattle.meaning.specs.Calls.{opens, openState}
-use Rattle.promises.specs.Proofs.Decoded.{Decoded, decoded}
+use Rattle.promises.specs.Proofs.Decoded.{Decoded}
 use Rattle.promises.specs.Proofs.Marks.{length-change}
 use Rattle.promises.specs.Proofs.Steps.{FiredBy, WaitedBy, step-fired, step-waited}
 

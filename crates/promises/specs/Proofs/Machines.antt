@@ -1,21 +1,20 @@
 -- A chain of calls holds states of the machine: eight buffers of eight slots, each word in 16 bits.
 use mathlib.Core.Path.{_≡_, refl, sym, ap, subst, _∙_}
 use mathlib.Core.Logic.{_⊎_, ⊎-elim}
-use mathlib.Core.Bool.{Bool, true, false, _&&_}
-use mathlib.Core.List.{List, [], _∷_, _++_, map, List·Memᴰ, List·Memᴰ·head, Memᴰ·append-right}
+use mathlib.Core.Bool.{Bool, true, _&&_}
+use mathlib.Core.List.{List, [], _∷_, map, List·Memᴰ, List·Memᴰ·head, Memᴰ·append-right}
 use mathlib.Core.Option.{Option, none, some}
 use Prim.Native.Nat.{ℕ, zero, suc, _+_, _-_, _≤_, _<_}
-use native.Mathlib.Nat.{zero-add}
 use native.Mathlib.Omega.{arith}
 use borrow.Author.Tests.{eqb-true, eq-eqb, leb-true, le-leb}
 use lib.Dec.{leb, eqb}
-use lib.ListN.{length, getD, drop, replicate, set, length-append, length-replicate, length-set, length-map}
+use lib.ListN.{length, getD, drop, replicate, set, length-append, length-replicate, length-set}
 use Rattle.meaning.specs.declared.Buffer.{Buffer}
 use Rattle.meaning.specs.declared.State.{State}
-use Rattle.meaning.specs.Base.{if_then_else_, every, keep}
+use Rattle.meaning.specs.Base.{every, keep}
 use Rattle.meaning.specs.Numbers.{bad-number}
 use Rattle.meaning.specs.Model.{Model, Rule, Named, Deed, Modify, Request, Clear, Chunk, Fact}
-use Rattle.meaning.specs.State.{nothing, nilAfter, bufferOf, slotCount, wellBuffer, isNil, wellFormed}
+use Rattle.meaning.specs.State.{nothing, nilAfter, slotCount, wellBuffer, isNil, wellFormed}
 use Rattle.meaning.specs.Read.{Got, must, field, times}
 use Rattle.meaning.specs.Image.{Header, between, aType, anything, eight, header, chunk, fact, rule, ending, slotCounts, beginning, contents, model, decode}
 use Rattle.meaning.specs.Retrieval.{valueOf, fits, weaker, retrieve, retrieved}
@@ -26,15 +25,14 @@ use Rattle.meaning.specs.Step.{Event, Fired, Waited, Made, largest, stepOf}
 use Rattle.meaning.specs.Calls.{opens, openState}
 use Rattle.laws.specs.BoolLaws.{and-left, and-right}
 use Rattle.laws.specs.FieldLaws.{fieldAt-lt}
-use Rattle.laws.specs.ListLaws.{all-append, all-map, all-replicate, all-member, keep-member}
-use Rattle.laws.specs.ReadLaws.{FieldRead, field-got, between-got, must-kept, split, times-all}
+use Rattle.laws.specs.ListLaws.{all-append, all-replicate, all-member, keep-member}
+use Rattle.laws.specs.ReadLaws.{FieldRead, field-got, between-got, split, times-all}
 use Rattle.laws.specs.HighestLaws.{Best}
 use Rattle.laws.specs.RetrievalLaws.{retrieve-best}
 use Rattle.laws.specs.OpenLaws.{open-well}
 use Rattle.promises.specs.Words.{isWord, isBuffer, Machine, Reached}
-use Rattle.promises.specs.Proofs.Decoded.{Decoded, decoded, and-true, all-weaken}
+use Rattle.promises.specs.Proofs.Decoded.{decoded, and-true, all-weaken}
 use Rattle.promises.specs.Proofs.Numbers.{decode-got}
-use Rattle.promises.specs.Proofs.Marks.{length-change}
 use Rattle.promises.specs.Proofs.Steps.{FiredBy, WaitedBy, step-fired, step-waited}
 use Rattle.promises.specs.Proofs.Chains.{chain-keeps}
 use Rattle.promises.specs.Proofs.Eight.{open-eight, step-eight}
@@ -107,7 +105,8 @@ fits-of image m at e =
     let c-is : record { facts = facts; rules = rules } ≡ c = cc in
     let b-is : record { head = h; types = 0 ∷ counts; opening = opening } ≡ b = cc in
     let m-is : record { buffers = b .head .buffers; types = b .types; failure = b .head .failure; opening = b .opening; facts = c .facts; rules = c .rules } ≡ m = cc in
-    let low : every (λ n. leb n 8) counts ≡ true = times-all (field 4 (must bad-number (between 0 8))) (λ n. leb n 8) (λ i a v n z. le-leb v 8 (between-got 4 0 8 i a v n z .1)) (h .declared) image n₃ counts n₄ e₄ .0 in
+    let low : every (λ n. leb n 8) counts ≡ true =
+    times-all (field 4 (must bad-number (between 0 8))) (λ n. leb n 8) (λ i a v n z. le-leb v 8 (between-got 4 0 8 i a v n z .1)) (h .declared) image n₃ counts n₄ e₄ .0 in
     rw (← m-is, ← c-is, ← b-is)
     (record {
       failure-word = failure-fit image 0 h n₃ e₃;
@@ -224,7 +223,8 @@ all-full types (b ∷ bs) r w =
 
 rough-of : (b : Buffer) → isBuffer b ≡ true → rough b ≡ true
 rough-of b e =
-    let rest : (isWord (b .isa) && (every isWord (b .slots) && isWord (b .delay))) ≡ true = and-right (eqb (length (b .slots)) 8) (isWord (b .isa) && (every isWord (b .slots) && isWord (b .delay))) e in
+    let rest : (isWord (b .isa) && (every isWord (b .slots) && isWord (b .delay))) ≡ true =
+    and-right (eqb (length (b .slots)) 8) (isWord (b .isa) && (every isWord (b .slots) && isWord (b .delay))) e in
     and-true (eqb (length (b .slots)) 8) (isWord (b .isa) && isWord (b .delay)) (and-left (eqb (length (b .slots)) 8) (isWord (b .isa) && (every isWord (b .slots) && isWord (b .delay))) e)
     (and-true (isWord (b .isa)) (isWord (b .delay)) (and-left (isWord (b .isa)) (every isWord (b .slots) && isWord (b .delay)) rest)
     (and-right (every isWord (b .slots)) (isWord (b .delay)) (and-right (isWord (b .isa)) (every isWord (b .slots) && isWord (b .delay)) rest)))

@@ -1,22 +1,20 @@
 -- A step's mark has the buffers acted on and those that went from pending to visible, and no others.
 use mathlib.Core.Path.{_≡_, refl, sym, ap, subst, _∙_}
 use mathlib.Core.Logic.{_⊎_, inl, inr, ⊎-elim}
-use mathlib.Core.Bool.{Bool, true, false, _&&_, _||_, not}
+use mathlib.Core.Bool.{Bool, true, false, _||_, not}
 use mathlib.Core.List.{List, [], _∷_, map, List·Memᴰ, List·Memᴰ·head, List·Memᴰ·tail, List·Memᴰ·not-nil, List·Memᴰ·cases-cons}
-use mathlib.Core.Option.{Option, none, some}
+use mathlib.Core.Option.{some}
 use Prim.Native.Nat.{ℕ, zero, suc, _+_, _≤_, _<_}
 use native.Mathlib.Nat.{zero-add}
 use native.Mathlib.Omega.{arith}
 use borrow.Author.Tests.{eqb-true, eqb-false, eq-eqb, ne-eqb}
 use lib.Dec.{eqb}
 use lib.IntN.{ℤ}
-use lib.ListN.{length, getD, length-map, List·getD-eq-default}
-use Rattle.meaning.specs.declared.Buffer.{Buffer}
+use lib.ListN.{length, length-map, List·getD-eq-default}
 use Rattle.meaning.specs.declared.State.{State}
 use Rattle.meaning.specs.Base.{if_then_else_, upFrom, bit}
-use Rattle.meaning.specs.Model.{Model, Rule, Action, Deed, Fact}
+use Rattle.meaning.specs.Model.{Model, Rule, Action, Fact}
 use Rattle.meaning.specs.State.{bufferOf, visible}
-use Rattle.meaning.specs.Choice.{Candidate}
 use Rattle.meaning.specs.Fire.{deedOn}
 use Rattle.meaning.specs.Mark.{isSome, actedOn, arrived, markOf}
 use Rattle.meaning.specs.Step.{Event, Fired, Waited, Made, step}

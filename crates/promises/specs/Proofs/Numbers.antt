@@ -2,8 +2,8 @@
 use mathlib.Core.Path.{_≡_, refl, sym, ap, subst, _∙_}
 use mathlib.Core.Logic.{_↔_}
 use mathlib.Core.Bool.{Bool, true, false, not}
-use mathlib.Core.List.{List, [], _∷_, _++_}
-use Prim.Native.Nat.{ℕ, zero, suc, _+_, _*_, _^_, _≤_, _<_}
+use mathlib.Core.List.{List, [], _++_}
+use Prim.Native.Nat.{ℕ, zero, suc, _*_, _^_, _≤_, _<_}
 use native.Mathlib.Omega.{arith}
 use borrow.Author.Tests.{lt-ltb, le-ltb, leb-true, leb-false, le-leb, lt-leb, eqb-true, eqb-false, eq-eqb, ne-eqb}
 use lib.Dec.{leb, eqb}
@@ -17,13 +17,13 @@ use Rattle.meaning.specs.Read.{Read, Refused, Got}
 use Rattle.meaning.specs.Image.{model, decode}
 use Rattle.meaning.specs.Match.{freshTable}
 use Rattle.meaning.specs.Refresh.{refresh, refreshCount}
-use Rattle.meaning.specs.Step.{Event, Step, Stopped, Made, stepOf}
-use Rattle.meaning.specs.Run.{Going, going, Timed, Run, ends, before, goOn, runFrom}
-use Rattle.meaning.specs.Calls.{accepted, tableLength, openState, openedBy, openOf, tracedBy, traceOf, Ran, ranBy, runOf, Refreshed, refreshedBy, refreshOf}
+use Rattle.meaning.specs.Step.{Step, Stopped, Made, stepOf}
+use Rattle.meaning.specs.Run.{Going, going, Timed, Run, ends, goOn, runFrom}
+use Rattle.meaning.specs.Calls.{accepted, tableLength, openState, openedBy, openOf, tracedBy, traceOf, ranBy, runOf, Refreshed, refreshedBy, refreshOf}
 use Rattle.laws.specs.ReadLaws.{no-got}
 use Rattle.laws.specs.WindowLaws.{by-lt}
 use Rattle.promises.specs.Sentences.{Stops, missing, broken, unended, Taken, Given, over, lacking, against, trailing, unfit, taken, AfterOpen, AfterRefresh, ill, high, renewed}
-use Rattle.promises.specs.Sentences.{Why, stale, late-fire, late-wait, quiet, Steps, none-made, then-made, EndsBy, enough, before-that, AfterRun, unwell, went, RanTo}
+use Rattle.promises.specs.Sentences.{stale, late-fire, late-wait, quiet, Steps, none-made, then-made, EndsBy, enough, before-that, AfterRun, unwell, went, RanTo}
 use Rattle.promises.specs.Proofs.Reading.{Onward, wants, stuck, ended, model-whole}
 use Rattle.promises.specs.Proofs.Stopping.{stopped-why, why-stopped}
 
@@ -273,7 +273,8 @@ pub open-small : (image table : List ℕ) → openOf image table .number < 11
 open-small image table = given-small image table AfterOpen (λ m n e. omega arith) (openOf image table .number) (open-number image table (openOf image table .number) .0 refl)
 
 pub refresh-small : (image table : List ℕ) (s : State) (mark : ℕ) → refreshOf image s mark table .number < 11
-refresh-small image table s mark = given-small image table (AfterRefresh s mark) by (refreshOf image s mark table .number) (refresh-number image table s mark (refreshOf image s mark table .number) .0 refl)
+refresh-small image table s mark =
+    given-small image table (AfterRefresh s mark) by (refreshOf image s mark table .number) (refresh-number image table s mark (refreshOf image s mark table .number) .0 refl)
   where
     by : (m : Model) (n : ℕ) → AfterRefresh s mark m n → n < 11
     by m n (ill w) = omega arith

@@ -17,7 +17,7 @@ use Rattle.meaning.specs.Match.{freshTable}
 use Rattle.meaning.specs.Choice.{Candidate, choose, utilities}
 use Rattle.meaning.specs.Step.{Event, Step, Stopped, Made, largest, unlessPast, stepOf}
 use Rattle.meaning.specs.Run.{Going, going, Timed, Run, before, runFrom}
-use Rattle.meaning.specs.Calls.{accepted, traceOf, Ran, ranBy, runOf}
+use Rattle.meaning.specs.Calls.{accepted, traceOf, ranBy, runOf}
 use Rattle.laws.specs.EntryLaws.{fresh-length}
 use Rattle.laws.specs.WindowLaws.{by-lt}
 use Rattle.promises.specs.Words.{Reached}

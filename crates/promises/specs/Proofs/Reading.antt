@@ -14,9 +14,10 @@ use Rattle.meaning.specs.Model.{Sizes, Test}
 use Rattle.meaning.specs.State.{slotCount}
 use Rattle.meaning.specs.Bits.{bitAt, fieldAt}
 use Rattle.meaning.specs.Read.{Read, Refused, Got, Reader, follow, andThen, next, give, Judgement, must, _also_, judged, field, require, times, rising}
-use Rattle.meaning.specs.Image.{between, aType, aBuffer, aMask, aTerm, anything, header, slotCounts, chunk, fact, slotsIn, terms, masked, Head, head, test, tests, standsIn, isTested, testedType, kindRule, deed, action, actions, body, rule}
+use Rattle.meaning.specs.Image.{between, aType, aBuffer, aMask, aTerm, anything, header, slotCounts, chunk, fact, slotsIn, terms, masked}
+use Rattle.meaning.specs.Image.{Head, head, test, tests, standsIn, isTested, testedType, kindRule, deed, action, actions, body, rule}
 use Rattle.meaning.specs.Image.{padding, ending, beginning, contents, model}
-use Rattle.laws.specs.ReadLaws.{no-got, FieldRead, field-got, split}
+use Rattle.laws.specs.ReadLaws.{no-got, field-got, split}
 use Rattle.laws.specs.WindowLaws.{by-lt}
 use Rattle.promises.specs.Sentences.{Stops, missing, broken, unended}
 

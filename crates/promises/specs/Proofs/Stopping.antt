@@ -4,12 +4,12 @@ use mathlib.Core.Logic.{_↔_}
 use mathlib.Core.Bool.{true, false}
 use mathlib.Core.List.{List, []}
 use mathlib.Core.Option.{Option, none, some}
-use Prim.Native.Nat.{ℕ, zero, suc, _+_, _≤_, _<_}
+use Prim.Native.Nat.{ℕ, zero, suc, _+_, _<_}
 use native.Mathlib.Omega.{arith}
 use lib.ListN.{length}
 use Rattle.meaning.specs.declared.State.{State}
 use Rattle.meaning.specs.Base.{if_then_else_, same}
-use Rattle.meaning.specs.Numbers.{not-fresh, clock-full, halted}
+use Rattle.meaning.specs.Numbers.{not-fresh, clock-full}
 use Rattle.meaning.specs.Model.{Model}
 use Rattle.meaning.specs.State.{bufferOf}
 use Rattle.meaning.specs.Match.{entryOf}
@@ -17,10 +17,10 @@ use Rattle.meaning.specs.Choice.{Candidate, choose, utilities}
 use Rattle.meaning.specs.Fire.{fire}
 use Rattle.meaning.specs.Wait.{soonest, wait}
 use Rattle.meaning.specs.Mark.{markOf}
-use Rattle.meaning.specs.Step.{Fired, Waited, Step, Stopped, Made, largest, unlessPast, fireStep, waitStep, stepBy, step, stepOf}
+use Rattle.meaning.specs.Step.{Fired, Waited, Stopped, largest, unlessPast, fireStep, waitStep, stepBy, step, stepOf}
 use Rattle.promises.specs.Published.{LeastDelay}
 use Rattle.promises.specs.Sentences.{Why, stale, late-fire, late-wait, quiet}
-use Rattle.promises.specs.Proofs.Steps.{same-true, same-refl, no-made, unless-stopped, unless-full, fire-fresh}
+use Rattle.promises.specs.Proofs.Steps.{same-true, same-refl, unless-stopped, unless-full, fire-fresh}
 use Rattle.promises.specs.Proofs.Transitions.{soonest-pending, soonest-quiet, least-once}
 
 module _ (m : Model) (s : State) (table : List ℕ) where
@@ -44,7 +44,8 @@ module _ (m : Model) (s : State) (table : List ℕ) where
   unfolding fireStep
   fire-why c o n e =
       (elim (same (c .entry) (entryOf (c .rule) s)) as
-      (λ t. same (c .entry) (entryOf (c .rule) s) ≡ t → (if t then unlessPast (Fired (c .number)) (fires c) (markOf (c .rule .actions) s (fires c)) else Stopped not-fresh) ≡ Stopped n → Why m s table n) [
+      (λ t. same (c .entry) (entryOf (c .rule) s) ≡ t
+      → (if t then unlessPast (Fired (c .number)) (fires c) (markOf (c .rule .actions) s (fires c)) else Stopped not-fresh) ≡ Stopped n → Why m s table n) [
         | true ↦ λ t k.
             let past : (n ≡ clock-full) × (largest < fires c .clock) = unless-stopped (Fired (c .number)) (fires c) (markOf (c .rule .actions) s (fires c)) n k in
             rw (past .0) (late-fire o (same-true (c .entry) (entryOf (c .rule) s) t) (omega (arith, past .1, fire-clock c)))

@@ -80,7 +80,8 @@ state-is : (s : State) (bs : List Buffer) (clock : ℕ) → s .buffers ≡ bs �
 state-is s bs clock p q = rw (← p, ← q) refl
 
 -- a state each of whose buffers is made anew
-anew-is : (s s′ : State) (f : ℕ → Buffer → Buffer) (clock : ℕ) → length (s′ .buffers) ≡ length (s .buffers) → ((b : ℕ) → b < length (s .buffers) → bufferOf s′ b ≡ f b (bufferOf s b)) → s′ .clock ≡ clock
+anew-is : (s s′ : State) (f : ℕ → Buffer → Buffer) (clock : ℕ) → length (s′ .buffers) ≡ length (s .buffers)
+    → ((b : ℕ) → b < length (s .buffers) → bufferOf s′ b ≡ f b (bufferOf s b)) → s′ .clock ≡ clock
     → s′ ≡ record { buffers = change f 0 (s .buffers); clock = clock }
 anew-is s s′ f clock l h t =
     state-is s′ (change f 0 (s .buffers)) clock
@@ -189,7 +190,8 @@ module _ (m : Model) (d : Decoded m) (s : State) where
     good-deed : (a : Action) → List·Memᴰ a (r .actions) → goodDeed (m .types) (r .tests) (a .buffer) (a .deed) ≡ true
     good-deed a h =
         and-right (ltb (a .buffer) (m .buffers)) (goodDeed (m .types) (r .tests) (a .buffer) (a .deed))
-        (all-member (goodAction (m .buffers) (m .types) (r .tests)) (r .actions) (and-left (every (goodAction (m .buffers) (m .types) (r .tests)) (r .actions)) (rises (λ a. a .buffer) 0 (r .actions)) good) h)
+        (all-member (goodAction (m .buffers) (m .types) (r .tests)) (r .actions)
+        (and-left (every (goodAction (m .buffers) (m .types) (r .tests)) (r .actions)) (rises (λ a. a .buffer) 0 (r .actions)) good) h)
 
     fire-applied : Applied m r v s (fire (m .failure) (m .facts) r (entryOf r s) s)
     unfolding fire

@@ -1,25 +1,21 @@
 -- Calls over words: what a refused one leaves, and what a chain of them holds.
-use mathlib.Core.Path.{_≡_, refl, sym, ap, ap₂, subst, _∙_}
+use mathlib.Core.Path.{_≡_, refl, sym, ap, subst, _∙_}
 use mathlib.Core.Bool.{Bool, true, false}
-use mathlib.Core.List.{List, [], _∷_}
-use Prim.Native.Nat.{ℕ, zero, suc, _+_, _*_, _/_, _%_, _≤_, _<_}
+use mathlib.Core.List.{List, []}
+use Prim.Native.Nat.{ℕ, _≤_, _<_}
 use native.Mathlib.Omega.{arith}
-use lib.ListN.{length, getD, drop, replicate}
-use lib.Seq.{getD-drop}
-use Rattle.meaning.specs.declared.Buffer.{Buffer}
+use lib.ListN.{length, getD, replicate}
 use Rattle.meaning.specs.declared.State.{State}
-use Rattle.meaning.specs.Base.{if_then_else_, bit}
+use Rattle.meaning.specs.Base.{bit}
 use Rattle.meaning.specs.Numbers.{ill-formed}
 use Rattle.meaning.specs.Model.{Model}
-use Rattle.meaning.specs.State.{zeroState, bufferOf, wellFormed}
+use Rattle.meaning.specs.State.{zeroState}
 use Rattle.meaning.specs.Read.{Read, Refused, Got}
 use Rattle.meaning.specs.Image.{decode}
 use Rattle.meaning.specs.Match.{freshTable}
 use Rattle.meaning.specs.Step.{largest}
 use Rattle.meaning.specs.Calls.{accepted, openedBy, openOf, Ran, traceOf, runOf, Refreshed, refreshOf}
-use Rattle.layout.specs.Rows.{rowsIn}
-use Rattle.layout.specs.StateWords.{bufferIn, buffersIn}
-use Rattle.jirvuntsag.specs.Words.{stateOf, buffersWords, wordsOf, fits}
+use Rattle.jirvuntsag.specs.Words.{stateOf, wordsOf, fits}
 use Rattle.jirvuntsag.specs.Told.{answer, unfitBy, Told, told, toldRun, toldRefresh, openIn, runIn, refreshIn, eventsIn}
 use Rattle.laws.specs.EntryLaws.{fresh-length}
 use Rattle.promises.specs.Words.{Machine, Reached}
@@ -28,7 +24,7 @@ use Rattle.promises.specs.Published.{RanOn}
 use Rattle.promises.specs.Semantics.{reached-run}
 use Rattle.promises.specs.Sentences.{Taken}
 use Rattle.promises.specs.Numbers.{accepted-taken, open-refused, run-refused, refresh-refused}
-use Rattle.promises.specs.Keeping.{reached-fresh, reached-well, reached-machine}
+use Rattle.promises.specs.Keeping.{reached-fresh, reached-machine}
 use Rattle.promises.specs.Proofs.Numbers.{taken-accepted, open-small, refresh-small, run-small}
 use Rattle.promises_c.specs.Handing.{numberIn, countIn, SameBuffer, Leaves, Held, opened, ran, refreshed, changed}
 use Rattle.promises_c.specs.Proofs.Back.{state-back, same-buffer, words-back, eighty-one, words-fit, state-fits}

@@ -1,13 +1,11 @@
 -- Events are laid into the lent words one after the other.
 use mathlib.Core.Path.{_≡_, refl, sym, ap, ap₂, _∙_}
 use mathlib.Core.List.{List, [], _∷_, _++_, append-assoc}
-use Prim.Native.Nat.{ℕ, zero, suc, _+_, _*_, _≤_, _<_}
+use Prim.Native.Nat.{ℕ, _+_, _*_, _≤_, _<_}
 use native.Mathlib.Omega.{arith}
 use borrow.Author.Tests.{le-leb, lt-leb}
-use lib.Dec.{leb}
-use lib.ListN.{length, take, drop, length-append}
-use lib.Seq.{sets, sets-eq, take-at, drop-at, drop-drop}
-use Rattle.meaning.specs.Base.{if_then_else_}
+use lib.ListN.{length, drop, length-append}
+use lib.Seq.{sets-eq, take-at, drop-at, drop-drop}
 use Rattle.meaning.specs.Step.{Event, Fired, Waited}
 use Rattle.meaning.specs.Run.{Timed}
 use Rattle.step_run.specs.Events.{eventWords, noted, inscribed}
