@@ -13,11 +13,12 @@ use Rattle.meaning.specs.State.{zeroState, bufferOf, wellFormed}
 use Rattle.meaning.specs.Read.{Refused, Got}
 use Rattle.meaning.specs.Image.{decode}
 use Rattle.meaning.specs.Match.{freshTable}
+use Rattle.meaning.specs.Refresh.{refresh, refreshCount}
 use Rattle.meaning.specs.Run.{Timed}
-use Rattle.meaning.specs.Calls.{tableLength, openOf, Ran, traceOf, runOf, Refreshed, refreshOf}
+use Rattle.meaning.specs.Calls.{tableLength, openState, openOf, Ran, traceOf, runOf, Refreshed, refreshOf}
 use Rattle.laws.specs.EntryLaws.{fresh-length}
 use Rattle.promises.specs.Words.{RefreshedTo, Machine, Reached}
-use Rattle.promises.specs.Sentences.{Given, AfterOpen, AfterRun, AfterRefresh}
+use Rattle.promises.specs.Sentences.{Taken, Given, AfterOpen, AfterRun, AfterRefresh, RanTo}
 use Rattle.promises.specs.Published.{Transitions, Ended}
 use Rattle.promises.specs.Numbers as numbers
 use Rattle.promises.specs.Semantics as semantics
@@ -34,6 +35,11 @@ pub record Demand-1 (image table : List ℕ) : Type 0 where
   pub open-answers : (n : ℕ) → (openOf image table .number ≡ n) ↔ Given image table AfterOpen n
   pub run-answers : (s : State) (asked n : ℕ) → (runOf image s table asked .number ≡ n) ↔ Given image table (AfterRun s table asked) n
   pub refresh-answers : (s : State) (mark n : ℕ) → (refreshOf image s mark table .number ≡ n) ↔ Given image table (AfterRefresh s mark) n
+  -- an image and a table that are taken, a well-formed state and an allowed mark are never refused: the work is done
+  pub open-works : (m : Model) → Taken image table m → openOf image table ≡ record { number = 0; state = openState m; table = freshTable (m .rules) (openState m) }
+  pub run-works : (s : State) (asked : ℕ) (m : Model) → Taken image table m → wellFormed m s ≡ true → RanTo m s table asked (traceOf image s table asked .events) (runOf image s table asked)
+  pub refresh-works : (s : State) (mark : ℕ) (m : Model) → Taken image table m → wellFormed m s ≡ true → mark < 2 ^ m .buffers
+      → refreshOf image s mark table ≡ record { number = 0; count = refreshCount (m .rules) mark; table = refresh (m .rules) s mark table }
   -- "Numbers 1 to 6 and 10 return count 0, the state as handed in (an all-zero state from open) and an unaltered table."
   pub open-leaves : (openOf image table .number ≡ 0 → ⊥) → (openOf image table .state ≡ zeroState) × (openOf image table .table ≡ table)
   pub run-leaves : (s : State) (asked : ℕ) → 0 < runOf image s table asked .number → runOf image s table asked .number < 7
@@ -49,6 +55,9 @@ demand-1 image table =
       open-answers = numbers.open-exactly image table;
       run-answers = λ s asked. numbers.run-exactly image table s asked;
       refresh-answers = λ s mark. numbers.refresh-exactly image table s mark;
+      open-works = numbers.open-taken image table;
+      run-works = λ s asked. numbers.run-taken image table s asked;
+      refresh-works = λ s mark. numbers.refresh-taken image table s mark;
       open-leaves = numbers.open-refused image table;
       run-leaves = λ s asked. numbers.run-refused image table s asked;
       refresh-leaves = λ s mark. numbers.refresh-refused image table s mark;

@@ -20,7 +20,7 @@ use Rattle.promises.specs.Proofs.Numbers as numbers
 
 -- ---- an image alone
 
--- Reading stops by 2 at a field that is not wholly there, by 3 at a field that is reached, by 4 after the last field, if a pad bit is 1 or a byte follows;
+-- Reading stops by 2 at a field that is not wholly there, by 3 at one that is, by 4 after the last field, if a pad bit is 1 or a byte follows;
 -- and by no other number.
 pub reading-stops : (image : List ℕ) (n at : ℕ) → model image 0 ≡ Refused n at → Stops image at n
 reading-stops image n at e = numbers.reading-stops image n at e

@@ -21,11 +21,11 @@ use Rattle.meaning.specs.Run.{Timed}
 use Rattle.meaning.specs.Calls.{Ran}
 use Rattle.promises.specs.Published.{LeastDelay}
 
--- where the reading of an image can stop, and by which number: at a field that is reached and not wholly there; at one that is reached and breaks its rule;
--- after all fields, if a bit up to the byte's end is 1 or a byte follows
+-- where the reading of an image can stop, and by which number: at a field of at most 16 bits that is reached and not wholly there; at one that is wholly there
+-- (or at none, width 0, where the variables of a rule are looked at) and breaks its rule; after all fields, if a bit up to the byte's end is 1 or a byte follows
 pub data Stops (image : List ℕ) (at : ℕ) : ℕ → Type 0 where
-  missing : (width : ℕ) → at ≤ 8 * length image → 8 * length image < at + width → Stops image at not-there
-  broken : at ≤ 8 * length image → Stops image at bad-number
+  missing : (width : ℕ) → width ≤ 16 → at ≤ 8 * length image → 8 * length image < at + width → Stops image at not-there
+  broken : (width : ℕ) → width ≤ 16 → at + width ≤ 8 * length image → Stops image at bad-number
   unended : (end : ℕ) → end ≤ 8 * length image → (fieldAt image end (padding end) ≡ 0 → ⊥) ⊎ (end + padding end < 8 * length image) → Stops image at bad-end
 
 -- ---- "Order: 1; then 2 and 3, the earlier in reading order; 4; 5"

@@ -85,8 +85,8 @@ module _ (image table : List ℕ) where
 
   module _ (after : Model → ℕ → Type 0) where
     stopped-look : (n at : ℕ) → length image ≤ 65536 → model image 0 ≡ Refused n at → Stops image at n → Look after
-    stopped-look n at h e (missing w a b) = refused not-there at (unread-accepted not-there at h e) (lacking h e)
-    stopped-look n at h e (broken a) = refused bad-number at (unread-accepted bad-number at h e) (against h e)
+    stopped-look n at h e (missing w a b c) = refused not-there at (unread-accepted not-there at h e) (lacking h e)
+    stopped-look n at h e (broken w a b) = refused bad-number at (unread-accepted bad-number at h e) (against h e)
     stopped-look n at h e (unended x a b) = refused bad-end at (unread-accepted bad-end at h e) (trailing h e)
 
     read-look : length image ≤ 65536 → (r : Read Model) → model image 0 ≡ r → Look after

@@ -5,7 +5,7 @@ use mathlib.Core.Bool.{Bool, true, false, _&&_, _||_, not}
 use mathlib.Core.List.{List, [], _∷_, _++_}
 use Prim.Native.Nat.{ℕ, zero, suc, _+_, _-_, _*_, _/_, _%_, _^_, _≤_, _<_}
 use native.Mathlib.Omega.{arith}
-use borrow.Author.Tests.{ltb-true, lt-ltb, le-ltb, eqb-false, ne-eqb}
+use borrow.Author.Tests.{ltb-true, ltb-false, lt-ltb, le-ltb, eqb-false, ne-eqb}
 use lib.Dec.{ltb, leb, eqb}
 use lib.ListN.{length, length-append, List·getD-append}
 use Rattle.meaning.specs.Base.{if_then_else_, every, upFrom}
@@ -98,12 +98,12 @@ also-threes : (a b : Judgement) → Threes a → Threes b → Threes (a also b)
 also-threes a b p q v =
     ⊎-elim (λ (t : a v ≡ 0). rw t (q v)) (λ (t : a v ≡ 3). inr (rw t refl)) (p v)
 
-module _ (width : ℕ) (rule : Judgement) (threes : Threes rule) where
-  judged-stops : (image : List ℕ) (at n x : ℕ) → at ≤ 8 * length image → (j : ℕ) → (j ≡ 0) ⊎ (j ≡ 3) → judged j (fieldAt image at width) at (at + width) ≡ Refused n x → Early image x n
+module _ (width : ℕ) (narrow : width ≤ 16) (rule : Judgement) (threes : Threes rule) where
+  judged-stops : (image : List ℕ) (at n x : ℕ) → at + width ≤ 8 * length image → (j : ℕ) → (j ≡ 0) ⊎ (j ≡ 3) → judged j (fieldAt image at width) at (at + width) ≡ Refused n x → Early image x n
   judged-stops image at n x h zero t e = absurd (no-got n x (fieldAt image at width) (at + width) (sym e))
   judged-stops image at n x h (suc j) t e =
       ⊎-elim (λ (z : suc j ≡ 0). absurd (omega arith))
-      (λ (z : suc j ≡ 3). let a : at ≡ x = cc in let b : 3 ≡ n = cc in rw (← a, ← b) (broken h, omega arith)) t
+      (λ (z : suc j ≡ 3). let a : at ≡ x = cc in let b : 3 ≡ n = cc in rw (← a, ← b) (broken width narrow h, omega arith)) t
 
   field-stops : (image : List ℕ) (at n x : ℕ) → at ≤ 8 * length image → field width rule image at ≡ Refused n x → Early image x n
   unfolding field
@@ -111,8 +111,8 @@ module _ (width : ℕ) (rule : Judgement) (threes : Threes rule) where
       (elim (ltb (8 * length image) (at + width)) as
       (λ t. ltb (8 * length image) (at + width) ≡ t
       → (if t then Refused 2 at else (judged (rule (fieldAt image at width)) (fieldAt image at width) at (at + width))) ≡ Refused n x → Early image x n) [
-        | true ↦ λ t k. let a : at ≡ x = cc in let b : 2 ≡ n = cc in rw (← a, ← b) (missing width h (ltb-true (8 * length image) (at + width) t), omega arith)
-        | false ↦ λ t k. judged-stops image at n x h (rule (fieldAt image at width)) (threes (fieldAt image at width)) k
+        | true ↦ λ t k. let a : at ≡ x = cc in let b : 2 ≡ n = cc in rw (← a, ← b) (missing width narrow h (ltb-true (8 * length image) (at + width) t), omega arith)
+        | false ↦ λ t k. judged-stops image at n x (ltb-false (8 * length image) (at + width) t) (rule (fieldAt image at width)) (threes (fieldAt image at width)) k
       ]) refl e
 
   field-same : (image rest : List ℕ) (at : ℕ) → ((x : ℕ) × (field width rule image at ≡ Refused not-there x)) ⊎ (field width rule (image ++ rest) at ≡ field width rule image at)
@@ -135,17 +135,17 @@ require-reads true = give-reads tt
 require-reads false =
     record {
       within = λ image at u next h e. absurd (no-got bad-variable at u next e);
-      stops = λ image at n x h e. let a : at ≡ x = cc in let b : 3 ≡ n = cc in rw (← a, ← b) (broken h, omega arith);
+      stops = λ image at n x h e. let a : at ≡ x = cc in let b : 3 ≡ n = cc in rw (← a, ← b) (broken 0 (omega arith) (omega arith), omega arith);
       more = λ image rest at. inr refl;
     }
 
 -- ---- the readers of the image
 
-plain : (width : ℕ) → Reads (field width anything)
-plain width = field-reads width anything any-threes
+plain : (width : ℕ) → width ≤ 16 → Reads (field width anything)
+plain width h = field-reads width h anything any-threes
 
-ruled : (width : ℕ) (holds : ℕ → Bool) → Reads (field width (must bad-number holds))
-ruled width holds = field-reads width (must bad-number holds) (must-threes holds)
+ruled : (width : ℕ) → width ≤ 16 → (holds : ℕ → Bool) → Reads (field width (must bad-number holds))
+ruled width h holds = field-reads width h (must bad-number holds) (must-threes holds)
 
 times-reads : {A : Type 0} (p : Reader A) → Reads p → (n : ℕ) → Reads (times n p)
 unfolding times
@@ -162,47 +162,47 @@ rising-reads p buffer h (suc n) least =
 header-reads : Reads header
 unfolding header
 header-reads =
-    then-reads (field 8 (must bad-number (between 1 1))) _ (ruled 8 (between 1 1)) λ version.
-    then-reads (field 4 (must bad-number (between 1 8))) _ (ruled 4 (between 1 8)) λ buffers.
-    then-reads (field 6 (must bad-number (between 0 63))) _ (ruled 6 (between 0 63)) λ declared.
-    then-reads (field 9 (must bad-number (between 0 256))) _ (ruled 9 (between 0 256)) λ rules.
-    then-reads (field 10 (must bad-number (between 0 512))) _ (ruled 10 (between 0 512)) λ facts.
-    then-reads (field 16 anything) _ (plain 16) λ failure.
+    then-reads (field 8 (must bad-number (between 1 1))) _ (ruled 8 (omega arith) (between 1 1)) λ version.
+    then-reads (field 4 (must bad-number (between 1 8))) _ (ruled 4 (omega arith) (between 1 8)) λ buffers.
+    then-reads (field 6 (must bad-number (between 0 63))) _ (ruled 6 (omega arith) (between 0 63)) λ declared.
+    then-reads (field 9 (must bad-number (between 0 256))) _ (ruled 9 (omega arith) (between 0 256)) λ rules.
+    then-reads (field 10 (must bad-number (between 0 512))) _ (ruled 10 (omega arith) (between 0 512)) λ facts.
+    then-reads (field 16 anything) _ (plain 16 (omega arith)) λ failure.
     give-reads _
 
 chunk-reads : (types : List ℕ) (least : ℕ) → Reads (chunk types least)
 unfolding chunk
 chunk-reads types least =
-    then-reads (field 6 (must bad-number (aType types least))) _ (ruled 6 (aType types least)) λ k.
-    then-reads (times (slotCount types k) (field 12 anything)) _ (times-reads (field 12 anything) (plain 12) (slotCount types k)) λ values.
+    then-reads (field 6 (must bad-number (aType types least))) _ (ruled 6 (omega arith) (aType types least)) λ k.
+    then-reads (times (slotCount types k) (field 12 anything)) _ (times-reads (field 12 anything) (plain 12 (omega arith)) (slotCount types k)) λ values.
     give-reads _
 
 fact-reads : (types : List ℕ) → Reads (fact types)
 unfolding fact
 fact-reads types =
     then-reads (chunk types 1) _ (chunk-reads types 1) λ c.
-    then-reads (field 16 anything) _ (plain 16) λ activation.
-    then-reads (field 16 anything) _ (plain 16) λ latency.
+    then-reads (field 16 anything) _ (plain 16 (omega arith)) λ activation.
+    then-reads (field 16 anything) _ (plain 16 (omega arith)) λ latency.
     give-reads _
 
 terms-reads : (variables : ℕ) (slots : List ℕ) → Reads (terms variables slots)
 unfolding terms
 terms-reads variables [] = give-reads []
 terms-reads variables (slot ∷ slots) =
-    then-reads (field 13 (must bad-variable (aTerm variables))) _ (ruled 13 (aTerm variables)) λ t.
+    then-reads (field 13 (must bad-variable (aTerm variables))) _ (ruled 13 (omega arith) (aTerm variables)) λ t.
     then-reads (terms variables slots) _ (terms-reads variables slots) λ rest.
     give-reads _
 
 masked-reads : (variables slots : ℕ) → Reads (masked variables slots)
 unfolding masked
 masked-reads variables slots =
-    then-reads (field 8 (must bad-mask (aMask slots))) _ (ruled 8 (aMask slots)) λ mask. terms-reads variables (slotsIn mask)
+    then-reads (field 8 (must bad-mask (aMask slots))) _ (ruled 8 (omega arith) (aMask slots)) λ mask. terms-reads variables (slotsIn mask)
 
 test-reads : (z : Sizes) (variables least : ℕ) → Reads (test z variables least)
 unfolding test
 test-reads z variables least =
-    then-reads (field 3 (must bad-buffer (aBuffer (z .buffers) least))) _ (ruled 3 (aBuffer (z .buffers) least)) λ b.
-    then-reads (field 6 (must bad-number (aType (z .types) 0))) _ (ruled 6 (aType (z .types) 0)) λ k.
+    then-reads (field 3 (must bad-buffer (aBuffer (z .buffers) least))) _ (ruled 3 (omega arith) (aBuffer (z .buffers) least)) λ b.
+    then-reads (field 6 (must bad-number (aType (z .types) 0))) _ (ruled 6 (omega arith) (aType (z .types) 0)) λ k.
     then-reads (masked variables (slotCount (z .types) k)) _ (masked-reads variables (slotCount (z .types) k)) λ ns.
     give-reads _
 
@@ -211,7 +211,7 @@ unfolding deed
 deed-reads z variables ts b zero =
     then-reads (masked variables (slotCount (z .types) (testedType ts b))) _ (masked-reads variables (slotCount (z .types) (testedType ts b))) λ ns. give-reads _
 deed-reads z variables ts b (suc zero) =
-    then-reads (field 6 (must bad-number (aType (z .types) 1))) _ (ruled 6 (aType (z .types) 1)) λ k.
+    then-reads (field 6 (must bad-number (aType (z .types) 1))) _ (ruled 6 (omega arith) (aType (z .types) 1)) λ k.
     then-reads (masked variables (slotCount (z .types) k)) _ (masked-reads variables (slotCount (z .types) k)) λ ns.
     give-reads _
 deed-reads z variables ts b (suc (suc n)) = give-reads _
@@ -224,8 +224,8 @@ kind-threes ts b =
 action-reads : (z : Sizes) (variables : ℕ) (ts : List Test) (least : ℕ) → Reads (action z variables ts least)
 unfolding action
 action-reads z variables ts least =
-    then-reads (field 3 (must bad-buffer (aBuffer (z .buffers) least))) _ (ruled 3 (aBuffer (z .buffers) least)) λ b.
-    then-reads (field 2 (kindRule ts b)) _ (field-reads 2 (kindRule ts b) (kind-threes ts b)) λ kind.
+    then-reads (field 3 (must bad-buffer (aBuffer (z .buffers) least))) _ (ruled 3 (omega arith) (aBuffer (z .buffers) least)) λ b.
+    then-reads (field 2 (kindRule ts b)) _ (field-reads 2 (omega arith) (kindRule ts b) (kind-threes ts b)) λ kind.
     then-reads (deed z variables ts b kind) _ (deed-reads z variables ts b kind) λ d.
     give-reads _
 
@@ -238,10 +238,10 @@ actions-reads z variables ts n = rising-reads (action z variables ts) (λ a. a .
 head-reads : (buffers : ℕ) → Reads (head buffers)
 unfolding head
 head-reads buffers =
-    then-reads (field 16 anything) _ (plain 16) λ utility.
-    then-reads (field 4 (must bad-number (between 1 buffers))) _ (ruled 4 (between 1 buffers)) λ n.
-    then-reads (field 4 (must bad-number (between 0 buffers))) _ (ruled 4 (between 0 buffers)) λ m.
-    then-reads (field 4 (must bad-number (between 0 8))) _ (ruled 4 (between 0 8)) λ variables.
+    then-reads (field 16 anything) _ (plain 16 (omega arith)) λ utility.
+    then-reads (field 4 (must bad-number (between 1 buffers))) _ (ruled 4 (omega arith) (between 1 buffers)) λ n.
+    then-reads (field 4 (must bad-number (between 0 buffers))) _ (ruled 4 (omega arith) (between 0 buffers)) λ m.
+    then-reads (field 4 (must bad-number (between 0 8))) _ (ruled 4 (omega arith) (between 0 8)) λ variables.
     give-reads _
 
 body-reads : (z : Sizes) (h : Head) → Reads (body z h)
@@ -260,7 +260,7 @@ beginning-reads : Reads beginning
 unfolding beginning
 beginning-reads =
     then-reads header _ header-reads λ h.
-    then-reads (slotCounts (h .declared)) _ (times-reads (field 4 (must bad-number (between 0 8))) (ruled 4 (between 0 8)) (h .declared)) λ counts.
+    then-reads (slotCounts (h .declared)) _ (times-reads (field 4 (must bad-number (between 0 8))) (ruled 4 (omega arith) (between 0 8)) (h .declared)) λ counts.
     then-reads (times (h .buffers) (chunk (0 ∷ counts) 0)) _ (times-reads (chunk (0 ∷ counts) 0) (chunk-reads (0 ∷ counts) 0) (h .buffers)) λ opening.
     give-reads _
 
@@ -338,8 +338,8 @@ module _ {A B : Type 0} (p : Reader A) (k : A → Reader B) (first : Reads p) (s
   whole-on image rest at h l e (Refused n x) q = by (first .stops image at n x h q .0) (first .stops image at n x h q .1) q
     where
       by : {n : ℕ} → Stops image x n → n < bad-end → p image at ≡ Refused n x → Onward (andThen p k) image rest at
-      by (missing w a b) g q = wants x (rw q refl)
-      by (broken a) g q = stuck x (rw q refl) (rw (e, q) refl)
+      by (missing w a b c) g q = wants x (rw q refl)
+      by (broken w a b) g q = stuck x (rw q refl) (rw (e, q) refl)
       by (unended a b c) g q = absurd (omega arith)
   whole-on image rest at h l e (Got a next) q = by (second a .onward image rest next (first .within image at a next h q) l)
     where
