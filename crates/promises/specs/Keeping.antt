@@ -3,20 +3,18 @@ use mathlib.Core.Path.{_≡_}
 use mathlib.Core.Bool.{true}
 use mathlib.Core.List.{List}
 use Prim.Native.Nat.{ℕ}
-use lib.ListN.{length}
 use Rattle.meaning.specs.declared.State.{State}
 use Rattle.meaning.specs.Model.{Model}
 use Rattle.meaning.specs.State.{wellFormed}
 use Rattle.meaning.specs.Read.{Got}
 use Rattle.meaning.specs.Image.{decode}
 use Rattle.meaning.specs.Match.{freshTable}
-use Rattle.promises.specs.Words.{Reached}
+use Rattle.promises.specs.Words.{Machine, Reached}
 use Rattle.promises.specs.Proofs.Runs.{chain-fresh}
-use Rattle.promises.specs.Proofs.WellFormed.{chain-well}
-use Rattle.promises.specs.Proofs.Eight.{chain-eight}
+use Rattle.promises.specs.Proofs.Machines.{chain-well, chain-sound}
 
--- After an accepted opening, and any runs and refreshes, each handed what was left before it, refused ones too, the table is the entry of each rule
--- as a match made now would find it.
+-- After an accepted opening, and any runs, refreshes and changes of buffers by the caller that are refreshed with their mark, each handed what was left
+-- before it, refused calls too, the table is the entry of each rule as a match made now would find it.
 pub reached-fresh : (image : List ℕ) (m : Model) (at : ℕ) → decode image ≡ Got m at
     → {s : State} {table : List ℕ} → Reached image s table → table ≡ freshTable (m .rules) s
 reached-fresh image m at d r = chain-fresh image m at d r
@@ -26,7 +24,7 @@ pub reached-well : (image : List ℕ) (m : Model) (at : ℕ) → decode image �
     → {s : State} {table : List ℕ} → Reached image s table → wellFormed m s ≡ true
 reached-well image m at d r = chain-well image m at d r
 
--- It has eight buffers throughout.
-pub reached-eight : (image : List ℕ) (m : Model) (at : ℕ) → decode image ≡ Got m at
-    → {s : State} {table : List ℕ} → Reached image s table → length (s .buffers) ≡ 8
-reached-eight image m at d r = chain-eight image m at d r
+-- It is a state of the machine throughout: eight buffers of eight slots, each word in its 16 bits, and the clock in its 32.
+pub reached-machine : (image : List ℕ) (m : Model) (at : ℕ) → decode image ≡ Got m at
+    → {s : State} {table : List ℕ} → Reached image s table → Machine s
+reached-machine image m at d r = chain-sound image m at d r .machine

@@ -8,9 +8,14 @@ pub mod Decoded
 pub mod Matching
 pub mod Selection
 pub mod Firing
+pub mod Marked
 pub mod WellFormed
 pub mod Eight
 pub mod Retrieving
 pub mod Effects
 pub mod Transitions
 pub mod Outcomes
+pub mod Stopping
+pub mod Reading
+pub mod Numbers
+pub mod Machines

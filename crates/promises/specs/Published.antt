@@ -2,8 +2,8 @@
 -- that document 01 decides. Nothing here computes; that the steps of `meaning` are these transitions is said in Semantics.
 use mathlib.Core.Path.{_≡_}
 use mathlib.Core.Bool.{false}
-use mathlib.Core.List.{List, List·Memᴰ}
-use Prim.Native.Nat.{ℕ, suc, _+_, _-_, _≤_, _<_}
+use mathlib.Core.List.{List, [], _∷_, List·Memᴰ}
+use Prim.Native.Nat.{ℕ, _+_, _-_, _≤_, _<_}
 use lib.ListN.{length, getD}
 use lib.Signed.{ltZ}
 use Rattle.meaning.specs.declared.Buffer.{Buffer}
@@ -11,6 +11,8 @@ use Rattle.meaning.specs.declared.State.{State}
 use Rattle.meaning.specs.Model.{Model, Rule, Test, Action, Deed, Modify, Request, Clear, Named, Term, Symbol, Variable, Fact}
 use Rattle.meaning.specs.State.{nilAfter, bufferOf}
 use Rattle.meaning.specs.Step.{Event, Fired, Waited, largest}
+use Rattle.meaning.specs.Match.{freshTable}
+use Rattle.meaning.specs.Run.{Timed}
 use Rattle.meaning.specs.Calls.{Ran}
 use Rattle.promises.specs.Words.{At}
 
@@ -125,10 +127,11 @@ pub data Transition (m : Model) (s : State) : Event → State → Type 0 where
 abbrev pub Final : Model → State → Type 0
 Final m s = (e : Event) (s′ : State) → Transition m s e s′ → ⊥
 
--- so many transitions, one after the other, none past the last clock
-pub data Transitions (m : Model) : ℕ → State → State → Type 0 where
-  no-step : {s : State} → Transitions m 0 s s
-  one-step : {e : Event} {n : ℕ} {s s′ s″ : State} → Transition m s e s′ → s′ .clock ≤ largest → Transitions m n s′ s″ → Transitions m (suc n) s s″
+-- transitions, one after the other, none past the last clock: with what each did, and the clock after it
+pub data Transitions (m : Model) : List Timed → State → State → Type 0 where
+  no-step : {s : State} → Transitions m [] s s
+  one-step : {e : Event} {es : List Timed} {s s′ s″ : State} → Transition m s e s′ → s′ .clock ≤ largest → Transitions m es s′ s″
+      → Transitions m (record { clock = s′ .clock; event = e } ∷ es) s s″
 
 -- a transition is possible, and would pass the last clock
 pub record Passes (m : Model) (s : State) : Type 0 where
@@ -143,7 +146,10 @@ pub data Ended (m : Model) (asked made : ℕ) (s : State) : ℕ → Type 0 where
   full : made < asked → Passes m s → Ended m asked made s 8
   over : made < asked → Final m s → Ended m asked made s 9
 
--- what is promised of a run: its steps are transitions from the state handed in to the state given back, and its number says why there are no more
-pub record RanOn (m : Model) (s : State) (asked : ℕ) (a : Ran) : Type 0 where
-  pub path : Transitions m (a .made) s (a .state)
+-- what is promised of a run that answered `a` and told `events`: its steps are transitions from the state handed in to the state given back, these are what
+-- each of them did, in order, and as many as it says; its number says why there are no more; and the table that it leaves is fresh
+pub record RanOn (m : Model) (s : State) (asked : ℕ) (events : List Timed) (a : Ran) : Type 0 where
+  pub path : Transitions m events s (a .state)
+  pub counted : a .made ≡ length events
   pub ended : Ended m asked (a .made) (a .state) (a .number)
+  pub fresh : a .table ≡ freshTable (m .rules) (a .state)

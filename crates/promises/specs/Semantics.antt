@@ -9,16 +9,17 @@ use lib.ListN.{length}
 use Rattle.meaning.specs.declared.State.{State}
 use Rattle.meaning.specs.Numbers.{not-fresh, clock-full, halted}
 use Rattle.meaning.specs.Model.{Model, Rule, Named, Fact}
-use Rattle.meaning.specs.State.{bufferOf}
+use Rattle.meaning.specs.State.{bufferOf, wellFormed}
 use Rattle.meaning.specs.Read.{Got}
 use Rattle.meaning.specs.Image.{decode}
 use Rattle.meaning.specs.Match.{matches, freshTable}
 use Rattle.meaning.specs.Choice.{Candidate, choose, utilities}
 use Rattle.meaning.specs.Retrieval.{retrieve}
 use Rattle.meaning.specs.Step.{Event, Stopped, Made, largest, stepOf}
-use Rattle.meaning.specs.Calls.{runOf}
+use Rattle.meaning.specs.Run.{Timed}
+use Rattle.meaning.specs.Calls.{traceOf, runOf}
 use Rattle.promises.specs.Words.{At, Reached}
-use Rattle.promises.specs.Published.{Matches, Selected, NoneSelected, valuesIn, Fits, Retrieved, Transition, Final, Passes, RanOn}
+use Rattle.promises.specs.Published.{Matches, Selected, NoneSelected, valuesIn, Fits, Retrieved, Transition, Transitions, Final, Passes, RanOn}
 use Rattle.promises.specs.Proofs.Decoded.{decoded}
 use Rattle.promises.specs.Proofs.Matching as matching
 use Rattle.promises.specs.Proofs.Selection as selection
@@ -89,13 +90,23 @@ module _ (image : List ℕ) (m : Model) (at : ℕ) (accepted : decode image ≡ 
   pub never-stale : stepOf m s (freshTable (m .rules) s) ≡ Stopped not-fresh → ⊥
   never-stale h = outcomes.not-seven m (decoded image m at accepted) s h
 
+  -- And so there is one path of so many transitions.
+  pub path-once : (es fs : List Timed) (s₁ s₂ : State) → Transitions m es s s₁ → Transitions m fs s s₂ → length es ≡ length fs → (es ≡ fs) × (s₁ ≡ s₂)
+  path-once es fs s₁ s₂ a b l = outcomes.transitions-once m (decoded image m at accepted) a b l
+
   -- ---- the chain of calls
 
   -- With the table that a caller holds after any calls, a made step is a transition.
   pub reached-step : (table : List ℕ) → Reached image s table → (e : Event) (s′ : State) (mark : ℕ) → stepOf m s table ≡ Made e s′ mark → Transition m s e s′
   reached-step table r e s′ mark h = outcomes.chain-step image m at accepted r e s′ mark h
 
-  -- From all that was opened, run and refreshed before: a run's steps are transitions from the state handed in to the state given back, as many as it says;
-  -- it answers 0 if they are as many as were asked, 8 if the next would pass the last clock, 9 if the state is final, and no other number.
-  pub reached-run : (table : List ℕ) → Reached image s table → (asked : ℕ) → RanOn m s asked (runOf image s table asked)
+  -- From all that was opened, run, changed and refreshed before: the run's steps are transitions from the state handed in to the state given back, its events
+  -- are what these did, in order, and as many as it says; it answers 0 if they are as many as were asked, 8 if the next would pass the last clock, 9 if the
+  -- state is final, and no other number; and it leaves the fresh table.
+  pub reached-run : (table : List ℕ) → Reached image s table → (asked : ℕ) → RanOn m s asked (traceOf image s table asked .events) (runOf image s table asked)
   reached-run table r asked = outcomes.chain-runs image m at accepted r asked
+
+  -- The same from any well-formed state, wherever it comes from, with its fresh table.
+  pub fresh-run : wellFormed m s ≡ true → (asked : ℕ)
+      → RanOn m s asked (traceOf image s (freshTable (m .rules) s) asked .events) (runOf image s (freshTable (m .rules) s) asked)
+  fresh-run well asked = outcomes.fresh-runs image m at accepted s well asked

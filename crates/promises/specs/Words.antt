@@ -1,14 +1,17 @@
 -- The words in which the promises about tables are stated.
 use mathlib.Core.Path.{_≡_}
-use mathlib.Core.Bool.{true, false}
+use mathlib.Core.Bool.{Bool, true, false, _&&_}
 use mathlib.Core.List.{List, _∷_, List·Memᴰ}
-use Prim.Native.Nat.{ℕ, zero, suc, _*_}
+use Prim.Native.Nat.{ℕ, zero, suc, _*_, _≤_, _<_}
+use lib.Dec.{leb, eqb}
 use lib.ListN.{length, take, drop}
+use Rattle.meaning.specs.declared.Buffer.{Buffer}
 use Rattle.meaning.specs.declared.State.{State}
-use Rattle.meaning.specs.Base.{keep}
-use Rattle.meaning.specs.Model.{Model, Rule, Test}
+use Rattle.meaning.specs.Base.{every, keep, bit}
+use Rattle.meaning.specs.Model.{Model, Rule, Test, Action}
 use Rattle.meaning.specs.State.{bufferOf}
 use Rattle.meaning.specs.Match.{shows, matches, entryOf}
+use Rattle.meaning.specs.Step.{Event, Fired, largest}
 use Rattle.meaning.specs.Refresh.{testsMarked}
 use Rattle.meaning.specs.Calls.{openOf, runOf, refreshOf}
 
@@ -32,13 +35,29 @@ pub record RefreshedTo (rules : List Rule) (s : State) (mark : ℕ) (table new :
   -- the number says how many rules test a marked buffer
   pub counted : count ≡ length (keep (testsMarked mark) rules)
 
+-- "eight buffers, each with a type, eight slot values and a delay in ms (0 to 65,535), and a 32-bit clock in ms": a word of 16 bits for each
+abbrev pub isWord : ℕ → Bool
+isWord v = leb v 65535
+
+abbrev pub isBuffer : Buffer → Bool
+isBuffer b = eqb (length (b .slots)) 8 && (isWord (b .isa) && (every isWord (b .slots) && isWord (b .delay)))
+
+-- a state as the machine has it: what a caller can hand in at all
+pub record Machine (s : State) : Type 0 where
+  pub eight : length (s .buffers) ≡ 8
+  pub all-buffers : every isBuffer (s .buffers) ≡ true
+  pub in-time : s .clock ≤ largest
+
 -- the states and tables that a caller of one image can hold: those of an accepted opening, and then those that any call gives back
--- when it is handed the state and table left before it, whatever its number says (a refused call too)
+-- when it is handed the state and table left before it, whatever its number says (a refused call too); and the states that the caller itself makes of them
 pub data Reached (image : List ℕ) : State → List ℕ → Type 0 where
   opened : (table : List ℕ) → openOf image table .number ≡ 0 → Reached image (openOf image table .state) (openOf image table .table)
   ran : {s : State} {table : List ℕ} → Reached image s table → (steps : ℕ)
       → Reached image (runOf image s table steps .state) (runOf image s table steps .table)
   refreshed : {s : State} {table : List ℕ} → Reached image s table → (mark : ℕ) → Reached image s (refreshOf image s mark table .table)
+  -- the caller puts other chunks into buffers, or sets the clock, and refreshes with a mark of every buffer that it changed: the refresh answers 0
+  changed : {s : State} {table : List ℕ} → Reached image s table → (s′ : State) (mark : ℕ) → Machine s′ → ((b : ℕ) → bit mark b ≡ false → bufferOf s b ≡ bufferOf s′ b)
+      → refreshOf image s′ mark table .number ≡ 0 → Reached image s′ (refreshOf image s′ mark table .table)
 
 -- rule number k matches the state as it is: each of its tests finds a visible chunk of its type in its buffer
 pub record Matching (m : Model) (s : State) (k : ℕ) : Type 0 where
@@ -46,3 +65,8 @@ pub record Matching (m : Model) (s : State) (k : ℕ) : Type 0 where
   pub numbered : At rule k (m .rules)
   pub matching : matches rule s ≡ true
   pub tests-hold : (t : Test) → List·Memᴰ t (rule .tests) → shows t (bufferOf s (t .buffer)) ≡ true
+
+-- "Marked by a step: buffers acted on, and buffers that went from pending to visible."
+pub data Touched (m : Model) (s : State) (e : Event) (s′ : State) (b : ℕ) : Type 0 where
+  acted-on : {k : ℕ} {r : Rule} {a : Action} → e ≡ Fired k → At r k (m .rules) → List·Memᴰ a (r .actions) → a .buffer ≡ b → Touched m s e s′ b
+  came : 0 < bufferOf s b .delay → bufferOf s′ b .delay ≡ 0 → Touched m s e s′ b

@@ -1,5 +1,6 @@
 -- What an opening has and each made step keeps, every chain of calls keeps.
 use mathlib.Core.Path.{_≡_, refl}
+use mathlib.Core.Logic.{_⊎_, inl, inr}
 use mathlib.Core.Bool.{Bool, true, false}
 use mathlib.Core.List.{List}
 use Prim.Native.Nat.{ℕ, zero, suc, _*_, _^_}
@@ -7,10 +8,10 @@ use native.Mathlib.Omega.{arith}
 use lib.Dec.{eqb, leb}
 use lib.ListN.{length}
 use Rattle.meaning.specs.declared.State.{State}
-use Rattle.meaning.specs.Base.{if_then_else_}
+use Rattle.meaning.specs.Base.{if_then_else_, bit}
 use Rattle.meaning.specs.Numbers.{wrong-table}
 use Rattle.meaning.specs.Model.{Model}
-use Rattle.meaning.specs.State.{wellFormed}
+use Rattle.meaning.specs.State.{bufferOf, wellFormed}
 use Rattle.meaning.specs.Read.{Refused, Got}
 use Rattle.meaning.specs.Image.{decode}
 use Rattle.meaning.specs.Match.{freshTable}
@@ -18,7 +19,7 @@ use Rattle.meaning.specs.Step.{Event, Step, Stopped, Made, stepOf}
 use Rattle.meaning.specs.Refresh.{refresh}
 use Rattle.meaning.specs.Run.{Going, going, Run, goOn, runFrom}
 use Rattle.meaning.specs.Calls.{accepted, openState, openedBy, openOf, tracedBy, traceOf, runOf, refreshedBy, refreshOf}
-use Rattle.promises.specs.Words.{Reached, opened, ran, refreshed}
+use Rattle.promises.specs.Words.{Machine, Reached, opened, ran, refreshed, changed}
 
 module _ (m : Model) (Kept : State → List ℕ → Type 0)
     (steps-keep : (s : State) (table : List ℕ) → Kept s table → (e : Event) (s′ : State) (mark : ℕ) → stepOf m s table ≡ Made e s′ mark → Kept s′ (refresh (m .rules) s′ mark table)) where
@@ -43,7 +44,12 @@ module _ (m : Model) (Kept : State → List ℕ → Type 0)
   -- ---- the calls, over an image that is accepted; the cases are: the table's length, the state, the mark
 
   module _ (opening-has : Kept (openState m) (freshTable (m .rules) (openState m)))
-      (refresh-keeps : (s : State) (mark : ℕ) (table : List ℕ) → Kept s table → Kept s (refresh (m .rules) s mark table)) where
+      (change-keeps : (s s′ : State) (mark : ℕ) (table : List ℕ) → Kept s table → (s ≡ s′) ⊎ (Machine s′ × (wellFormed m s′ ≡ true)) → ((b : ℕ) → bit mark b ≡ false → bufferOf s b ≡ bufferOf s′ b)
+      → Kept s′ (refresh (m .rules) s′ mark table)) where
+    -- a refresh of the same state
+    refresh-keeps : (s : State) (mark : ℕ) (table : List ℕ) → Kept s table → Kept s (refresh (m .rules) s mark table)
+    refresh-keeps s mark table h = change-keeps s s mark table h (inl refl) (λ b e. refl)
+
     opened-by : (table : List ℕ) (at : ℕ) (t : Bool) → openedBy table (if t then Got m at else Refused wrong-table 0) .number ≡ 0
         → Kept (openedBy table (if t then Got m at else Refused wrong-table 0) .state) (openedBy table (if t then Got m at else Refused wrong-table 0) .table)
     opened-by table at true e = opening-has
@@ -62,6 +68,14 @@ module _ (m : Model) (Kept : State → List ℕ → Type 0)
     refreshed-by s mark table at true false v w l h = rw w h
     refreshed-by s mark table at false u v w l h = h
 
+    changed-by : (s s′ : State) (mark : ℕ) (table : List ℕ) (at : ℕ) (t u v : Bool) → wellFormed m s′ ≡ u → leb (2 ^ m .buffers) mark ≡ v → Kept s table → Machine s′
+        → ((b : ℕ) → bit mark b ≡ false → bufferOf s b ≡ bufferOf s′ b) → refreshedBy s′ mark table (if t then Got m at else Refused wrong-table 0) .number ≡ 0
+        → Kept s′ (refreshedBy s′ mark table (if t then Got m at else Refused wrong-table 0) .table)
+    changed-by s s′ mark table at true true true w l h k same e = absurd (omega (arith, rw (w, l) at e))
+    changed-by s s′ mark table at true true false w l h k same e = rw (w, l) (change-keeps s s′ mark table h (inr (k, w)) same)
+    changed-by s s′ mark table at true false v w l h k same e = absurd (omega (arith, rw w at e))
+    changed-by s s′ mark table at false u v w l h k same e = absurd (omega arith)
+
     module _ (image : List ℕ) (at : ℕ) (d : decode image ≡ Got m at) where
       opened-keeps : (table : List ℕ) → openOf image table .number ≡ 0 → Kept (openOf image table .state) (openOf image table .table)
       unfolding openOf accepted
@@ -76,7 +90,14 @@ module _ (m : Model) (Kept : State → List ℕ → Type 0)
       refreshed-keeps s mark table h =
           rw d (refreshed-by s mark table at (eqb (length table) (9 * length (m .rules))) (wellFormed m s) (leb (2 ^ m .buffers) mark) refl refl h)
 
+      changed-keeps : (s s′ : State) (mark : ℕ) (table : List ℕ) → Kept s table → Machine s′ → ((b : ℕ) → bit mark b ≡ false → bufferOf s b ≡ bufferOf s′ b)
+          → refreshOf image s′ mark table .number ≡ 0 → Kept s′ (refreshOf image s′ mark table .table)
+      unfolding refreshOf accepted
+      changed-keeps s s′ mark table h k same e =
+          rw d (changed-by s s′ mark table at (eqb (length table) (9 * length (m .rules))) (wellFormed m s′) (leb (2 ^ m .buffers) mark) refl refl h k same (rw d at e))
+
       pub chain-keeps : {s : State} {table : List ℕ} → Reached image s table → Kept s table
       chain-keeps (opened table e) = opened-keeps table e
       chain-keeps (ran {s} {table} r steps) = ran-keeps s table steps (chain-keeps r)
       chain-keeps (refreshed {s} {table} r mark) = refreshed-keeps s mark table (chain-keeps r)
+      chain-keeps (changed {s} {table} r s′ mark k same e) = changed-keeps s s′ mark table (chain-keeps r) k same e

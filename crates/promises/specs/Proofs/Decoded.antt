@@ -11,19 +11,21 @@ use Rattle.meaning.specs.Base.{if_then_else_, every, upFrom}
 use Rattle.meaning.specs.Numbers.{bad-variable, bad-buffer, bad-mask, bad-number}
 use Rattle.meaning.specs.Model.{Model, Sizes, Rule, Test, Action, Deed, Modify, Request, Clear, Named, Term, Symbol, Variable, Fact}
 use Rattle.meaning.specs.State.{slotCount, wellBuffer}
-use Rattle.meaning.specs.Read.{Refused, Got, Reader, field, require, times, rising, must}
-use Rattle.meaning.specs.Image.{anything, between, aType, aBuffer, aMask, aTerm, kindRule, Header, header, chunk, fact, slotsIn, termOf, terms, masked, tests, standsIn, isTested, testedType, deed, action, actions, utilityOf, Head, head, body, rule, decode}
+use Rattle.meaning.specs.Read.{Got, Reader, field, require, rising, must}
+use Rattle.meaning.specs.Image.{anything, between, aType, aBuffer, aMask, aTerm, kindRule, Header, header, chunk, fact, slotsIn, termOf, terms, masked}
+use Rattle.meaning.specs.Image.{tests, standsIn, isTested, testedType, deed, action, actions, utilityOf, head, body, rule, decode}
 use Rattle.meaning.specs.Calls.{opens}
 use Rattle.laws.specs.BaseLaws.{no-true, and-left, and-right, every-upFrom, by-lt}
 use Rattle.laws.specs.BitsLaws.{fieldAt-lt}
-use Rattle.laws.specs.ReadLaws.{no-got, FieldRead, field-got, must-kept, split, times-all}
-use Rattle.laws.specs.ImageLaws.{between-got, chunk-well, Parts, parts, HeadFits, head-fits}
+use Rattle.laws.specs.ReadLaws.{no-got, FieldRead, field-got, must-kept, times-all}
+use Rattle.laws.specs.HighestLaws.{split}
+use Rattle.laws.specs.ImageLaws.{between-got, chunk-well, Parts, parts, head-fits}
 
 pub and-true : (a b : Bool) → a ≡ true → b ≡ true → (a && b) ≡ true
 and-true true b p q = q
 and-true false b p q = p
 
-all-weaken : {A : Type 0} (p q : A → Bool) → ((x : A) → p x ≡ true → q x ≡ true) → (xs : List A) → every p xs ≡ true → every q xs ≡ true
+pub all-weaken : {A : Type 0} (p q : A → Bool) → ((x : A) → p x ≡ true → q x ≡ true) → (xs : List A) → every p xs ≡ true → every q xs ≡ true
 all-weaken p q h [] e = refl
 all-weaken p q h (x ∷ xs) e = and-true (q x) (every q xs) (h x (and-left (p x) (every p xs) e)) (all-weaken p q h xs (and-right (p x) (every p xs) e))
 
@@ -76,10 +78,15 @@ mask-low slots mask h l e =
 mask-slots : (slots mask : ℕ) → mask < 256 → mask % 2 ^ (8 - slots) ≡ 0 → (every (λ x. ltb x slots) (slotsIn mask) ≡ true) × (rises (λ x. x) 0 (slotsIn mask) ≡ true)
 mask-slots slots mask l e =
     by-lt slots 9
-    (λ h. (and-left (every (λ x. ltb x slots) (slotsIn mask)) (rises (λ x. x) 0 (slotsIn mask)) (mask-low slots mask h l e), and-right (every (λ x. ltb x slots) (slotsIn mask)) (rises (λ x. x) 0 (slotsIn mask)) (mask-low slots mask h l e)))
+    (λ h.
+    let k = mask-low slots mask h l e in (
+      and-left (every (λ x. ltb x slots) (slotsIn mask)) (rises (λ x. x) 0 (slotsIn mask)) k,
+      and-right (every (λ x. ltb x slots) (slotsIn mask)) (rises (λ x. x) 0 (slotsIn mask)) k,
+    ))
     (λ h.
     let k = mask-low 8 mask (omega arith) l (omega arith) in (
-      all-weaken (λ x. ltb x 8) (λ x. ltb x slots) (λ x t. lt-ltb x slots (omega (arith, ltb-true x 8 t))) (slotsIn mask) (and-left (every (λ x. ltb x 8) (slotsIn mask)) (rises (λ x. x) 0 (slotsIn mask)) k),
+      all-weaken (λ x. ltb x 8) (λ x. ltb x slots) (λ x t. lt-ltb x slots (omega (arith, ltb-true x 8 t))) (slotsIn mask)
+          (and-left (every (λ x. ltb x 8) (slotsIn mask)) (rises (λ x. x) 0 (slotsIn mask)) k),
       and-right (every (λ x. ltb x 8) (slotsIn mask)) (rises (λ x. x) 0 (slotsIn mask)) k,
     ))
 
@@ -104,9 +111,11 @@ module _ (ts : List Test) (variables : ℕ) (few : variables ≤ 8) (stood : eve
       split (terms variables xs image n₁) _ k₁ λ rest n₂ e₂ k₂.
       let q : record { slot = x; term = termOf t } ∷ rest ≡ ns = cc in
       let f : t < 4096 + variables = ltb-true t (4096 + variables) (must-kept 2 _ (field-got 13 (must bad-variable (aTerm variables)) image at t n₁ e₁ .kept)) in
-      let ih : (every (goodNamed ts k) rest ≡ true) × (rises (λ n. n .slot) (x + 1) rest ≡ true) = terms-good k xs (x + 1) (and-right (ltb x k) (every (λ x. ltb x k) xs) low) (and-right (leb least x) (rises (λ x. x) (x + 1) xs) up) image n₁ rest n₂ e₂ in
+      let ih : (every (goodNamed ts k) rest ≡ true) × (rises (λ n. n .slot) (x + 1) rest ≡ true) =
+      terms-good k xs (x + 1) (and-right (ltb x k) (every (λ x. ltb x k) xs) low) (and-right (leb least x) (rises (λ x. x) (x + 1) xs) up) image n₁ rest n₂ e₂ in
       rw (← q) (
-        and-true (ltb x k && goodTerm ts (termOf t)) (every (goodNamed ts k) rest) (and-true (ltb x k) (goodTerm ts (termOf t)) (and-left (ltb x k) (every (λ x. ltb x k) xs) low) (term-good t f)) (ih .0),
+        and-true (ltb x k && goodTerm ts (termOf t)) (every (goodNamed ts k) rest)
+            (and-true (ltb x k) (goodTerm ts (termOf t)) (and-left (ltb x k) (every (λ x. ltb x k) xs) low) (term-good t f)) (ih .0),
         and-true (leb least x) (rises (λ n. n .slot) (x + 1) rest) (and-left (leb least x) (rises (λ x. x) (x + 1) xs) up) (ih .1),
       )
 

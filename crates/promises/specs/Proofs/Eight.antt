@@ -1,4 +1,4 @@
--- A chain of calls always holds a state of eight buffers.
+-- A state of eight buffers: an opening has them, and a step keeps them.
 use mathlib.Core.Path.{_≡_, sym, ap, _∙_}
 use mathlib.Core.List.{List, map}
 use Prim.Native.Nat.{ℕ, _-_}
@@ -7,23 +7,19 @@ use lib.ListN.{length, replicate, length-append, length-map, length-replicate}
 use Rattle.meaning.specs.declared.State.{State}
 use Rattle.meaning.specs.Model.{Model, Rule, Fact}
 use Rattle.meaning.specs.State.{nilAfter}
-use Rattle.meaning.specs.Read.{Got}
-use Rattle.meaning.specs.Image.{decode}
 use Rattle.meaning.specs.Choice.{utilities}
 use Rattle.meaning.specs.Fire.{later, after, deedOn, fire}
 use Rattle.meaning.specs.Wait.{wait}
 use Rattle.meaning.specs.Step.{Event, Fired, Waited, Made, stepOf}
 use Rattle.meaning.specs.Calls.{opens, openState}
-use Rattle.promises.specs.Words.{Reached}
-use Rattle.promises.specs.Proofs.Decoded.{Decoded, decoded}
+use Rattle.promises.specs.Proofs.Decoded.{Decoded}
 use Rattle.promises.specs.Proofs.Marks.{length-change}
-use Rattle.promises.specs.Proofs.Chains.{chain-keeps}
 use Rattle.promises.specs.Proofs.Steps.{FiredBy, WaitedBy, step-fired, step-waited}
 
-abbrev Eight : State → Type 0
+abbrev pub Eight : State → Type 0
 Eight s = length (s .buffers) ≡ 8
 
-open-eight : (m : Model) → Decoded m → Eight (openState m)
+pub open-eight : (m : Model) → Decoded m → Eight (openState m)
 unfolding openState
 open-eight m d =
     length-append (map opens (m .opening)) (replicate (8 - m .buffers) (nilAfter 0))
@@ -37,14 +33,10 @@ wait-eight : (ms : ℕ) (s : State) → length (wait ms s .buffers) ≡ length (
 unfolding wait
 wait-eight ms s = length-change (λ i b. later ms b) 0 (s .buffers)
 
-step-eight : (m : Model) (s : State) (table : List ℕ) → Eight s → (e : Event) (s′ : State) (mark : ℕ) → stepOf m s table ≡ Made e s′ mark → Eight s′
+pub step-eight : (m : Model) (s : State) (table : List ℕ) → Eight s → (e : Event) (s′ : State) (mark : ℕ) → stepOf m s table ≡ Made e s′ mark → Eight s′
 step-eight m s table h (Fired k) s′ mark q =
     let f : FiredBy m (m .facts) (utilities (m .rules)) s table k s′ mark = step-fired m (m .facts) (utilities (m .rules)) s table k s′ mark q in
     ap (λ (x : State). length (x .buffers)) (sym (f .state-is)) ∙ fire-eight (m .failure) (m .facts) (f .candidate .rule) (f .candidate .entry) s ∙ h
 step-eight m s table h (Waited ms) s′ mark q =
     let f : WaitedBy m (utilities (m .rules)) s table ms s′ mark = step-waited m (m .facts) (utilities (m .rules)) s table ms s′ mark q in
     ap (λ (x : State). length (x .buffers)) (sym (f .state-is)) ∙ wait-eight ms s ∙ h
-
-pub chain-eight : (image : List ℕ) (m : Model) (at : ℕ) → decode image ≡ Got m at → {s : State} {table : List ℕ} → Reached image s table → length (s .buffers) ≡ 8
-chain-eight image m at d r =
-    chain-keeps m (λ s table. Eight s) (λ s table h e s′ mark q. step-eight m s table h e s′ mark q) (open-eight m (decoded image m at d)) (λ s mark table h. h) image at d r

@@ -1,8 +1,8 @@
 -- What a step and a run with the fresh table come to.
-use mathlib.Core.Path.{_≡_, refl, sym, ap, subst, _∙_}
+use mathlib.Core.Path.{_≡_, refl, sym, ap, ap₂, subst, _∙_}
 use mathlib.Core.Logic.{_⊎_, inl, inr, ⊎-elim}
 use mathlib.Core.Bool.{true}
-use mathlib.Core.List.{List}
+use mathlib.Core.List.{List, _∷_}
 use mathlib.Core.Option.{Option, none, some}
 use Prim.Native.Nat.{ℕ, zero, suc, _*_, _≤_, _<_}
 use native.Mathlib.Omega.{arith}
@@ -16,15 +16,15 @@ use Rattle.meaning.specs.Image.{decode}
 use Rattle.meaning.specs.Match.{freshTable}
 use Rattle.meaning.specs.Choice.{Candidate, choose, utilities}
 use Rattle.meaning.specs.Step.{Event, Step, Stopped, Made, largest, unlessPast, stepOf}
-use Rattle.meaning.specs.Run.{Going, going, Run, before, runFrom}
-use Rattle.meaning.specs.Calls.{accepted, traceOf, Ran, ranBy, runOf}
+use Rattle.meaning.specs.Run.{Going, going, Timed, Run, before, runFrom}
+use Rattle.meaning.specs.Calls.{accepted, traceOf, ranBy, runOf}
 use Rattle.laws.specs.BaseLaws.{by-lt}
 use Rattle.laws.specs.MatchLaws.{fresh-length}
 use Rattle.promises.specs.Words.{Reached}
 use Rattle.promises.specs.Published.{Selected, NoneSelected, Transition, Final, Transitions, no-step, one-step, Passes, Ended, done, full, over, RanOn}
 use Rattle.promises.specs.Proofs.Decoded.{Decoded, decoded}
 use Rattle.promises.specs.Proofs.Runs.{step-fresh, chain-fresh}
-use Rattle.promises.specs.Proofs.WellFormed.{chain-well}
+use Rattle.promises.specs.Proofs.Machines.{chain-well}
 use Rattle.promises.specs.Proofs.Selection.{chosen-selected}
 use Rattle.promises.specs.Proofs.Steps.{no-made, InTime, unless-made, unless-stopped, unless-full, unless-on}
 use Rattle.promises.specs.Proofs.Transitions.{transition-once, Outcome, goes, stays, outcome, stays-final}
@@ -111,9 +111,14 @@ module _ (m : Model) (d : Decoded m) (s : State) where
 abbrev freshly : Model → State → Going
 freshly m s = going s (freshTable (m .rules) s)
 
-one-more : (m : Model) (s s′ : State) (e : Event) (n : ℕ) (r : Run) → Transition m s e s′ → s′ .clock ≤ largest → RanOn m s′ n (ranBy r)
-    → RanOn m s (suc n) (ranBy (before (record { clock = s′ .clock; event = e }) r))
-one-more m s s′ e n r t c g = record { path = one-step t c (g .path); ended = longer (g .ended) }
+-- what is promised of a run: of its answer,
+-- and of its events in their order
+abbrev Goes : Model → State → ℕ → Run → Type 0
+Goes m s asked r = RanOn m s asked (r .events) (ranBy r)
+
+one-more : (m : Model) (s s′ : State) (e : Event) (n : ℕ) (r : Run) → Transition m s e s′ → s′ .clock ≤ largest → Goes m s′ n r
+    → Goes m s (suc n) (before (record { clock = s′ .clock; event = e }) r)
+one-more m s s′ e n r t c g = record { path = one-step t c (g .path); counted = refl; ended = longer (g .ended); fresh = g .fresh }
   where
     longer : {k number : ℕ} {x : State} → Ended m n k x number → Ended m (suc n) (suc k) x number
     longer (done q) = done (ap suc q)
@@ -121,9 +126,9 @@ one-more m s s′ e n r t c g = record { path = one-step t c (g .path); ended = 
     longer (over l p) = over (omega arith) p
 
 stopped-run : (m : Model) (n : ℕ) (s : State) (number : ℕ) → stepOf m s (freshTable (m .rules) s) ≡ Stopped number → Ended m (suc n) 0 s number
-    → RanOn m s (suc n) (ranBy (runFrom m (suc n) (freshly m s)))
+    → Goes m s (suc n) (runFrom m (suc n) (freshly m s))
 unfolding runFrom
-stopped-run m n s number q h = rw q (record { path = no-step; ended = h })
+stopped-run m n s number q h = rw q (record { path = no-step; counted = refl; ended = h; fresh = refl })
 
 made-run : (m : Model) (n : ℕ) (s : State) (e : Event) (s′ : State) (mark : ℕ) → stepOf m s (freshTable (m .rules) s) ≡ Made e s′ mark
     → runFrom m (suc n) (freshly m s) ≡ before (record { clock = s′ .clock; event = e }) (runFrom m n (freshly m s′))
@@ -131,32 +136,50 @@ unfolding runFrom
 made-run m n s e s′ mark q =
     rw q (ap (λ (t : List ℕ). before (record { clock = s′ .clock; event = e }) (runFrom m n (going s′ t))) (step-fresh m s (freshTable (m .rules) s) refl e s′ mark q))
 
-run-goes : (m : Model) (d : Decoded m) (n : ℕ) (s : State) → RanOn m s n (ranBy (runFrom m n (freshly m s)))
+run-goes : (m : Model) (d : Decoded m) (n : ℕ) (s : State) → Goes m s n (runFrom m n (freshly m s))
 unfolding runFrom
-run-goes m d zero s = record { path = no-step; ended = done refl }
+run-goes m d zero s = record { path = no-step; counted = refl; ended = done refl; fresh = refl }
 run-goes m d (suc n) s = by (λ s′. run-goes m d n s′) (outcome m d s)
   where
-    by : ((s′ : State) → RanOn m s′ n (ranBy (runFrom m n (freshly m s′)))) → Outcome m d s → RanOn m s (suc n) (ranBy (runFrom m (suc n) (freshly m s)))
+    by : ((s′ : State) → Goes m s′ n (runFrom m n (freshly m s′))) → Outcome m d s → Goes m s (suc n) (runFrom m (suc n) (freshly m s))
     by ih (goes e s′ mark t q) =
         by-lt largest (s′ .clock)
         (λ h. stopped-run m n s 8 (q ∙ unless-full e s′ mark h) (full (omega arith) (record { event = e; state = s′; transition = t; past = h })))
-        (λ h. subst (λ (r : Run). RanOn m s (suc n) (ranBy r)) (sym (made-run m n s e s′ mark (q ∙ unless-on e s′ mark h))) (one-more m s s′ e n (runFrom m n (freshly m s′)) t h (ih s′)))
+        (λ h.
+        let next : runFrom m (suc n) (freshly m s) ≡ before (record { clock = s′ .clock; event = e }) (runFrom m n (freshly m s′)) = made-run m n s e s′ mark (q ∙ unless-on e s′ mark h) in
+        subst (λ (r : Run). Goes m s (suc n) r) (sym next) (one-more m s s′ e n (runFrom m n (freshly m s′)) t h (ih s′)))
     by ih (stays k z q) = stopped-run m n s 9 q (over (omega arith) (stays-final m d s k z))
 
 -- ---- the call
 
-fresh-ran : (image : List ℕ) (m : Model) (at : ℕ) → decode image ≡ Got m at → (s : State) (steps : ℕ) → wellFormed m s ≡ true
-    → runOf image s (freshTable (m .rules) s) steps ≡ ranBy (runFrom m steps (freshly m s))
-unfolding runOf traceOf accepted
-fresh-ran image m at d s steps w = rw (d, eq-eqb (length (freshTable (m .rules) s)) (9 * length (m .rules)) (fresh-length (m .rules) s), w) refl
+fresh-traced : (image : List ℕ) (m : Model) (at : ℕ) → decode image ≡ Got m at → (s : State) (steps : ℕ) → wellFormed m s ≡ true
+    → traceOf image s (freshTable (m .rules) s) steps ≡ runFrom m steps (freshly m s)
+unfolding traceOf accepted
+fresh-traced image m at d s steps w = rw (d, eq-eqb (length (freshTable (m .rules) s)) (9 * length (m .rules)) (fresh-length (m .rules) s), w) refl
 
-pub chain-runs : (image : List ℕ) (m : Model) (at : ℕ) → decode image ≡ Got m at → {s : State} {table : List ℕ} → Reached image s table → (steps : ℕ) → RanOn m s steps (runOf image s table steps)
+pub fresh-runs : (image : List ℕ) (m : Model) (at : ℕ) → decode image ≡ Got m at → (s : State) → wellFormed m s ≡ true → (steps : ℕ)
+    → RanOn m s steps (traceOf image s (freshTable (m .rules) s) steps .events) (runOf image s (freshTable (m .rules) s) steps)
+unfolding runOf
+fresh-runs image m at d s w steps =
+    subst (λ (r : Run). Goes m s steps r) (sym (fresh-traced image m at d s steps w)) (run-goes m (decoded image m at d) steps s)
+
+pub chain-runs : (image : List ℕ) (m : Model) (at : ℕ) → decode image ≡ Got m at → {s : State} {table : List ℕ} → Reached image s table
+    → (steps : ℕ) → RanOn m s steps (traceOf image s table steps .events) (runOf image s table steps)
 chain-runs image m at d {s} {table} r steps =
-    let f : table ≡ freshTable (m .rules) s = chain-fresh image m at d r in
-    let e : runOf image s table steps ≡ ranBy (runFrom m steps (freshly m s)) = ap (λ (t : List ℕ). runOf image s t steps) f ∙ fresh-ran image m at d s steps (chain-well image m at d r) in
-    subst (λ (a : Ran). RanOn m s steps a) (sym e) (run-goes m (decoded image m at d) steps s)
+    subst (λ (t : List ℕ). RanOn m s steps (traceOf image s t steps .events) (runOf image s t steps)) (sym (chain-fresh image m at d r))
+    (fresh-runs image m at d s (chain-well image m at d r) steps)
 
 pub chain-step : (image : List ℕ) (m : Model) (at : ℕ) → decode image ≡ Got m at → {s : State} {table : List ℕ} → Reached image s table
     → (e : Event) (s′ : State) (mark : ℕ) → stepOf m s table ≡ Made e s′ mark → Transition m s e s′
 chain-step image m at d {s} {table} r e s′ mark h =
     made-transition m (decoded image m at d) s e s′ mark (ap (stepOf m s) (sym (chain-fresh image m at d r)) ∙ h) .0
+
+-- there is no other way to make so many transitions
+pub transitions-once : (m : Model) → Decoded m → {es fs : List Timed} {s s₁ s₂ : State} → Transitions m es s s₁ → Transitions m fs s s₂ → length es ≡ length fs → (es ≡ fs) × (s₁ ≡ s₂)
+transitions-once m d no-step no-step l = (refl, refl)
+transitions-once m d no-step (one-step t c p) l = absurd (omega arith)
+transitions-once m d (one-step t c p) no-step l = absurd (omega arith)
+transitions-once m d (one-step {e} {es} {s} {s′} {s″ = s₁} t c p) (one-step {e = f} {es = fs} {s′ = t′} {s″ = s₂} u h q) l =
+    let once : (e ≡ f) × (s′ ≡ t′) = transition-once m d s t u in
+    let rest : (es ≡ fs) × (s₁ ≡ s₂) = transitions-once m d p (subst (λ (x : State). Transitions m fs x s₂) (sym (once .1)) q) (omega arith) in
+    (ap₂ (λ (x : Timed) (xs : List Timed). x ∷ xs) (ap₂ (λ (x : Event) (y : State). record { clock = y .clock; event = x }) (once .0) (once .1)) (rest .0), rest .1)

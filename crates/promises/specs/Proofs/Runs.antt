@@ -32,4 +32,4 @@ step-fresh m s table f e s′ mark q =
 pub chain-fresh : (image : List ℕ) (m : Model) (at : ℕ) → decode image ≡ Got m at → {s : State} {table : List ℕ} → Reached image s table → table ≡ freshTable (m .rules) s
 chain-fresh image m at d r =
     chain-keeps m (λ s table. table ≡ freshTable (m .rules) s) (step-fresh m) refl
-    (λ s mark table f. ap (refresh (m .rules) s mark) f ∙ refresh-fresh (m .rules) s s mark (λ b h. inl refl)) image at d r
+    (λ s s′ mark table f given same. ap (refresh (m .rules) s′ mark) f ∙ refresh-fresh (m .rules) s s′ mark (λ b h. inl (same b h))) image at d r

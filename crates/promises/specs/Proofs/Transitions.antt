@@ -79,7 +79,8 @@ state-is : (s : State) (bs : List Buffer) (clock : ℕ) → s .buffers ≡ bs �
 state-is s bs clock p q = rw (← p, ← q) refl
 
 -- a state each of whose buffers is made anew
-anew-is : (s s′ : State) (f : ℕ → Buffer → Buffer) (clock : ℕ) → length (s′ .buffers) ≡ length (s .buffers) → ((b : ℕ) → b < length (s .buffers) → bufferOf s′ b ≡ f b (bufferOf s b)) → s′ .clock ≡ clock
+anew-is : (s s′ : State) (f : ℕ → Buffer → Buffer) (clock : ℕ) → length (s′ .buffers) ≡ length (s .buffers)
+    → ((b : ℕ) → b < length (s .buffers) → bufferOf s′ b ≡ f b (bufferOf s b)) → s′ .clock ≡ clock
     → s′ ≡ record { buffers = change f 0 (s .buffers); clock = clock }
 anew-is s s′ f clock l h t =
     state-is s′ (change f 0 (s .buffers)) clock
@@ -160,11 +161,19 @@ none-pending s h b l = zero-or (bufferOf s b .delay) (λ p. absurd (omega (arith
     zero-or zero f = refl
     zero-or (suc d) f = absurd (f (omega arith))
 
-least-once : (s : State) (j k : ℕ) → LeastDelay s j → LeastDelay s k → j ≡ k
+-- the soonest delay of a state is the least that is pending, and 0 if none is
+pub soonest-pending : (s : State) (n : ℕ) → soonest 0 (s .buffers) ≡ suc n → LeastDelay s (suc n)
+soonest-pending s n e = is-least s n (rw e at (soonest-least 0 (s .buffers)))
+
+pub soonest-quiet : (s : State) → soonest 0 (s .buffers) ≡ 0 → (b : ℕ) → b < length (s .buffers) → bufferOf s b .delay ≡ 0
+soonest-quiet s e = none-pending s (rw e at (soonest-least 0 (s .buffers)))
+
+pub least-once : (s : State) (j k : ℕ) → LeastDelay s j → LeastDelay s k → j ≡ k
 least-once s j k a b =
     omega (arith, a .least (b .buffer) (b .there) (omega (arith, b .is, b .above)), b .least (a .buffer) (a .there) (omega (arith, a .is, a .above)), a .is, b .is)
 
--- ---- Apply
+-- ---- Apply: each action has its effect, and all other buffers age;
+-- a firing with the fresh entry does just that
 
 module _ (m : Model) (d : Decoded m) (s : State) where
   module _ (k : ℕ) (r : Rule) (at : At r k (m .rules)) (v : ℕ → ℕ) (binds : Binds r s v) where
@@ -180,7 +189,8 @@ module _ (m : Model) (d : Decoded m) (s : State) where
     good-deed : (a : Action) → List·Memᴰ a (r .actions) → goodDeed (m .types) (r .tests) (a .buffer) (a .deed) ≡ true
     good-deed a h =
         and-right (ltb (a .buffer) (m .buffers)) (goodDeed (m .types) (r .tests) (a .buffer) (a .deed))
-        (every-member (goodAction (m .buffers) (m .types) (r .tests)) (r .actions) (and-left (every (goodAction (m .buffers) (m .types) (r .tests)) (r .actions)) (rises (λ a. a .buffer) 0 (r .actions)) good) h)
+        (every-member (goodAction (m .buffers) (m .types) (r .tests)) (r .actions)
+        (and-left (every (goodAction (m .buffers) (m .types) (r .tests)) (r .actions)) (rises (λ a. a .buffer) 0 (r .actions)) good) h)
 
     fire-applied : Applied m r v s (fire (m .failure) (m .facts) r (entryOf r s) s)
     unfolding fire
@@ -239,9 +249,9 @@ module _ (m : Model) (d : Decoded m) (s : State) where
     stays : NoneSelected m s → ((b : ℕ) → b < length (s .buffers) → bufferOf s b .delay ≡ 0) → freshStep ≡ Stopped halted → Outcome
 
   by-wait : (n : ℕ) → soonest 0 (s .buffers) ≡ n → NoneSelected m s → freshStep ≡ waitStep s n → Outcome
-  by-wait zero e none-is q = stays none-is (none-pending s (rw e at (soonest-least 0 (s .buffers)))) q
+  by-wait zero e none-is q = stays none-is (soonest-quiet s e) q
   by-wait (suc n) e none-is q =
-      goes (Waited (suc n)) (wait (suc n) s) (markOf [] s (wait (suc n) s)) (no-rule none-is (is-least s n (rw e at (soonest-least 0 (s .buffers)))) (wait-passed (suc n) s)) q
+      goes (Waited (suc n)) (wait (suc n) s) (markOf [] s (wait (suc n) s)) (no-rule none-is (soonest-pending s n e) (wait-passed (suc n) s)) q
 
   by-fire : (c : Candidate) → choose (m .rules) (utilities (m .rules)) (freshTable (m .rules) s) ≡ some c → freshStep ≡ stepBy (m .failure) (m .facts) s (some c) → Outcome
   by-fire c e q =

@@ -15,8 +15,7 @@ use Rattle.meaning.specs.declared.State.{State}
 use Rattle.meaning.specs.Base.{if_then_else_, every, keep, upFrom}
 use Rattle.meaning.specs.Model.{Model, Rule, Test, Action, Deed, Modify, Request, Clear, Named, Term, Symbol, Variable, Fact}
 use Rattle.meaning.specs.State.{nothing, nilAfter, bufferOf, visible, slotCount, wellBuffer, isNil, wellFormed}
-use Rattle.meaning.specs.Read.{Got}
-use Rattle.meaning.specs.Image.{isVariable, isTested, testedType, decode}
+use Rattle.meaning.specs.Image.{isVariable, isTested, testedType}
 use Rattle.meaning.specs.Match.{Place, place, places, valueIn, shows, agreed, matches, entryOf}
 use Rattle.meaning.specs.Choice.{utilities}
 use Rattle.meaning.specs.Retrieval.{valueOf, fits, weaker, retrieve, retrieved}
@@ -27,11 +26,10 @@ use Rattle.meaning.specs.Calls.{opens}
 use Rattle.laws.specs.BaseLaws.{no-true, and-left, and-right, every-member, every-append, keep-member}
 use Rattle.laws.specs.HighestLaws.{Best}
 use Rattle.laws.specs.RetrievalLaws.{retrieve-best}
-use Rattle.laws.specs.CallsLaws.{nil-well, open-well}
-use Rattle.promises.specs.Words.{At, first, next, Reached}
-use Rattle.promises.specs.Proofs.Decoded.{and-true, goodTerm, goodNamed, goodNames, goodDeed, goodAction, goodRule, rises, Decoded, decoded}
+use Rattle.laws.specs.CallsLaws.{nil-well}
+use Rattle.promises.specs.Words.{At, first, next}
+use Rattle.promises.specs.Proofs.Decoded.{and-true, goodTerm, goodNamed, goodNames, goodDeed, goodAction, goodRule, rises, Decoded}
 use Rattle.promises.specs.Proofs.Steps.{FiredBy, WaitedBy, step-fired, step-waited}
-use Rattle.promises.specs.Proofs.Chains.{chain-keeps}
 use Rattle.promises.specs.Proofs.Firing.{fired-rule}
 
 -- ---- three tests in one
@@ -43,7 +41,7 @@ all-three : (a b c : Bool) → a ≡ true → b ≡ true → c ≡ true → (a &
 all-three a b c p q r = and-true (a && b) c (and-true a b p q) r
 
 -- what a well-formed buffer is, and what nil is, part by part
-buffer-parts : (types : List ℕ) (b : Buffer) → wellBuffer types b ≡ true
+pub buffer-parts : (types : List ℕ) (b : Buffer) → wellBuffer types b ≡ true
     → (ltb (b .isa) (length types) ≡ true) × (every (λ v. leb v 4095) (b .slots) ≡ true) × (every (λ v. eqb v 0) (drop (slotCount types (b .isa)) (b .slots)) ≡ true)
 buffer-parts types b e = three (ltb (b .isa) (length types)) (every (λ v. leb v 4095) (b .slots)) (every (λ v. eqb v 0) (drop (slotCount types (b .isa)) (b .slots))) e
 
@@ -52,7 +50,7 @@ nil-parts b e = three (eqb (b .isa) 0) (every (λ v. eqb v 0) (b .slots)) (eqb (
 
 -- ---- lists
 
-all-getD : {A : Type 0} (p : A → Bool) (xs : List A) (i : ℕ) (d : A) → every p xs ≡ true → p d ≡ true → p (getD xs i d) ≡ true
+pub all-getD : {A : Type 0} (p : A → Bool) (xs : List A) (i : ℕ) (d : A) → every p xs ≡ true → p d ≡ true → p (getD xs i d) ≡ true
 all-getD p [] i d e h = h
 all-getD p (x ∷ xs) zero d e h = and-left (p x) (every p xs) e
 all-getD p (x ∷ xs) (suc i) d e h = all-getD p xs i d (and-right (p x) (every p xs) e) h
@@ -68,7 +66,7 @@ all-at p r (next {k} {y = q} {xs = rs} h) e = all-at p r h (and-right (p q) (eve
 
 -- ---- buffers made anew
 
-all-change : (p : Buffer → Bool) (f : ℕ → Buffer → Buffer) (i : ℕ) (bs : List Buffer) → ((j : ℕ) → j < length bs → p (f (i + j) (getD bs j nothing)) ≡ true) → every p (change f i bs) ≡ true
+pub all-change : (p : Buffer → Bool) (f : ℕ → Buffer → Buffer) (i : ℕ) (bs : List Buffer) → ((j : ℕ) → j < length bs → p (f (i + j) (getD bs j nothing)) ≡ true) → every p (change f i bs) ≡ true
 unfolding change
 all-change p f i [] h = refl
 all-change p f i (b ∷ bs) h =
@@ -216,7 +214,8 @@ module _ (m : Model) (d : Decoded m) (s : State) (well : wellFormed m s ≡ true
       let is : bufferOf s b .isa ≡ testedType (r .tests) b = tested-type s b (r .tests) (and-left (every (λ t. shows t (bufferOf s (t .buffer))) (r .tests)) (agreed (places (r .tests) s)) hit) t in
       let g′ : every (goodNamed (r .tests) k) ns ≡ true = rw is g in
       let w = buffer-parts (m .types) (bufferOf s b) (well-buffer m s well b l) in
-      all-three (ltb (bufferOf s b .isa) (length (m .types))) (every (λ v. leb v 4095) (put ns (entryOf r s) (bufferOf s b .slots))) (every (λ v. eqb v 0) (drop k (put ns (entryOf r s) (bufferOf s b .slots))))
+      let new : List ℕ = put ns (entryOf r s) (bufferOf s b .slots) in
+      all-three (ltb (bufferOf s b .isa) (length (m .types))) (every (λ v. leb v 4095) new) (every (λ v. eqb v 0) (drop k new))
       (w .0)
       (put-small (r .tests) k ns (entryOf r s) (bufferOf s b .slots) g′ (entry-small m r s well) (w .1))
       (ap (every (λ v. eqb v 0)) (put-past (r .tests) k ns (entryOf r s) (bufferOf s b .slots) g′) ∙ w .2)
@@ -242,10 +241,13 @@ module _ (m : Model) (d : Decoded m) (s : State) (well : wellFormed m s ≡ true
   unfolding deedOn
   after-well [] g b l = well-buffer m s well b l
   after-well (a ∷ as′) g b l =
-      (elim (eqb (a .buffer) b) as (λ q. eqb (a .buffer) b ≡ q → wellBuffer (m .types) (after (m .failure) (m .facts) (entryOf r s) (bufferOf s b) (if q then some (a .deed) else deedOn as′ b)) ≡ true) [
+      (elim (eqb (a .buffer) b) as
+      (λ q. eqb (a .buffer) b ≡ q → wellBuffer (m .types) (after (m .failure) (m .facts) (entryOf r s) (bufferOf s b) (if q then some (a .deed) else deedOn as′ b)) ≡ true) [
         | true ↦ λ q.
             let z : a .buffer ≡ b = eqb-true (a .buffer) b q in
-            let h : goodDeed (m .types) (r .tests) (a .buffer) (a .deed) ≡ true = and-right (ltb (a .buffer) (m .buffers)) _ (and-left (goodAction (m .buffers) (m .types) (r .tests) a) (every (goodAction (m .buffers) (m .types) (r .tests)) as′) g) in
+            let good : goodAction (m .buffers) (m .types) (r .tests) a ≡ true =
+            and-left (goodAction (m .buffers) (m .types) (r .tests) a) (every (goodAction (m .buffers) (m .types) (r .tests)) as′) g in
+            let h : goodDeed (m .types) (r .tests) (a .buffer) (a .deed) ≡ true = and-right (ltb (a .buffer) (m .buffers)) _ good in
             done-well b (a .deed) l (rw z at h)
         | false ↦ λ q. after-well as′ (and-right (goodAction (m .buffers) (m .types) (r .tests) a) _ g) b l
       ]) refl
@@ -258,7 +260,9 @@ module _ (m : Model) (d : Decoded m) (s : State) (well : wellFormed m s ≡ true
       (elim (eqb (a .buffer) b) as (λ q. eqb (a .buffer) b ≡ q → (if q then some (a .deed) else deedOn as′ b) ≡ none) [
         | true ↦ λ q.
             let z : a .buffer ≡ b = eqb-true (a .buffer) b q in
-            let h : a .buffer < m .buffers = ltb-true (a .buffer) (m .buffers) (and-left (ltb (a .buffer) (m .buffers)) _ (and-left (goodAction (m .buffers) (m .types) (r .tests) a) (every (goodAction (m .buffers) (m .types) (r .tests)) as′) g)) in
+            let good : goodAction (m .buffers) (m .types) (r .tests) a ≡ true =
+            and-left (goodAction (m .buffers) (m .types) (r .tests) a) (every (goodAction (m .buffers) (m .types) (r .tests)) as′) g in
+            let h : a .buffer < m .buffers = ltb-true (a .buffer) (m .buffers) (and-left (ltb (a .buffer) (m .buffers)) _ good) in
             absurd (omega arith)
         | false ↦ λ q. past-none as′ (and-right (goodAction (m .buffers) (m .types) (r .tests) a) _ g) b l
       ]) refl
@@ -266,7 +270,8 @@ module _ (m : Model) (d : Decoded m) (s : State) (well : wellFormed m s ≡ true
   pub fire-well : goodRule (m .buffers) (m .types) r ≡ true → wellFormed m (fire (m .failure) (m .facts) r (entryOf r s) s) ≡ true
   unfolding fire
   fire-well g =
-      let as-good : every (goodAction (m .buffers) (m .types) (r .tests)) (r .actions) ≡ true = and-left (every (goodAction (m .buffers) (m .types) (r .tests)) (r .actions)) (rises (λ a. a .buffer) 0 (r .actions)) g in
+      let as-good : every (goodAction (m .buffers) (m .types) (r .tests)) (r .actions) ≡ true =
+      and-left (every (goodAction (m .buffers) (m .types) (r .tests)) (r .actions)) (rises (λ a. a .buffer) 0 (r .actions)) g in
       anew-well m s (λ i b. after (m .failure) (m .facts) (entryOf r s) b (deedOn (r .actions) i)) (s .clock + 50)
       (λ j l. after-well (r .actions) as-good j l)
       (λ j b l h. rw (past-none (r .actions) as-good j l) (later-nil 50 b h))
@@ -285,7 +290,3 @@ step-well m d s table w (Fired k) s′ mark h =
 step-well m d s table w (Waited ms) s′ mark h =
     let f : WaitedBy m (utilities (m .rules)) s table ms s′ mark = step-waited m (m .facts) (utilities (m .rules)) s table ms s′ mark h in
     ap (wellFormed m) (sym (f .state-is)) ∙ wait-well m ms s w
-
-pub chain-well : (image : List ℕ) (m : Model) (at : ℕ) → decode image ≡ Got m at → {s : State} {table : List ℕ} → Reached image s table → wellFormed m s ≡ true
-chain-well image m at d r =
-    chain-keeps m (λ s table. wellFormed m s ≡ true) (λ s table w e s′ mark q. step-well m (decoded image m at d) s table w e s′ mark q) (open-well image m at d) (λ s mark table w. w) image at d r

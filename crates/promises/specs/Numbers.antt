@@ -1,0 +1,96 @@
+-- Demand 1, the numbers: each is answered exactly when its row of document 01's table holds and no row before it, and then leaves what 01 says.
+-- So what keeps all rows is never refused.
+use mathlib.Core.Path.{_≡_}
+use mathlib.Core.Logic.{_↔_}
+use mathlib.Core.Bool.{true}
+use mathlib.Core.List.{List, _++_}
+use Prim.Native.Nat.{ℕ, _*_, _^_, _≤_, _<_}
+use lib.ListN.{length}
+use Rattle.meaning.specs.declared.State.{State}
+use Rattle.meaning.specs.Numbers.{not-there, bad-number, bad-end}
+use Rattle.meaning.specs.Model.{Model}
+use Rattle.meaning.specs.State.{zeroState, wellFormed}
+use Rattle.meaning.specs.Read.{Refused, Got}
+use Rattle.meaning.specs.Image.{model, decode}
+use Rattle.meaning.specs.Match.{freshTable}
+use Rattle.meaning.specs.Refresh.{refresh, refreshCount}
+use Rattle.meaning.specs.Calls.{tableLength, openState, openOf, traceOf, runOf, refreshOf}
+use Rattle.promises.specs.Sentences.{Stops, Taken, Given, AfterOpen, AfterRefresh, AfterRun, RanTo}
+use Rattle.promises.specs.Proofs.Numbers as numbers
+
+-- ---- an image alone
+
+-- Reading stops by 2 at a field that is not wholly there, by 3 at one that is, by 4 after the last field, if a pad bit is 1 or a byte follows;
+-- and by no other number.
+pub reading-stops : (image : List ℕ) (n at : ℕ) → model image 0 ≡ Refused n at → Stops image at n
+reading-stops image n at e = numbers.reading-stops image n at e
+
+-- "the earlier in reading order": what comes after the field that breaks its rule changes neither the number nor the place.
+pub stays-broken : (image rest : List ℕ) → 0 < length rest → length (image ++ rest) ≤ 65536 → (at : ℕ) → decode image ≡ Refused bad-number at → decode (image ++ rest) ≡ Refused bad-number at
+stays-broken image rest l h at e = numbers.broken-longer image rest l h at e
+
+-- Every beginning of an accepted image is refused by 2.
+pub cut-short : (image rest : List ℕ) → 0 < length rest → (m : Model) (end : ℕ) → decode (image ++ rest) ≡ Got m end → (at : ℕ) × (decode image ≡ Refused not-there at)
+cut-short image rest l m end e = numbers.cut-short image rest l m end e
+
+-- An accepted image that anything follows is refused by 4.
+pub bytes-follow : (image rest : List ℕ) → 0 < length rest → length (image ++ rest) ≤ 65536 → (m : Model) (end : ℕ) → decode image ≡ Got m end → decode (image ++ rest) ≡ Refused bad-end 0
+bytes-follow image rest l h m end e = numbers.accepted-longer image rest l h m end e
+
+-- The words that a table needs: nine for each rule of an accepted image, and 0 for an image that is refused.
+pub length-accepted : (image : List ℕ) (m : Model) (end : ℕ) → decode image ≡ Got m end → tableLength image ≡ 9 * length (m .rules)
+length-accepted image m end e = numbers.length-accepted image m end e
+
+pub length-refused : (image : List ℕ) (n at : ℕ) → decode image ≡ Refused n at → tableLength image ≡ 0
+length-refused image n at e = numbers.length-refused image n at e
+
+-- An image that is accepted, with a table of that length, is taken.
+pub accepted-taken : (image table : List ℕ) (m : Model) (end : ℕ) → decode image ≡ Got m end → length table ≡ 9 * length (m .rules) → Taken image table m
+accepted-taken image table m end e l = numbers.accepted-taken image table m end e l
+
+-- ---- open
+
+module _ (image table : List ℕ) where
+  -- An image and a table that are taken are opened, however large they are: number 0, the opening state, and the fresh table.
+  pub open-taken : (m : Model) → Taken image table m → openOf image table ≡ record { number = 0; state = openState m; table = freshTable (m .rules) (openState m) }
+  open-taken m t = numbers.open-taken image table m t
+
+  -- Open answers a number exactly when its row holds and none before it.
+  pub open-exactly : (n : ℕ) → (openOf image table .number ≡ n) ↔ Given image table AfterOpen n
+  open-exactly n = numbers.open-number image table n
+
+  -- Refused, it gives the all-zero state and leaves the table.
+  pub open-refused : (openOf image table .number ≡ 0 → ⊥) → (openOf image table .state ≡ zeroState) × (openOf image table .table ≡ table)
+  open-refused h = numbers.open-refused image table h
+
+-- ---- refresh
+
+module _ (image table : List ℕ) (s : State) (mark : ℕ) where
+  -- A well-formed state and a mark below 2 to the power of the buffer count are never refused: number 0, the count, and the table refreshed.
+  pub refresh-taken : (m : Model) → Taken image table m → wellFormed m s ≡ true → mark < 2 ^ m .buffers
+      → refreshOf image s mark table ≡ record { number = 0; count = refreshCount (m .rules) mark; table = refresh (m .rules) s mark table }
+  refresh-taken m t w l = numbers.refresh-taken image table s mark m t w l
+
+  -- Refresh answers a number exactly when its row holds and none before it.
+  pub refresh-exactly : (n : ℕ) → (refreshOf image s mark table .number ≡ n) ↔ Given image table (AfterRefresh s mark) n
+  refresh-exactly n = numbers.refresh-number image table s mark n
+
+  -- Refused, it counts nothing and leaves the table.
+  pub refresh-refused : (refreshOf image s mark table .number ≡ 0 → ⊥) → (refreshOf image s mark table .count ≡ 0) × (refreshOf image s mark table .table ≡ table)
+  refresh-refused h = numbers.refresh-refused image table s mark h
+
+-- ---- run
+
+module _ (image table : List ℕ) (s : State) (asked : ℕ) where
+  -- A well-formed state is never refused: number 0, 7, 8 or 9, and the state, table and count after the steps made, whatever the table holds.
+  pub run-taken : (m : Model) → Taken image table m → wellFormed m s ≡ true → RanTo m s table asked (traceOf image s table asked .events) (runOf image s table asked)
+  run-taken m t w = numbers.run-taken image table s asked m t w
+
+  -- Run answers a number exactly when its row holds and none before it: after 6, as many steps as there are, and 0 if they are those asked, 7, 8 or 9 if not.
+  pub run-exactly : (n : ℕ) → (runOf image s table asked .number ≡ n) ↔ Given image table (AfterRun s table asked) n
+  run-exactly n = numbers.run-number image table s asked n
+
+  -- Refused by 1 to 6, it gives the state back, counts nothing and leaves the table.
+  pub run-refused : 0 < runOf image s table asked .number → runOf image s table asked .number < 7
+      → runOf image s table asked ≡ record { number = runOf image s table asked .number; state = s; table = table; made = 0 }
+  run-refused a b = numbers.run-refused image table s asked a b

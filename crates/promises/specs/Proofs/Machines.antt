@@ -1,0 +1,270 @@
+-- A chain of calls holds states of the machine: eight buffers of eight slots, each word in 16 bits.
+use mathlib.Core.Path.{_≡_, refl, sym, ap, subst, _∙_}
+use mathlib.Core.Logic.{_⊎_, ⊎-elim}
+use mathlib.Core.Bool.{Bool, true, _&&_}
+use mathlib.Core.List.{List, [], _∷_, map, List·Memᴰ, List·Memᴰ·head, Memᴰ·append-right}
+use mathlib.Core.Option.{Option, none, some}
+use Prim.Native.Nat.{ℕ, zero, suc, _+_, _-_, _≤_, _<_}
+use native.Mathlib.Omega.{arith}
+use borrow.Author.Tests.{eqb-true, eq-eqb, leb-true, le-leb}
+use lib.Dec.{leb, eqb}
+use lib.ListN.{length, getD, drop, replicate, set, length-append, length-replicate, length-set}
+use Rattle.meaning.specs.declared.Buffer.{Buffer}
+use Rattle.meaning.specs.declared.State.{State}
+use Rattle.meaning.specs.Base.{every, keep}
+use Rattle.meaning.specs.Numbers.{bad-number}
+use Rattle.meaning.specs.Model.{Model, Rule, Named, Deed, Modify, Request, Clear, Chunk, Fact}
+use Rattle.meaning.specs.State.{nothing, nilAfter, slotCount, wellBuffer, isNil, wellFormed}
+use Rattle.meaning.specs.Read.{Got, must, field, times}
+use Rattle.meaning.specs.Image.{Header, between, aType, anything, eight, header, chunk, fact, rule, ending, slotCounts, beginning, contents, model, decode}
+use Rattle.meaning.specs.Retrieval.{valueOf, fits, weaker, retrieve, retrieved}
+use Rattle.meaning.specs.Choice.{utilities}
+use Rattle.meaning.specs.Fire.{put, done, later, deedOn, after, change, fire}
+use Rattle.meaning.specs.Wait.{wait}
+use Rattle.meaning.specs.Step.{Event, Fired, Waited, Made, largest, stepOf}
+use Rattle.meaning.specs.Calls.{opens, openState}
+use Rattle.laws.specs.BaseLaws.{and-left, and-right}
+use Rattle.laws.specs.BitsLaws.{fieldAt-lt}
+use Rattle.laws.specs.BaseLaws.{every-append, every-replicate, every-member, keep-member}
+use Rattle.laws.specs.ReadLaws.{FieldRead, field-got, times-all}
+use Rattle.laws.specs.ImageLaws.{between-got}
+use Rattle.laws.specs.HighestLaws.{split}
+use Rattle.laws.specs.HighestLaws.{Best}
+use Rattle.laws.specs.RetrievalLaws.{retrieve-best}
+use Rattle.laws.specs.CallsLaws.{open-well}
+use Rattle.promises.specs.Words.{isWord, isBuffer, Machine, Reached}
+use Rattle.promises.specs.Proofs.Decoded.{decoded, and-true, all-weaken}
+use Rattle.promises.specs.Proofs.Numbers.{decode-got}
+use Rattle.promises.specs.Proofs.Steps.{FiredBy, WaitedBy, step-fired, step-waited}
+use Rattle.promises.specs.Proofs.Chains.{chain-keeps}
+use Rattle.promises.specs.Proofs.Eight.{open-eight, step-eight}
+use Rattle.promises.specs.Proofs.WellFormed.{buffer-parts, all-getD, all-change, step-well}
+
+-- ---- what an image's chunks, facts and failure latency are
+
+-- a chunk of eight slots whose type is a word, and a fact of such a chunk that comes after a word of ms
+abbrev chunkFit : Chunk → Bool
+chunkFit c = eqb (length (c .slots)) 8 && isWord (c .isa)
+
+abbrev factFit : Fact → Bool
+factFit f = chunkFit (f .chunk) && isWord (f .latency)
+
+chunk-fit : (types : List ℕ) → every (λ n. leb n 8) types ≡ true → (least : ℕ) (image : List ℕ) (at : ℕ) (c : Chunk) (end : ℕ) → chunk types least image at ≡ Got c end → chunkFit c ≡ true
+unfolding chunk
+chunk-fit types low least image at c end e =
+    split (field 6 (must bad-number (aType types least)) image at) _ e λ k n₁ e₁ k₁.
+    split (times (slotCount types k) (field 12 anything) image n₁) _ k₁ λ vs n₂ e₂ k₂.
+    let q : record { isa = k; slots = eight vs } ≡ c = cc in
+    let f : FieldRead 6 (must bad-number (aType types least)) image at k n₁ = field-got 6 (must bad-number (aType types least)) image at k n₁ e₁ in
+    let many : length vs ≡ slotCount types k = times-all (field 12 anything) (λ v. true) (λ i a v n z. refl) (slotCount types k) image n₁ vs n₂ e₂ .1 in
+    let few : slotCount types k ≤ 8 = leb-true (slotCount types k) 8 (all-getD (λ n. leb n 8) types k 0 low refl) in
+    rw (← q)
+    (and-true (eqb (length (eight vs)) 8) (isWord k)
+    (eq-eqb (length (eight vs)) 8 (length-append vs (replicate (8 - length vs) 0) ∙ omega (arith, length-replicate {A = ℕ} (8 - length vs) 0)))
+    (le-leb k 65535 (omega (arith, f .is, fieldAt-lt image at 6))))
+
+word-of : (image : List ℕ) (at v next : ℕ) → field 16 anything image at ≡ Got v next → isWord v ≡ true
+word-of image at v next e =
+    let f : FieldRead 16 anything image at v next = field-got 16 anything image at v next e in le-leb v 65535 (omega (arith, f .is, fieldAt-lt image at 16))
+
+fact-fit : (types : List ℕ) → every (λ n. leb n 8) types ≡ true → (image : List ℕ) (at : ℕ) (f : Fact) (end : ℕ) → fact types image at ≡ Got f end → factFit f ≡ true
+unfolding fact
+fact-fit types low image at f end e =
+    split (chunk types 1 image at) _ e λ c n₁ e₁ k₁.
+    split (field 16 anything image n₁) _ k₁ λ activation n₂ e₂ k₂.
+    split (field 16 anything image n₂) _ k₂ λ latency n₃ e₃ k₃.
+    let q : record { chunk = c; activation = activation; latency = latency } ≡ f = cc in
+    rw (← q) (and-true (chunkFit c) (isWord latency) (chunk-fit types low 1 image at c n₁ e₁) (word-of image n₂ latency n₃ e₃))
+
+failure-fit : (image : List ℕ) (at : ℕ) (h : Header) (end : ℕ) → header image at ≡ Got h end → isWord (h .failure) ≡ true
+unfolding header
+failure-fit image at h end e =
+    split (field 8 (must bad-number (between 1 1)) image at) _ e λ version n₁ e₁ k₁.
+    split (field 4 (must bad-number (between 1 8)) image n₁) _ k₁ λ buffers n₂ e₂ k₂.
+    split (field 6 (must bad-number (between 0 63)) image n₂) _ k₂ λ declared n₃ e₃ k₃.
+    split (field 9 (must bad-number (between 0 256)) image n₃) _ k₃ λ rules n₄ e₄ k₄.
+    split (field 10 (must bad-number (between 0 512)) image n₄) _ k₄ λ facts n₅ e₅ k₅.
+    split (field 16 anything image n₅) _ k₅ λ failure n₆ e₆ k₆.
+    let q : record { buffers = buffers; declared = declared; rules = rules; facts = facts; failure = failure } ≡ h = cc in
+    rw (← q) (word-of image n₅ failure n₆ e₆)
+
+record Fit (m : Model) : Type 0 where
+  failure-word : isWord (m .failure) ≡ true
+  opening-fits : every chunkFit (m .opening) ≡ true
+  facts-fit : every factFit (m .facts) ≡ true
+
+fits-of : (image : List ℕ) (m : Model) (at : ℕ) → model image 0 ≡ Got m at → Fit m
+unfolding model beginning contents
+fits-of image m at e =
+    split (beginning image 0) _ e λ b n₁ e₁ k₁.
+    split (contents (record { buffers = b .head .buffers; types = b .types }) (b .head .facts) (b .head .rules) image n₁) _ k₁ λ c n₂ e₂ k₂.
+    split (header image 0) _ e₁ λ h n₃ e₃ k₃.
+    split (slotCounts (h .declared) image n₃) _ k₃ λ counts n₄ e₄ k₄.
+    split (times (h .buffers) (chunk (0 ∷ counts) 0) image n₄) _ k₄ λ opening n₅ e₅ k₅.
+    split (times (b .head .facts) (fact (b .types)) image n₁) _ e₂ λ facts n₆ e₆ k₆.
+    split (times (b .head .rules) (rule (record { buffers = b .head .buffers; types = b .types })) image n₆) _ k₆ λ rules n₇ e₇ k₇.
+    split (ending image n₇) _ k₇ λ u n₈ e₈ k₈.
+    let c-is : record { facts = facts; rules = rules } ≡ c = cc in
+    let b-is : record { head = h; types = 0 ∷ counts; opening = opening } ≡ b = cc in
+    let m-is : record { buffers = b .head .buffers; types = b .types; failure = b .head .failure; opening = b .opening; facts = c .facts; rules = c .rules } ≡ m = cc in
+    let low : every (λ n. leb n 8) counts ≡ true =
+    times-all (field 4 (must bad-number (between 0 8))) (λ n. leb n 8) (λ i a v n z. le-leb v 8 (between-got 4 0 8 i a v n z .1)) (h .declared) image n₃ counts n₄ e₄ .0 in
+    rw (← m-is, ← c-is, ← b-is)
+    (record {
+      failure-word = failure-fit image 0 h n₃ e₃;
+      opening-fits = times-all (chunk (0 ∷ counts) 0) chunkFit (chunk-fit (0 ∷ counts) low 0) (h .buffers) image n₄ opening n₅ e₅ .0;
+      facts-fit = times-all (fact (0 ∷ counts)) factFit (fact-fit (0 ∷ counts) low) (h .facts) image n₁ facts n₆ (rw (← b-is) at e₆) .0;
+    })
+
+-- ---- what a step makes of a buffer
+
+-- eight slots, and type and delay are words
+abbrev rough : Buffer → Bool
+rough b = eqb (length (b .slots)) 8 && (isWord (b .isa) && isWord (b .delay))
+
+rough-made : (isa : ℕ) (slots : List ℕ) (delay : ℕ) → length slots ≡ 8 → isWord isa ≡ true → isWord delay ≡ true → rough (record { isa = isa; slots = slots; delay = delay }) ≡ true
+rough-made isa slots delay l i d = and-true (eqb (length slots) 8) (isWord isa && isWord delay) (eq-eqb (length slots) 8 l) (and-true (isWord isa) (isWord delay) i d)
+
+record Rough (b : Buffer) : Type 0 where
+  slots-are : length (b .slots) ≡ 8
+  isa-is : isWord (b .isa) ≡ true
+  delay-is : isWord (b .delay) ≡ true
+
+rough-parts : (b : Buffer) → rough b ≡ true → Rough b
+rough-parts b e =
+    let rest : (isWord (b .isa) && isWord (b .delay)) ≡ true = and-right (eqb (length (b .slots)) 8) (isWord (b .isa) && isWord (b .delay)) e in
+    record {
+      slots-are = eqb-true (length (b .slots)) 8 (and-left (eqb (length (b .slots)) 8) (isWord (b .isa) && isWord (b .delay)) e);
+      isa-is = and-left (isWord (b .isa)) (isWord (b .delay)) rest;
+      delay-is = and-right (isWord (b .isa)) (isWord (b .delay)) rest;
+    }
+
+put-long : (ns : List Named) (entry slots : List ℕ) → length (put ns entry slots) ≡ length slots
+unfolding put
+put-long [] entry slots = refl
+put-long (n ∷ ns) entry slots = put-long ns entry (set slots (n .slot) (valueOf entry (n .term))) ∙ length-set slots (n .slot) (valueOf entry (n .term))
+
+later-rough : (ms : ℕ) (b : Buffer) → rough b ≡ true → rough (later ms b) ≡ true
+later-rough ms b e =
+    let r : Rough b = rough-parts b e in
+    rough-made (b .isa) (b .slots) (b .delay - ms) (r .slots-are) (r .isa-is) (le-leb (b .delay - ms) 65535 (omega (arith, leb-true (b .delay) 65535 (r .delay-is))))
+
+module _ (m : Model) (fit : Fit m) (entry : List ℕ) where
+  retrieved-rough : (isa : ℕ) (ns : List Named) (o : Option Fact) → retrieve (m .facts) isa ns entry ≡ o → rough (retrieved (m .failure) o) ≡ true
+  retrieved-rough isa ns none e = fit .failure-word
+  retrieved-rough isa ns (some f) e =
+      let b : Best weaker (keep (fits isa ns entry) (m .facts)) f = retrieve-best (m .facts) isa ns entry f e in
+      let h : List·Memᴰ f (keep (fits isa ns entry) (m .facts)) = rw (b .split) (Memᴰ·append-right (b .before) (List·Memᴰ·head refl)) in
+      let g : factFit f ≡ true = every-member factFit (m .facts) (fit .facts-fit) (keep-member (fits isa ns entry) (m .facts) h .0) in
+      let c : chunkFit (f .chunk) ≡ true = and-left (chunkFit (f .chunk)) (isWord (f .latency)) g in
+      rough-made (f .chunk .isa) (f .chunk .slots) (f .latency) (eqb-true (length (f .chunk .slots)) 8 (and-left (eqb (length (f .chunk .slots)) 8) (isWord (f .chunk .isa)) c))
+      (and-right (eqb (length (f .chunk .slots)) 8) (isWord (f .chunk .isa)) c) (and-right (chunkFit (f .chunk)) (isWord (f .latency)) g)
+
+  after-rough : (b : Buffer) (o : Option Deed) → rough b ≡ true → rough (after (m .failure) (m .facts) entry b o) ≡ true
+  unfolding done
+  after-rough b none e = later-rough 50 b e
+  after-rough b (some (Modify ns)) e =
+      let r : Rough b = rough-parts b e in rough-made (b .isa) (put ns entry (b .slots)) 0 (put-long ns entry (b .slots) ∙ r .slots-are) (r .isa-is) refl
+  after-rough b (some (Request isa ns)) e = retrieved-rough isa ns (retrieve (m .facts) isa ns entry) refl
+  after-rough b (some Clear) e = refl
+
+anew-rough : (f : ℕ → Buffer → Buffer) → ((j : ℕ) (b : Buffer) → rough b ≡ true → rough (f j b) ≡ true) → (bs : List Buffer) → every rough bs ≡ true → every rough (change f 0 bs) ≡ true
+anew-rough f keeps bs e = all-change rough f 0 bs (λ j l. keeps (0 + j) (getD bs j nothing) (at-place bs j l e))
+  where
+    at-place : (bs : List Buffer) (j : ℕ) → j < length bs → every rough bs ≡ true → rough (getD bs j nothing) ≡ true
+    at-place [] j l e = absurd (omega arith)
+    at-place (b ∷ bs) zero l e = and-left (rough b) (every rough bs) e
+    at-place (b ∷ bs) (suc j) l e = at-place bs j (omega arith) (and-right (rough b) (every rough bs) e)
+
+fire-rough : (m : Model) → Fit m → (r : Rule) (entry : List ℕ) (s : State) → every rough (s .buffers) ≡ true → every rough (fire (m .failure) (m .facts) r entry s .buffers) ≡ true
+unfolding fire
+fire-rough m fit r entry s e = anew-rough (λ i b. after (m .failure) (m .facts) entry b (deedOn (r .actions) i)) (λ j b h. after-rough m fit entry b (deedOn (r .actions) j) h) (s .buffers) e
+
+wait-rough : (ms : ℕ) (s : State) → every rough (s .buffers) ≡ true → every rough (wait ms s .buffers) ≡ true
+unfolding wait
+wait-rough ms s e = anew-rough (λ i b. later ms b) (λ j b h. later-rough ms b h) (s .buffers) e
+
+step-rough : (m : Model) → Fit m → (s : State) (table : List ℕ) → every rough (s .buffers) ≡ true → (e : Event) (s′ : State) (mark : ℕ) → stepOf m s table ≡ Made e s′ mark
+    → (every rough (s′ .buffers) ≡ true) × (s′ .clock ≤ largest)
+step-rough m fit s table h (Fired k) s′ mark q =
+    let f : FiredBy m (m .facts) (utilities (m .rules)) s table k s′ mark = step-fired m (m .facts) (utilities (m .rules)) s table k s′ mark q in
+    (ap (λ (x : State). every rough (x .buffers)) (sym (f .state-is)) ∙ fire-rough m fit (f .candidate .rule) (f .candidate .entry) s h, f .in-time)
+step-rough m fit s table h (Waited ms) s′ mark q =
+    let f : WaitedBy m (utilities (m .rules)) s table ms s′ mark = step-waited m (m .facts) (utilities (m .rules)) s table ms s′ mark q in
+    (ap (λ (x : State). every rough (x .buffers)) (sym (f .state-is)) ∙ wait-rough ms s h, f .in-time)
+
+-- ---- an opening
+
+opens-rough : (cs : List Chunk) → every chunkFit cs ≡ true → every rough (map opens cs) ≡ true
+opens-rough [] e = refl
+opens-rough (c ∷ cs) e =
+    let g : chunkFit c ≡ true = and-left (chunkFit c) (every chunkFit cs) e in
+    and-true (rough (opens c)) (every rough (map opens cs))
+    (rough-made (c .isa) (c .slots) 0 (eqb-true (length (c .slots)) 8 (and-left (eqb (length (c .slots)) 8) (isWord (c .isa)) g)) (and-right (eqb (length (c .slots)) 8) (isWord (c .isa)) g) refl)
+    (opens-rough cs (and-right (chunkFit c) (every chunkFit cs) e))
+
+open-rough : (m : Model) → Fit m → every rough (openState m .buffers) ≡ true
+unfolding openState
+open-rough m fit =
+    every-append rough (map opens (m .opening)) (replicate (8 - m .buffers) (nilAfter 0)) (opens-rough (m .opening) (fit .opening-fits)) (every-replicate rough (8 - m .buffers) (nilAfter 0) refl)
+
+-- ---- well formed, and so with small values
+
+full : (types : List ℕ) (b : Buffer) → rough b ≡ true → wellBuffer types b ≡ true → isBuffer b ≡ true
+full types b r w =
+    let p : Rough b = rough-parts b r in
+    let small : every isWord (b .slots) ≡ true = all-weaken (λ v. leb v 4095) isWord (λ v h. le-leb v 65535 (omega (arith, leb-true v 4095 h))) (b .slots) (buffer-parts types b w .1) in
+    and-true (eqb (length (b .slots)) 8) (isWord (b .isa) && (every isWord (b .slots) && isWord (b .delay))) (eq-eqb (length (b .slots)) 8 (p .slots-are))
+    (and-true (isWord (b .isa)) (every isWord (b .slots) && isWord (b .delay)) (p .isa-is) (and-true (every isWord (b .slots)) (isWord (b .delay)) small (p .delay-is)))
+
+all-full : (types : List ℕ) (bs : List Buffer) → every rough bs ≡ true → every (wellBuffer types) bs ≡ true → every isBuffer bs ≡ true
+all-full types [] r w = refl
+all-full types (b ∷ bs) r w =
+    and-true (isBuffer b) (every isBuffer bs) (full types b (and-left (rough b) (every rough bs) r) (and-left (wellBuffer types b) (every (wellBuffer types) bs) w))
+    (all-full types bs (and-right (rough b) (every rough bs) r) (and-right (wellBuffer types b) (every (wellBuffer types) bs) w))
+
+rough-of : (b : Buffer) → isBuffer b ≡ true → rough b ≡ true
+rough-of b e =
+    let rest : (isWord (b .isa) && (every isWord (b .slots) && isWord (b .delay))) ≡ true =
+    and-right (eqb (length (b .slots)) 8) (isWord (b .isa) && (every isWord (b .slots) && isWord (b .delay))) e in
+    and-true (eqb (length (b .slots)) 8) (isWord (b .isa) && isWord (b .delay)) (and-left (eqb (length (b .slots)) 8) (isWord (b .isa) && (every isWord (b .slots) && isWord (b .delay))) e)
+    (and-true (isWord (b .isa)) (isWord (b .delay)) (and-left (isWord (b .isa)) (every isWord (b .slots) && isWord (b .delay)) rest)
+    (and-right (every isWord (b .slots)) (isWord (b .delay)) (and-right (isWord (b .isa)) (every isWord (b .slots) && isWord (b .delay)) rest)))
+
+well-buffers : (m : Model) (s : State) → wellFormed m s ≡ true → every (wellBuffer (m .types)) (s .buffers) ≡ true
+unfolding wellFormed
+well-buffers m s e = and-left (every (wellBuffer (m .types)) (s .buffers)) (every isNil (drop (m .buffers) (s .buffers))) e
+
+-- ---- what a chain of calls keeps: a well-formed state of the machine
+
+pub record Sound (m : Model) (s : State) : Type 0 where
+  pub well : wellFormed m s ≡ true
+  pub machine : Machine s
+
+made-sound : (m : Model) (s : State) → length (s .buffers) ≡ 8 → every rough (s .buffers) ≡ true → s .clock ≤ largest → wellFormed m s ≡ true → Sound m s
+made-sound m s l r c w =
+    record { well = w; machine = record { eight = l; all-buffers = all-full (m .types) (s .buffers) r (well-buffers m s w); in-time = c } }
+
+module _ (image : List ℕ) (m : Model) (at : ℕ) (d : decode image ≡ Got m at) where
+  fit : Fit m
+  fit = fits-of image m at (decode-got image m at d .1)
+
+  pub step-sound : (s : State) (table : List ℕ) → Sound m s → (e : Event) (s′ : State) (mark : ℕ) → stepOf m s table ≡ Made e s′ mark → Sound m s′
+  step-sound s table h e s′ mark q =
+      let r : (every rough (s′ .buffers) ≡ true) × (s′ .clock ≤ largest) = step-rough m fit s table (all-weaken isBuffer rough rough-of (s .buffers) (h .machine .all-buffers)) e s′ mark q in
+      made-sound m s′ (step-eight m s table (h .machine .eight) e s′ mark q) (r .0) (r .1) (step-well m (decoded image m at d) s table (h .well) e s′ mark q)
+
+  pub open-sound : Sound m (openState m)
+  unfolding openState
+  open-sound = made-sound m (openState m) (open-eight m (decoded image m at d)) (open-rough m fit) (omega arith) (open-well image m at d)
+
+  -- a change of the caller's is of the machine and well formed, or there is none
+  changed-sound : (s s′ : State) → Sound m s → (s ≡ s′) ⊎ (Machine s′ × (wellFormed m s′ ≡ true)) → Sound m s′
+  changed-sound s s′ h given =
+      ⊎-elim (λ (e : s ≡ s′). subst (Sound m) e h) (λ (k : Machine s′ × (wellFormed m s′ ≡ true)). record { well = k .1; machine = k .0 }) given
+
+  pub chain-sound : {s : State} {table : List ℕ} → Reached image s table → Sound m s
+  chain-sound r = chain-keeps m (λ s table. Sound m s) step-sound open-sound (λ s s′ mark table h given same. changed-sound s s′ h given) image at d r
+
+  pub chain-well : {s : State} {table : List ℕ} → Reached image s table → wellFormed m s ≡ true
+  chain-well r = chain-sound r .well

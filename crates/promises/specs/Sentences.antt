@@ -1,0 +1,104 @@
+-- Document 01's table "Given exactly when" as relations: a constructor for each row, with its sentence, and with what says that no row before it holds.
+use mathlib.Core.Path.{_≡_}
+use mathlib.Core.Logic.{_⊎_}
+use mathlib.Core.Bool.{true, false}
+use mathlib.Core.List.{List, [], _∷_}
+use mathlib.Core.Option.{none, some}
+use Prim.Native.Nat.{ℕ, _+_, _*_, _^_, _≤_, _<_}
+use lib.ListN.{length}
+use Rattle.meaning.specs.declared.State.{State}
+use Rattle.meaning.specs.Numbers.{all-done, too-long, not-there, bad-number, bad-end, wrong-table, ill-formed, not-fresh, clock-full, halted, bad-mark}
+use Rattle.meaning.specs.Model.{Model}
+use Rattle.meaning.specs.State.{bufferOf, wellFormed}
+use Rattle.meaning.specs.Read.{Refused, Got}
+use Rattle.meaning.specs.Bits.{fieldAt}
+use Rattle.meaning.specs.Image.{padding, model}
+use Rattle.meaning.specs.Match.{entryOf}
+use Rattle.meaning.specs.Choice.{Candidate, choose, utilities}
+use Rattle.meaning.specs.Step.{Event, Made, largest, stepOf}
+use Rattle.meaning.specs.Refresh.{refresh}
+use Rattle.meaning.specs.Run.{Timed}
+use Rattle.meaning.specs.Calls.{Ran}
+use Rattle.promises.specs.Published.{LeastDelay}
+
+-- where the reading of an image can stop, and by which number: at a field of at most 16 bits that is reached and not wholly there; at one that is wholly there
+-- (or at none, width 0, where the variables of a rule are looked at) and breaks its rule; after all fields, if a bit up to the byte's end is 1 or a byte follows
+pub data Stops (image : List ℕ) (at : ℕ) : ℕ → Type 0 where
+  missing : (width : ℕ) → width ≤ 16 → at ≤ 8 * length image → 8 * length image < at + width → Stops image at not-there
+  broken : (width : ℕ) → width ≤ 16 → at + width ≤ 8 * length image → Stops image at bad-number
+  unended : (end : ℕ) → end ≤ 8 * length image → (fieldAt image end (padding end) ≡ 0 → ⊥) ⊎ (end + padding end < 8 * length image) → Stops image at bad-end
+
+-- ---- "Order: 1; then 2 and 3, the earlier in reading order; 4; 5"
+
+-- an image that is not too long, whose fields are all there and keep their rules, which ends as it must, and a table of nine words a rule
+pub record Taken (image table : List ℕ) (m : Model) : Type 0 where
+  pub short : length image ≤ 65536
+  pub end : ℕ
+  pub reads : model image 0 ≡ Got m end
+  pub fits : length table ≡ 9 * length (m .rules)
+
+-- what all calls look at first; `after` is what a call answers with a model and a table that were taken
+pub data Given (image table : List ℕ) (after : Model → ℕ → Type 0) : ℕ → Type 0 where
+  -- "image over 65,536 bytes"
+  over : 65536 < length image → Given image table after too-long
+  -- "a field is not wholly there"
+  lacking : {at : ℕ} → length image ≤ 65536 → model image 0 ≡ Refused not-there at → Given image table after not-there
+  -- "a field breaks its rule above"
+  against : {at : ℕ} → length image ≤ 65536 → model image 0 ≡ Refused bad-number at → Given image table after bad-number
+  -- "a pad bit is 1, or a byte follows"
+  trailing : {at : ℕ} → length image ≤ 65536 → model image 0 ≡ Refused bad-end at → Given image table after bad-end
+  -- "table length is not 9 × rules"
+  unfit : {m : Model} {end : ℕ} → length image ≤ 65536 → model image 0 ≡ Got m end → (length table ≡ 9 * length (m .rules) → ⊥) → Given image table after wrong-table
+  -- none of these
+  taken : {m : Model} {n : ℕ} → Taken image table m → after m n → Given image table after n
+
+-- ---- what follows, call by call
+
+-- open: "all that was asked is done"
+abbrev pub AfterOpen : Model → ℕ → Type 0
+AfterOpen m n = n ≡ all-done
+
+-- refresh: "6; 10"
+pub data AfterRefresh (s : State) (mark : ℕ) (m : Model) : ℕ → Type 0 where
+  -- "state not well formed"
+  ill : wellFormed m s ≡ false → AfterRefresh s mark m ill-formed
+  -- "mark is 2 to the power of the buffer count, or more"
+  high : wellFormed m s ≡ true → 2 ^ m .buffers ≤ mark → AfterRefresh s mark m bad-mark
+  -- "all that was asked is done"
+  renewed : wellFormed m s ≡ true → mark < 2 ^ m .buffers → AfterRefresh s mark m all-done
+
+-- why the next step is not made, with the table as it is: "In a step 7 comes before 8."
+pub data Why (m : Model) (s : State) (table : List ℕ) : ℕ → Type 0 where
+  -- "chosen entry is not the fresh one"
+  stale : {c : Candidate} → choose (m .rules) (utilities (m .rules)) table ≡ some c → (c .entry ≡ entryOf (c .rule) s → ⊥) → Why m s table not-fresh
+  -- "clock would pass 4,294,967,295", by a firing or by a wait
+  late-fire : {c : Candidate} → choose (m .rules) (utilities (m .rules)) table ≡ some c → c .entry ≡ entryOf (c .rule) s → largest < s .clock + 50 → Why m s table clock-full
+  late-wait : {ms : ℕ} → choose (m .rules) (utilities (m .rules)) table ≡ none → LeastDelay s ms → largest < s .clock + ms → Why m s table clock-full
+  -- "halted": "No entry matches and nothing is pending."
+  quiet : choose (m .rules) (utilities (m .rules)) table ≡ none → ((b : ℕ) → b < length (s .buffers) → bufferOf s b .delay ≡ 0) → Why m s table halted
+
+-- steps made one after the other, with what each did and the clock after it: "After each step the table is refreshed with that mark."
+pub data Steps (m : Model) : List Timed → State → List ℕ → State → List ℕ → Type 0 where
+  none-made : {s : State} {table : List ℕ} → Steps m [] s table s table
+  then-made : {e : Event} {es : List Timed} {s s′ s″ : State} {mark : ℕ} {table table″ : List ℕ} → stepOf m s table ≡ Made e s′ mark
+      → Steps m es s′ (refresh (m .rules) s′ mark table) s″ table″ → Steps m (record { clock = s′ .clock; event = e } ∷ es) s table s″ table″
+
+-- why a run of so many steps asked ends after so many made, in a state and with a table
+pub data EndsBy (m : Model) (asked made : ℕ) (s : State) (table : List ℕ) : ℕ → Type 0 where
+  -- "all that was asked is done"
+  enough : made ≡ asked → EndsBy m asked made s table all-done
+  -- 7, 8 or 9
+  before-that : {n : ℕ} → made < asked → Why m s table n → EndsBy m asked made s table n
+
+-- run: "6", and then its steps
+pub data AfterRun (s : State) (table : List ℕ) (asked : ℕ) (m : Model) : ℕ → Type 0 where
+  -- "state not well formed"
+  unwell : wellFormed m s ≡ false → AfterRun s table asked m ill-formed
+  went : {es : List Timed} {s′ : State} {table′ : List ℕ} {n : ℕ} → wellFormed m s ≡ true → Steps m es s table s′ table′
+      → EndsBy m asked (length es) s′ table′ n → AfterRun s table asked m n
+
+-- what a run gives back and leaves: "the state, table and count after the steps already made"
+pub record RanTo (m : Model) (s : State) (table : List ℕ) (asked : ℕ) (events : List Timed) (a : Ran) : Type 0 where
+  pub steps : Steps m events s table (a .state) (a .table)
+  pub counted : a .made ≡ length events
+  pub ended : EndsBy m asked (a .made) (a .state) (a .table) (a .number)

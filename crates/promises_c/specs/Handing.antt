@@ -1,0 +1,45 @@
+-- What a caller in C holds, and what it does with it.
+use mathlib.Core.Path.{_≡_}
+use mathlib.Core.Bool.{false}
+use mathlib.Core.List.{List, [], _∷_, _++_}
+use Prim.Native.Nat.{ℕ, _+_, _*_, _/_, _%_, _≤_, _<_}
+use lib.ListN.{length, getD}
+use Rattle.meaning.specs.Base.{bit}
+use Rattle.meaning.specs.Step.{largest}
+use Rattle.meaning.specs.Run.{Timed}
+use Rattle.step_run.specs.Events.{eventWords}
+use Rattle.jirvuntsag.specs.Told.{Told, openIn, runIn, refreshIn}
+
+-- an answer is the number and 65,536 times a count (JIRVUNTSAG_NUMBER and JIRVUNTSAG_COUNT of the header)
+abbrev pub numberIn : ℕ → ℕ
+numberIn answer = answer % 65536
+
+abbrev pub countIn : ℕ → ℕ
+countIn answer = answer / 65536
+
+-- two states have the same ten words for buffer b
+abbrev pub SameBuffer : List ℕ → List ℕ → ℕ → Type 0
+SameBuffer w w′ b = (j : ℕ) → j < 10 → getD w (1 + (10 * b + j)) 0 ≡ getD w′ (1 + (10 * b + j)) 0
+
+-- the words and tables that a caller of one image can hold: those of an accepted opening; then what any call leaves when it is handed what was left before it,
+-- whatever it answers; and words that the caller changes itself, refreshed with a mark of every buffer changed, if that refresh answers 0
+pub data Held (image : List ℕ) : List ℕ → List ℕ → Type 0 where
+  opened : (table : List ℕ) → numberIn (openIn image table .answered) ≡ 0 → Held image (openIn image table .words) (openIn image table .table)
+  ran : {w table : List ℕ} → Held image w table → (steps : ℕ) → Held image (runIn image w table steps .words) (runIn image w table steps .table)
+  refreshed : {w table : List ℕ} → Held image w table → (mark : ℕ) → Held image (refreshIn image w mark table .words) (refreshIn image w mark table .table)
+  changed : {w table : List ℕ} → Held image w table → (w′ : List ℕ) (mark : ℕ) → length w′ ≡ 81 → getD w′ 0 0 ≤ largest → ((b : ℕ) → bit mark b ≡ false → SameBuffer w w′ b)
+      → numberIn (refreshIn image w′ mark table .answered) ≡ 0 → Held image w′ (refreshIn image w′ mark table .table)
+
+-- a call left the words and the table, and counted nothing
+pub record Leaves (w table : List ℕ) (a : Told) : Type 0 where
+  pub words-stay : a .words ≡ w
+  pub table-stays : a .table ≡ table
+  pub none-counted : countIn (a .answered) ≡ 0
+
+-- events in the words that were lent for them: three words for each, in order, as long as there are three; all other words stay
+abbrev pub layEvents : List ℕ → List Timed → List ℕ
+layEvents lent [] = lent
+layEvents [] (e ∷ es) = []
+layEvents (a ∷ []) (e ∷ es) = a ∷ []
+layEvents (a ∷ b ∷ []) (e ∷ es) = a ∷ b ∷ []
+layEvents (a ∷ b ∷ c ∷ rest) (e ∷ es) = eventWords (e .clock) (e .event) ++ layEvents rest es

@@ -1,0 +1,72 @@
+-- For C, and so for Rust and Python, who hold a state as 81 words: words and state stand for each other, a refused call leaves the words, and a caller who hands on
+-- the words and the table left before it always holds the fresh table.
+use mathlib.Core.Path.{_≡_}
+use mathlib.Core.Bool.{true, false}
+use mathlib.Core.List.{List}
+use Prim.Native.Nat.{ℕ, _≤_, _<_}
+use lib.ListN.{length, getD, replicate}
+use Rattle.meaning.specs.declared.State.{State}
+use Rattle.meaning.specs.Numbers.{ill-formed}
+use Rattle.meaning.specs.Model.{Model}
+use Rattle.meaning.specs.State.{wellFormed}
+use Rattle.meaning.specs.Read.{Got}
+use Rattle.meaning.specs.Image.{decode}
+use Rattle.meaning.specs.Match.{freshTable}
+use Rattle.meaning.specs.Step.{largest}
+use Rattle.jirvuntsag.specs.Words.{stateOf, wordsOf, fits}
+use Rattle.jirvuntsag.specs.Told.{Told, told, openIn, runIn, refreshIn}
+use Rattle.promises.specs.Words.{Machine, Reached}
+use Rattle.promises.specs.Sentences.{Taken}
+use Rattle.promises.specs.Keeping.{reached-fresh, reached-well}
+use Rattle.promises_c.specs.Handing.{numberIn, Leaves, Held}
+use Rattle.promises_c.specs.Proofs.Back as back
+use Rattle.promises_c.specs.Proofs.Calling as calling
+
+-- ---- words and state
+
+-- The words of a state of the machine are 81, each fits its field, and they hold that state.
+pub words-of-state : (s : State) → Machine s → (length (wordsOf s) ≡ 81) × (fits (wordsOf s) ≡ true) × (stateOf (wordsOf s) ≡ s)
+words-of-state s m = (back.eighty-one s m, back.words-fit s m, back.state-back s m)
+
+-- 81 words are the words of the state that they hold, and if each fits its field that is a state of the machine.
+pub state-of-words : (w : List ℕ) → length w ≡ 81 → wordsOf (stateOf w) ≡ w
+state-of-words w l = back.words-back w l
+
+pub fitting-state : (w : List ℕ) → fits w ≡ true → getD w 0 0 ≤ largest → Machine (stateOf w)
+fitting-state w f c = back.state-fits w f c
+
+-- ---- a refused call leaves the words
+
+-- Open: 81 zeros and the table as it was.
+pub open-leaves : (image table : List ℕ) → (numberIn (openIn image table .answered) ≡ 0 → ⊥) → Leaves (replicate 81 0) table (openIn image table)
+open-leaves image table h = calling.open-leaves image table h
+
+-- Run, refused by 1 to 6, too large words among it: the words and the table as they were.
+pub run-leaves : (image w table : List ℕ) (steps : ℕ) → length w ≡ 81
+    → let a : Told = runIn image w table steps in 0 < numberIn (a .answered) → numberIn (a .answered) < 7 → Leaves w table a
+run-leaves image w table steps l a b = calling.run-leaves image w table steps l a b
+
+-- Refresh never writes the words; refused, it leaves the table as it was.
+pub refresh-leaves : (image w table : List ℕ) (mark : ℕ) → let a : Told = refreshIn image w mark table in (numberIn (a .answered) ≡ 0 → ⊥) → Leaves w table a
+refresh-leaves image w table mark h = calling.refresh-leaves image w table mark h
+
+-- A word too large for its field is 6, once the image and the table are taken, and all is left as it was.
+pub run-too-large : (image w table : List ℕ) (steps : ℕ) (m : Model) → Taken image table m → fits w ≡ false → runIn image w table steps ≡ told ill-formed w table
+run-too-large image w table steps m t f = calling.run-six image w table steps m t f
+
+pub refresh-too-large : (image w table : List ℕ) (mark : ℕ) (m : Model) → Taken image table m → fits w ≡ false → refreshIn image w mark table ≡ told ill-formed w table
+refresh-too-large image w table mark m t f = calling.refresh-six image w table mark m t f
+
+-- ---- demand 3 over words
+
+-- After an accepted opening, and any calls and changes of the words that are refreshed with their mark, each handed the words and the table left before it:
+-- the words are 81, each fits, the state that they hold is well formed, and the table is its fresh one.
+pub held-fresh : (image : List ℕ) (m : Model) (end : ℕ) → decode image ≡ Got m end → {w table : List ℕ} → Held image w table
+    → (length w ≡ 81) × (fits w ≡ true) × (wellFormed m (stateOf w) ≡ true) × (table ≡ freshTable (m .rules) (stateOf w))
+held-fresh image m end d h =
+    let s = calling.held-stands image m end d h in
+    (s .many, s .fit, reached-well image m end d (s .reached), reached-fresh image m end d (s .reached))
+
+-- So what is said of chains of calls over states is said of it too.
+pub held-reached : (image : List ℕ) (m : Model) (end : ℕ) → decode image ≡ Got m end → {w table : List ℕ} → Held image w table → Reached image (stateOf w) table
+held-reached image m end d h = calling.held-stands image m end d h .reached

@@ -1,0 +1,4 @@
+-- Proofs of the statements, one file for one notion.
+pub mod Back
+pub mod Calling
+pub mod Noted
