@@ -19,8 +19,7 @@ use Rattle.meaning.specs.State.{nilAfter}
 use Rattle.meaning.specs.Read.{Read, Refused, Got, Reader, follow, times}
 use Rattle.meaning.specs.Image.{Header, header, slotCounts, chunk, fact, rule, padding, ending, Beginning, beginning, Contents, contents, model, decode}
 use Rattle.meaning.specs.Calls.{opens}
-use Rattle.laws.specs.ReadLaws.{no-got, times-all}
-use Rattle.laws.specs.HighestLaws.{split}
+use Rattle.laws.specs.ReadLaws.{no-got, times-all, split}
 use Rattle.layout.specs.declared.Walk.{Walk}
 use Rattle.layout.specs.declared.Walk.the-variants.{Next, Bad}
 use Rattle.layout.specs.Walks.{answer, mapped, Small}

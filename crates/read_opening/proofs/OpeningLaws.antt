@@ -13,8 +13,7 @@ use Rattle.meaning.specs.Read.{Got, field, times}
 use Rattle.meaning.specs.Image.{aType, anything, eight, chunk}
 use Rattle.meaning.specs.Calls.{opens}
 use Rattle.laws.specs.BitsLaws.{fieldAt-lt}
-use Rattle.laws.specs.ReadLaws.{field-got}
-use Rattle.laws.specs.HighestLaws.{split}
+use Rattle.laws.specs.ReadLaws.{field-got, split}
 use Rattle.layout.specs.Walks.{Small}
 use Rattle.read_facts.specs.Made.{aChunk}
 use Rattle.read_facts.proofs.StoreLaws.{sets-fresh}

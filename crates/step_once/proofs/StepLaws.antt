@@ -8,6 +8,7 @@ use borrow.Author.Tests.{le-leb, lt-leb}
 use lib.ListN.{take, drop}
 use Rattle.meaning.specs.declared.State.{State}
 use Rattle.meaning.specs.Base.{same}
+use Rattle.meaning.specs.Numbers as numbers
 use Rattle.meaning.specs.Model.{Fact}
 use Rattle.meaning.specs.Match.{entryOf}
 use Rattle.meaning.specs.Choice.{Candidate, choose, utilities}
@@ -38,16 +39,18 @@ stopped number e = record { is-step = sym e; kept = λ _ _. refl; clock-fits = t
 
 -- ---- a firing, with the nine words that the code has of the chosen entry, and its word on whether they are fresh
 
-module _ (failure : ℕ) (memory : List Fact) (c : Candidate) (w : List ℕ) (clock : ℕ) {nine : List ℕ} (part : nine ≡ c .entry) {fresh : Bool} (f : fresh ≡ same nine (entryOf (c .rule) (stateIn w clock))) where
-  pub not-fresh : fresh ≡ false → StepMet (meaning.fireStep failure memory (stateIn w clock) c) (Stopped 7) w w clock
+module _ (failure : ℕ) (memory : List Fact) (c : Candidate) (w : List ℕ) (clock : ℕ) {nine : List ℕ} (part : nine ≡ c .entry) {fresh : Bool}
+    (f : fresh ≡ same nine (entryOf (c .rule) (stateIn w clock))) where
+  pub not-fresh : fresh ≡ false → StepMet (meaning.fireStep failure memory (stateIn w clock) c) (Stopped numbers.not-fresh) w w clock
   unfolding meaning.fireStep
-  not-fresh e = stopped 7 (rw (← part, ← f, e))
+  not-fresh e = stopped numbers.not-fresh (rw (← part, ← f, e))
 
-  pub full : fresh ≡ true → meaning.largest < clock + 50 → StepMet (meaning.fireStep failure memory (stateIn w clock) c) (Stopped 8) w w clock
+  pub full : fresh ≡ true → meaning.largest < clock + 50 → StepMet (meaning.fireStep failure memory (stateIn w clock) c) (Stopped numbers.clock-full) w w clock
   unfolding meaning.fireStep fire
-  full e h = stopped 8 (rw (← part, ← f, e, lt-leb (clock + 50) meaning.largest h))
+  full e h = stopped numbers.clock-full (rw (← part, ← f, e, lt-leb (clock + 50) meaning.largest h))
 
-  pub fired : fresh ≡ true → clock + 50 ≤ meaning.largest → (mark : ℕ) (w′ : List ℕ) → stateIn w′ (clock + 50) ≡ fire failure memory (c .rule) nine (stateIn w clock) → mark ≡ markOf (c .rule .actions) (stateIn w clock) (stateIn w′ (clock + 50))
+  pub fired : fresh ≡ true → clock + 50 ≤ meaning.largest → (mark : ℕ) (w′ : List ℕ)
+      → stateIn w′ (clock + 50) ≡ fire failure memory (c .rule) nine (stateIn w clock) → mark ≡ markOf (c .rule .actions) (stateIn w clock) (stateIn w′ (clock + 50))
       → StepMet (meaning.fireStep failure memory (stateIn w clock) c) (Fired (c .number) mark) w w′ clock
   unfolding meaning.fireStep
   fired e h mark w′ s m = record { is-step = rw (← part, ← f, e, ← s, m, le-leb (clock + 50) meaning.largest h); kept = λ number z. (cc); clock-fits = h }
@@ -59,13 +62,13 @@ wait-some zero some s = absurd (some refl)
 wait-some (suc n) some s = refl
 
 module _ (w : List ℕ) (clock ms : ℕ) {soonest : ℕ} (is : ms ≡ soonest) where
-  pub nothing-pending : ms ≡ 0 → StepMet (meaning.waitStep (stateIn w clock) soonest) (Stopped 9) w w clock
-  nothing-pending e = stopped 9 (rw (← is, e))
+  pub nothing-pending : ms ≡ 0 → StepMet (meaning.waitStep (stateIn w clock) soonest) (Stopped numbers.halted) w w clock
+  nothing-pending e = stopped numbers.halted (rw (← is, e))
 
   module _ (some : ms ≡ 0 → ⊥) where
-    pub wait-full : meaning.largest < clock + ms → StepMet (meaning.waitStep (stateIn w clock) soonest) (Stopped 8) w w clock
+    pub wait-full : meaning.largest < clock + ms → StepMet (meaning.waitStep (stateIn w clock) soonest) (Stopped numbers.clock-full) w w clock
     unfolding wait
-    wait-full h = stopped 8 (rw (← is, wait-some ms some (stateIn w clock), lt-leb (clock + ms) meaning.largest h))
+    wait-full h = stopped numbers.clock-full (rw (← is, wait-some ms some (stateIn w clock), lt-leb (clock + ms) meaning.largest h))
 
     pub waited : clock + ms ≤ meaning.largest → (mark : ℕ) (w′ : List ℕ) → stateIn w′ (clock + ms) ≡ wait ms (stateIn w clock) → mark ≡ markOf [] (stateIn w clock) (stateIn w′ (clock + ms))
         → StepMet (meaning.waitStep (stateIn w clock) soonest) (Waited ms mark) w w′ clock
@@ -81,6 +84,7 @@ module _ (p : Plan) (tape table : List ℕ) {chosen : Chosen} {r : StepDone} {w 
   unfolding meaning.step modelOn
   step-fires k g s = record { is-step = s .is-step ∙ rw (e, g); kept = s .kept; clock-fits = s .clock-fits }
 
-  pub step-waits : chosen ≡ NoRule → StepMet (meaning.waitStep (stateIn w clock) (soonest 0 (buffersIn w))) r w w′ clock → StepMet (meaning.stepOf (modelOn p tape) (stateIn w clock) table) r w w′ clock
+  pub step-waits : chosen ≡ NoRule → StepMet (meaning.waitStep (stateIn w clock) (soonest 0 (buffersIn w))) r w w′ clock
+      → StepMet (meaning.stepOf (modelOn p tape) (stateIn w clock) table) r w w′ clock
   unfolding meaning.step modelOn
   step-waits g s = record { is-step = s .is-step ∙ rw (e, g); kept = s .kept; clock-fits = s .clock-fits }

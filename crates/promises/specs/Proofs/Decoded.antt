@@ -17,8 +17,7 @@ use Rattle.meaning.specs.Image.{tests, standsIn, isTested, testedType, deed, ac
 use Rattle.meaning.specs.Calls.{opens}
 use Rattle.laws.specs.BaseLaws.{no-true, and-left, and-right, every-upFrom, by-lt}
 use Rattle.laws.specs.BitsLaws.{fieldAt-lt}
-use Rattle.laws.specs.ReadLaws.{no-got, FieldRead, field-got, must-kept, times-all}
-use Rattle.laws.specs.HighestLaws.{split}
+use Rattle.laws.specs.ReadLaws.{no-got, FieldRead, field-got, must-kept, times-all, split}
 use Rattle.laws.specs.ImageLaws.{between-got, chunk-well, Parts, parts, head-fits}
 
 pub and-true : (a b : Bool) → a ≡ true → b ≡ true → (a && b) ≡ true

@@ -26,9 +26,8 @@ use Rattle.meaning.specs.Calls.{opens, openState}
 use Rattle.laws.specs.BaseLaws.{and-left, and-right}
 use Rattle.laws.specs.BitsLaws.{fieldAt-lt}
 use Rattle.laws.specs.BaseLaws.{every-append, every-replicate, every-member, keep-member}
-use Rattle.laws.specs.ReadLaws.{FieldRead, field-got, times-all}
+use Rattle.laws.specs.ReadLaws.{FieldRead, field-got, times-all, split}
 use Rattle.laws.specs.ImageLaws.{between-got}
-use Rattle.laws.specs.HighestLaws.{split}
 use Rattle.laws.specs.HighestLaws.{Best}
 use Rattle.laws.specs.RetrievalLaws.{retrieve-best}
 use Rattle.laws.specs.CallsLaws.{open-well}

@@ -53,7 +53,8 @@ enum-known-i : tie.Need-enum-known-i
 enum-known-i c = search needs
 
 -- the fact that is found is one of the plan's, so its row stands on the tape
-found : (c : tie.After-known-told) → let a = c .before .before .before .before .before .before .before .before .before .before .before .args in 144 + 11 * c .before .i .given .0 .0 + 11 ≤ length (a .tape .now)
+found : (c : tie.After-known-told)
+    → let a = c .before .before .before .before .before .before .before .before .before .before .before .args in 144 + 11 * c .before .i .given .0 .0 + 11 ≤ length (a .tape .now)
 found c =
     let start = c .before .before .before .before .before .before .before .before .before .before .before in
     let below = fact-below (c .before .i .given .1) (c .before .before .before .retrieve .ensures .1) in

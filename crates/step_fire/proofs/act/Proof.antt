@@ -46,7 +46,8 @@ returns c =
     let deed = c .before .before .before .before .before .before .before .action-on .ensures .0 in
     let is-row = c .before .before .before .before .before .q .given .1 in
     let made = c .before .before .perform .ensures in
-    acted-on (rowsOn (a .plan) (a .tape .now)) (a .plan .failure) (factsOn (a .plan) (a .tape .now)) (a .nine .now) (bufferIn (a .state .now) (a .k)) (simp to-end at deed) _ is-row made
+    acted-on (rowsOn (a .plan) (a .tape .now)) (a .plan .failure) (factsOn (a .plan) (a .tape .now)) (a .nine .now) (bufferIn (a .state .now) (a .k))
+    (simp to-end at deed) _ is-row made
 
 same-length-2 : tie.Need-same-length-2
 same-length-2 c = search needs
@@ -57,7 +58,8 @@ returns-2 c =
     let deed = c .before .before .before .before .before .before .action-on .ensures .0 in
     let is-none = c .before .before .before .before .enum-told .given .1 in
     let older = c .before .before .lower in
-    not-acted-on (rowsOn (a .plan) (a .tape .now)) (a .plan .failure) (factsOn (a .plan) (a .tape .now)) (a .nine .now) (bufferIn (a .state .now) (a .k)) (simp to-end at deed) (older .result) is-none (older .ensures)
+    not-acted-on (rowsOn (a .plan) (a .tape .now)) (a .plan .failure) (factsOn (a .plan) (a .tape .now)) (a .nine .now) (bufferIn (a .state .now) (a .k))
+    (simp to-end at deed) (older .result) is-none (older .ensures)
 
 pub act-spec : {M : Type 1} → statement M
 act-spec =

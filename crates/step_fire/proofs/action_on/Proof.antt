@@ -33,7 +33,11 @@ cast-if1 : tie.Need-cast-if1 Inv-loop μ-loop
 cast-if1 c = search needs
 
 returns : tie.Need-returns Inv-loop μ-loop
-returns c = let a = c .before .before .before .before .args in let l = c .before .before .before .loop in (sym (l .inv .1) ∙ deed-here (a .words .now) (a .o) (a .m) (a .k) (l .i) (c .before .before .loop-test .taken) (c .if1 .taken), search needs)
+returns c =
+    let a = c .before .before .before .before .args in
+    let l = c .before .before .before .loop in
+    let more = c .before .before .loop-test .taken in
+    (sym (l .inv .1) ∙ deed-here (a .words .now) (a .o) (a .m) (a .k) (l .i) more (c .if1 .taken), search needs)
 
 add-i : tie.Need-add-i Inv-loop μ-loop
 add-i c = search needs
@@ -42,10 +46,17 @@ loop-less : tie.Need-loop-less Inv-loop μ-loop
 loop-less c = search needs
 
 loop-again : tie.Need-loop-again Inv-loop μ-loop
-loop-again c = let a = c .before .before .before .before .args in let l = c .before .before .before .loop in (search needs, deed-further (a .words .now) (a .o) (a .m) (a .k) (l .i) (c .before .before .loop-test .taken) (c .if1 .left) ∙ l .inv .1)
+loop-again c =
+    let a = c .before .before .before .before .args in
+    let l = c .before .before .before .loop in
+    let more = c .before .before .loop-test .taken in
+    (search needs, deed-further (a .words .now) (a .o) (a .m) (a .k) (l .i) more (c .if1 .left) ∙ l .inv .1)
 
 returns-2 : tie.Need-returns-2 Inv-loop μ-loop
-returns-2 c = let a = c .before .before .args in let l = c .before .loop in (sym (l .inv .1) ∙ deed-none (a .words .now) (a .o) (a .m) (a .k) (l .i) (c .loop-test .left), search needs)
+returns-2 c =
+    let a = c .before .before .args in
+    let l = c .before .loop in
+    (sym (l .inv .1) ∙ deed-none (a .words .now) (a .o) (a .m) (a .k) (l .i) (c .loop-test .left), search needs)
 
 pub action-on-spec : {M : Type 1} → statement M
 action-on-spec =

@@ -102,7 +102,7 @@ returns-2 c =
     let rule = ruleIn (headsOn (a .plan) (a .tape .now)) (rowsOn (a .plan) (a .tape .now)) (a .k) in
     let part = part-is (a .k) (a .table .now) in
     let fresh = c .before .before .is-fresh .ensures rule (a .clock) (simp to-end) in
-    let past = ltb-true 4294967245 (a .clock) (c .if2 .taken) in
+    let past = ltb-true _ (a .clock) (c .if2 .taken) in
     full (a .plan .failure) _ _ (a .state .now) (a .clock) part fresh (not-false _ (c .before .if1 .left)) (omega (arith, past))
 
 mul-o : tie.Need-mul-o
@@ -167,7 +167,7 @@ returns-3 c =
     let part = part-is (a .k) (a .table .now) in
     let fresh = c .before .before .before .before .before .before .before .before .is-fresh .ensures rule (a .clock) (simp to-end) in
     let is-fresh = not-false _ (c .before .before .before .before .before .before .before .if1 .left) in
-    let in-time = ltb-false 4294967245 (a .clock) (c .before .before .before .before .before .before .if2 .left) in
+    let in-time = ltb-false _ (a .clock) (c .before .before .before .before .before .before .if2 .left) in
     let fire = c .before .before .fire .ensures in
     let state = fire .0 (a .clock) rule (simp to-end) in
     let mark = fire .1 (a .clock) (a .clock + 50) in

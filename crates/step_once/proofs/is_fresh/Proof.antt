@@ -18,7 +18,10 @@ same-entry-requires : tie.Need-same-entry-requires
 same-entry-requires c κs = search needs
 
 returns : tie.Need-returns
-returns c = λ r clock e. c .same-entry .ensures ∙ ap (same (c .before .before .before .before .before .before .before .before .args .nine .now)) (c .before .before .before .entry-into .ensures r clock e)
+returns c =
+    let a = c .before .before .before .before .before .before .before .before .args in
+    let fresh = c .before .before .before .entry-into .ensures in
+    λ r clock e. c .same-entry .ensures ∙ ap (same (a .nine .now)) (fresh r clock e)
 
 pub is-fresh-spec : {M : Type 1} → statement M
 is-fresh-spec =

@@ -83,9 +83,10 @@ same-length-4 c =
 
 returns : tie.Need-returns Inv-loop μ-loop
 returns c =
-    let a = c .before .before .before .before .before .before .before .before .before .before .before .before .before .before .before .before .before .args in
-    let l = c .before .before .before .before .before .before .before .before .before .before .before .loop in
-    let more = c .before .before .before .before .before .before .before .before .before .before .loop-test .taken in
+    let turned = c .before .before .before .before .before .before .before .before .before .before in
+    let a = turned .before .before .before .before .before .before .before .args in
+    let l = turned .before .loop in
+    let more = turned .loop-test .taken in
     let step = c .before .before .before .before .before .before .step in
     let tell = c .before .before .before .tell in
     let stops = c .before .if1 .taken in
@@ -119,24 +120,31 @@ note-requires c κs = search needs
 
 add-made : tie.Need-add-made Inv-loop μ-loop
 add-made c =
-    let turning = c .before .before .before .before .before .before .before .before .before .before .before .before .before .before .before .before .before .before .before .before .before .before .before .loop .inv in
-    let more = c .before .before .before .before .before .before .before .before .before .before .before .before .before .before .before .before .before .before .before .before .before .before .loop-test .taken in
+    let renewed = c .before .before .before .before .before .before .before .before in
+    let turned = renewed .before .before .before .before .before .before .before .before .before .before .before .before .before .before in
+    let turning = turned .before .loop .inv in
+    let more = turned .loop-test .taken in
     omega (arith, turning .steps-fit, more)
 
 loop-less : tie.Need-loop-less Inv-loop μ-loop
 loop-less c =
-    let more = c .before .before .before .before .before .before .before .before .before .before .before .before .before .before .before .before .before .before .before .before .before .before .loop-test .taken in
-    omega (arith, more)
+    let renewed = c .before .before .before .before .before .before .before .before in
+    let turned = renewed .before .before .before .before .before .before .before .before .before .before .before .before .before .before in
+    omega (arith, turned .loop-test .taken)
 
 loop-again : tie.Need-loop-again Inv-loop μ-loop
 loop-again c =
-    let a = c .before .before .before .before .before .before .before .before .before .before .before .before .before .before .before .before .before .before .before .before .before .before .before .before .before .before .before .before .before .args in
-    let l = c .before .before .before .before .before .before .before .before .before .before .before .before .before .before .before .before .before .before .before .before .before .before .before .loop in
-    let more = c .before .before .before .before .before .before .before .before .before .before .before .before .before .before .before .before .before .before .before .before .before .before .loop-test .taken in
-    let step = c .before .before .before .before .before .before .before .before .before .before .before .before .before .before .before .before .before .before .step in
-    let tell = c .before .before .before .before .before .before .before .before .before .before .before .before .before .before .before .tell in
-    let goes-on = c .before .before .before .before .before .before .before .before .before .before .before .before .before .if1 .left in
-    let renew = c .before .before .before .before .before .before .before .before .renew in
+    let renewed = c .before .before .before .before .before .before .before .before in
+    let tested = renewed .before .before .before .before .before in
+    let stepped = tested .before .before .before .before .before in
+    let turned = stepped .before .before .before .before in
+    let a = turned .before .before .before .before .before .before .before .args in
+    let l = turned .before .loop in
+    let more = turned .loop-test .taken in
+    let step = stepped .step in
+    let tell = tested .before .before .tell in
+    let goes-on = tested .if1 .left in
+    let renew = renewed .renew in
     let note = c .before .before .note in
     let later = l .now + tell .result .elapsed in
     let is-step = tell .ensures .same (step .last .0) (l .now) ∙ step .ensures .is-step in

@@ -57,7 +57,12 @@ same-length : tie.Need-same-length Inv-loop μ-loop
 same-length c = search needs
 
 returns-2 : tie.Need-returns-2 Inv-loop μ-loop
-returns-2 c = let l = c .before .loop in let a = c .before .before .before .args in sets-end (l .events) (3 * a .k + l .i) (l .i) (a .clock ∷ a .kind ∷ a .value ∷ []) (omega (arith, c .loop-test .left)) ∙ l .inv .3 ∙ noted-room (a .events .now) (a .k) _ (c .before .before .if1 .left)
+returns-2 c =
+    let l = c .before .loop in
+    let a = c .before .before .before .args in
+    let three = a .clock ∷ a .kind ∷ a .value ∷ [] in
+    let room = c .before .before .if1 .left in
+    sets-end (l .events) (3 * a .k + l .i) (l .i) three (omega (arith, c .loop-test .left)) ∙ l .inv .3 ∙ noted-room (a .events .now) (a .k) three room
 
 pub note-spec : {M : Type 1} → statement M
 note-spec =
