@@ -7,3 +7,4 @@ pub mod FieldReads
 pub mod StateLaws
 pub mod BestLaws
 pub mod PlanLaws
+pub mod KeptLaws

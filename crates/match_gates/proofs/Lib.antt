@@ -1,2 +1,3 @@
 -- Laws of the gates.
 pub mod GateLaws
+pub mod AlikeGates

@@ -2,3 +2,4 @@
 pub mod TableLaws
 pub mod UnionLaws
 pub mod LeadLaws
+pub mod AlikeUnions

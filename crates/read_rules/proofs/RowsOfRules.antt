@@ -9,31 +9,17 @@ use lib.Seq.{sets, length-sets, drop-drop}
 use Rattle.meaning.specs.Model.{Test, Action, Rule}
 use Rattle.meaning.specs.Image.{utilityOf}
 use Rattle.layout.specs.Rows.{rowsIn, testIn, actionIn, testsIn, actionsIn, ruleIn, rulesIn, testedMask, Laid}
-use Rattle.layout.proofs.WordLaws.{below-get, below-part, sets-below, sets-at, sets-drop, part-below, part-own}
-use Rattle.layout.proofs.RowLaws.{rows-more, rows-same, in-same, in-drop, test-like, action-like}
+use Rattle.layout.proofs.WordLaws.{below-get, sets-below, sets-at, sets-drop, part-below, part-own}
+use Rattle.layout.proofs.RowLaws.{rows-more, in-drop, test-like, action-like}
+use Rattle.layout.proofs.KeptLaws.{SameTo, same-below, tests-kept, rules-kept}
 use Rattle.read_rules.specs.Heads.{ruleBy, RuleFits}
 
 module _ (heads heads′ words words′ four own : List ℕ) (k : ℕ) (laid : Laid heads words k)
-    (old-head : (j i : ℕ) → j < k → i < 4 → getD heads′ (4 * j + i) 0 ≡ getD heads (4 * j + i) 0)
+    (old-heads : SameTo (4 * k) heads heads′)
     (new-head : (i : ℕ) → i < 4 → getD heads′ (4 * k + i) 0 ≡ getD four i 0)
-    (kept : take (176 * k) words′ ≡ take (176 * k) words) (is-own : drop (176 * k) words′ ≡ own) where
-  first-head : (l : List ℕ) (j : ℕ) → getD l (4 * j) 0 ≡ getD l (4 * j + 0) 0
-  first-head l j = let e : 4 * j ≡ 4 * j + 0 = omega arith in ap (λ (n : ℕ). getD l n 0) e
-
-  old-tests : (j : ℕ) → j < k → testsIn words′ (176 * j) (getD heads′ (4 * j) 0) ≡ testsIn words (176 * j) (getD heads (4 * j) 0)
-  old-tests j h =
-      let n : getD heads′ (4 * j) 0 ≡ getD heads (4 * j) 0 = first-head heads′ j ∙ old-head j 0 h (omega arith) ∙ sym (first-head heads j) in
-      ap (testsIn words′ (176 * j)) n ∙ in-same testIn test-like words′ words (176 * j) (getD heads (4 * j) 0) (λ i l. below-get (176 * k) words words′ kept i (omega (arith, laid .tests-few j h)))
-
-  old-actions : (j : ℕ) → j < k → actionsIn words′ (176 * j + 88) (getD heads′ (4 * j + 1) 0) ≡ actionsIn words (176 * j + 88) (getD heads (4 * j + 1) 0)
-  old-actions j h =
-      ap (actionsIn words′ (176 * j + 88)) (old-head j 1 h (omega arith))
-      ∙ in-same actionIn action-like words′ words (176 * j + 88) (getD heads (4 * j + 1) 0) (λ i l. below-get (176 * k) words words′ kept i (omega (arith, laid .actions-few j h)))
-
-  old-rule : (j : ℕ) → j < k → ruleIn heads′ words′ j ≡ ruleIn heads words j
-  old-rule j h =
-      ap (λ (u : ℕ). record { utility = utilityOf u; tests = testsIn words′ (176 * j) (getD heads′ (4 * j) 0); actions = actionsIn words′ (176 * j + 88) (getD heads′ (4 * j + 1) 0) }) (old-head j 2 h (omega arith))
-      ∙ ap₂ (λ (ts : List Test) (as′ : List Action). record { utility = utilityOf (getD heads (4 * j + 2) 0); tests = ts; actions = as′ }) (old-tests j h) (old-actions j h)
+    (old-words : SameTo (176 * k) words words′) (is-own : drop (176 * k) words′ ≡ own) where
+  first-new : getD heads′ (4 * k) 0 ≡ getD four 0 0
+  first-new = let e : 4 * k ≡ 4 * k + 0 = omega arith in ap (λ (n : ℕ). getD heads′ n 0) e ∙ new-head 0 (omega arith)
 
   -- the rows of rule k are its own words
   new-tests : (n : ℕ) → testsIn words′ (176 * k) n ≡ testsIn own 0 n
@@ -44,24 +30,18 @@ module _ (heads heads′ words words′ four own : List ℕ) (k : ℕ) (laid : L
 
   new-rule : ruleIn heads′ words′ k ≡ ruleBy four own
   new-rule =
-      rw (first-head heads′ k ∙ new-head 0 (omega arith), new-head 1 (omega arith), new-head 2 (omega arith))
+      rw (first-new, new-head 1 (omega arith), new-head 2 (omega arith))
       (ap₂ (λ (ts : List Test) (as′ : List Action). record { utility = utilityOf (getD four 2 0); tests = ts; actions = as′ }) (new-tests (getD four 0 0)) (new-actions (getD four 1 0)))
 
   pub rules-more : rulesIn heads′ words′ (k + 1) ≡ rulesIn heads words k ++ (ruleBy four own ∷ [])
   rules-more =
       let z : 0 + k ≡ k = omega arith in
       rows-more (ruleIn heads′ words′) 0 k
-      ∙ ap₂ (λ (l : List Rule) (r : Rule). l ++ (r ∷ [])) (rows-same (ruleIn heads′ words′) (ruleIn heads words) 0 k (λ j a b. old-rule j (omega arith))) (ap (ruleIn heads′ words′) z ∙ new-rule)
+      ∙ ap₂ (λ (l : List Rule) (r : Rule). l ++ (r ∷ [])) (rules-kept heads heads′ words words′ k laid old-heads old-words) (ap (ruleIn heads′ words′) z ∙ new-rule)
 
   module _ (n : ℕ) (h : k < n) (few : n ≤ 256) (hr : 4 * n ≤ length heads′) (wr : 176 * n ≤ length words′) (f : RuleFits four own) where
     by : {C : Type 0} (j : ℕ) → j < k + 1 → (j < k → C) → (j ≡ k → C) → C
     by j l old new = elim (ℕ-discrete j k) [ yes e ↦ new e | no e ↦ old (omega arith) ]
-
-    first-new : getD heads′ (4 * k) 0 ≡ getD four 0 0
-    first-new = first-head heads′ k ∙ new-head 0 (omega arith)
-
-    first-old : (j : ℕ) → j < k → getD heads′ (4 * j) 0 ≡ getD heads (4 * j) 0
-    first-old j l = first-head heads′ j ∙ old-head j 0 l (omega arith) ∙ sym (first-head heads j)
 
     pub laid-more : Laid heads′ words′ (k + 1)
     laid-more =
@@ -69,10 +49,10 @@ module _ (heads heads′ words words′ four own : List ℕ) (k : ℕ) (laid : L
           at-most = omega arith;
           heads-room = omega arith;
           words-room = omega arith;
-          tests-few = λ j l. by j l (λ g. omega (arith, first-old j g, laid .tests-few j g)) (λ e. rw e (omega (arith, first-new, f .tests-few)));
-          actions-few = λ j l. by j l (λ g. omega (arith, old-head j 1 g (omega arith), laid .actions-few j g)) (λ e. rw e (omega (arith, new-head 1 (omega arith), f .actions-few)));
+          tests-few = λ j l. by j l (λ g. omega (arith, old-heads (4 * j) (omega arith), laid .tests-few j g)) (λ e. rw e (omega (arith, first-new, f .tests-few)));
+          actions-few = λ j l. by j l (λ g. omega (arith, old-heads (4 * j + 1) (omega arith), laid .actions-few j g)) (λ e. rw e (omega (arith, new-head 1 (omega arith), f .actions-few)));
           masks = λ j l.
-              by j l (λ g. old-head j 3 g (omega arith) ∙ laid .masks j g ∙ ap testedMask (sym (old-tests j g)))
+              by j l (λ g. old-heads (4 * j + 3) (omega arith) ∙ laid .masks j g ∙ ap testedMask (sym (tests-kept heads heads′ words words′ k laid old-heads old-words j g)))
               (λ e. rw e (new-head 3 (omega arith) ∙ f .mask-is ∙ ap testedMask (sym (ap (testsIn words′ (176 * k)) first-new ∙ new-tests (getD four 0 0)))));
         }
 
@@ -85,14 +65,14 @@ module _ (w w₁ w₂ four own : List ℕ) (rows k n : ℕ) (laid : Laid w (drop
   rows-after : drop rows w₂ ≡ drop rows w₁
   rows-after = ap (drop rows) e₂ ∙ sets-drop rows w₁ (4 * k) four (omega arith)
 
-  old : (j i : ℕ) → j < k → i < 4 → getD w₂ (4 * j + i) 0 ≡ getD w (4 * j + i) 0
-  old j i a b = ap (λ (l : List ℕ). getD l (4 * j + i) 0) e₂ ∙ sets-below w₁ (4 * k) four (4 * j + i) (omega arith) ∙ below-get (rows + 176 * k) w w₁ below (4 * j + i) (omega arith)
+  old : SameTo (4 * k) w w₂
+  old j a = ap (λ (l : List ℕ). getD l j 0) e₂ ∙ sets-below w₁ (4 * k) four j a ∙ below-get (rows + 176 * k) w w₁ below j (omega arith)
 
   new : (i : ℕ) → i < 4 → getD w₂ (4 * k + i) 0 ≡ getD four i 0
   new i b = ap (λ (l : List ℕ). getD l (4 * k + i) 0) e₂ ∙ sets-at w₁ (4 * k) four i (omega arith) (omega arith)
 
-  kept : take (176 * k) (drop rows w₂) ≡ take (176 * k) (drop rows w)
-  kept = ap (take (176 * k)) rows-after ∙ below-part rows (176 * k) w w₁ below (omega arith) (omega arith)
+  kept : SameTo (176 * k) (drop rows w) (drop rows w₂)
+  kept j a = ap (λ (l : List ℕ). getD l j 0) rows-after ∙ same-below rows (176 * k) w w₁ below j a
 
   is-own : drop (176 * k) (drop rows w₂) ≡ own
   is-own = ap (drop (176 * k)) rows-after ∙ drop-drop (176 * k) rows w₁ ∙ ap (drop (rows + 176 * k)) e ∙ part-own (rows + 176 * k) w own (omega arith)

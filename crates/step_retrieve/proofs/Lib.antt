@@ -3,3 +3,4 @@ pub mod FitLaws
 pub mod TurnLaws
 pub mod ChainLaws
 pub mod LeapLaws
+pub mod AlikeChains

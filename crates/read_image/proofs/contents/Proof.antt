@@ -16,8 +16,8 @@ use Rattle.layout.specs.Walks.{answer}
 use Rattle.layout.proofs.WalkLaws.{answer-bad, answer-next, bad-never}
 use Rattle.layout.proofs.WordLaws.{part-put, part-below, part-own}
 use Rattle.layout.proofs.PlanLaws.{to-end}
+use Rattle.layout.proofs.KeptLaws.{facts-kept}
 use Rattle.read_image.proofs.WholeLaws.{someContents, contents-first, contents-second, contents-on}
-use Rattle.read_image.proofs.TapeLaws.{facts-kept}
 use borrow.Author.Needs.{needs}
 use Rattle.read_image.proofs.contents.Statement.{statement}
 use Rattle.read_image.proofs.contents.Tie as tie

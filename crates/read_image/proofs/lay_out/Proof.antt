@@ -14,10 +14,11 @@ use Rattle.layout.specs.Walks.{answer, Small}
 use Rattle.layout.specs.Rows.{sizes}
 use Rattle.layout.specs.Plans.{typesOn, openingOn, modelOn, Planned}
 use Rattle.layout.proofs.WalkLaws.{answer-bad, answer-next, bad-never}
+use Rattle.layout.proofs.KeptLaws.{types-kept, state-kept, opening-kept}
 use Rattle.read_opening.specs.Parts.{headerIn, openingState}
 use Rattle.read_image.specs.Whole.{beginningOn, contentsOn, InBounds}
 use Rattle.read_image.proofs.WholeLaws.{aModel, not-long, decode-refused, decode-beginning, decode-on}
-use Rattle.read_image.proofs.TapeLaws.{types-kept, state-kept, opening-kept, beginning-kept}
+use Rattle.read_image.proofs.TapeLaws.{beginning-kept}
 use borrow.Author.Needs.{needs}
 use Rattle.read_image.proofs.lay_out.Statement.{statement}
 use Rattle.read_image.proofs.lay_out.Tie as tie

@@ -1,0 +1,168 @@
+-- What stands on a tape stays while words after it are written, and so does the model that it means.
+use Prim.Native.Nat.{ℕ, _+_, _*_, _≤_, _<_}
+use mathlib.Core.Path.{_≡_, refl, sym, ap, ap₂, _∙_, subst}
+use mathlib.Core.List.{List, map}
+use native.Mathlib.Omega.{arith}
+use lib.ListN.{length, getD, take, drop, length-drop}
+use lib.Seq.{sets, take-take, getD-take, getD-drop, length-take-le}
+use Rattle.meaning.specs.declared.Buffer.{Buffer}
+use Rattle.meaning.specs.declared.State.{State}
+use Rattle.meaning.specs.Model.{Model, Chunk, Fact, Test, Action, Rule}
+use Rattle.meaning.specs.Image.{utilityOf}
+use Rattle.meaning.specs.Calls.{openState}
+use Rattle.layout.specs.declared.Plan.{Plan}
+use Rattle.layout.specs.Walks.{Small}
+use Rattle.layout.specs.Rows.{factIn, testIn, actionIn, testsIn, actionsIn, ruleIn, rulesIn, testedMask, Laid}
+use Rattle.layout.specs.StateWords.{bufferIn, buffersIn, stateIn}
+use Rattle.layout.specs.Plans.{chunkIn, typesOn, openingOn, factsOn, headsOn, rowsOn, rulesOn, modelOn, Planned}
+use Rattle.layout.proofs.WordLaws.{below-get, sets-at}
+use Rattle.layout.proofs.RowLaws.{rows-same, in-same, fact-like, test-like, action-like}
+use Rattle.layout.proofs.StateLaws.{buffer-like}
+use Rattle.layout.proofs.PlanLaws.{sections}
+
+-- ---- words that are alike
+
+-- the first m words are the same
+abbrev pub SameTo : ℕ → List ℕ → List ℕ → Type 0
+SameTo m w w′ = (j : ℕ) → j < m → getD w′ j 0 ≡ getD w j 0
+
+-- two lists that begin alike
+pub begin-alike : (m o : ℕ) (w w′ : List ℕ) → m ≤ o → take o w′ ≡ take o w → take m w′ ≡ take m w
+begin-alike m o w w′ h e = sym (take-take m o w′ h) ∙ ap (take m) e ∙ take-take m o w h
+
+-- words of a list that begins as another does
+pub same-below : (r m : ℕ) (w w′ : List ℕ) → take (r + m) w′ ≡ take (r + m) w → SameTo m (drop r w) (drop r w′)
+same-below r m w w′ e j h = rw (getD-drop, getD-drop) (below-get (r + m) w w′ e (r + j) (omega arith))
+
+-- the first m words of a list, written from q on, stand there
+pub same-written : (w w′ own : List ℕ) (q m : ℕ) → m ≤ length own → q + m ≤ length w → w′ ≡ sets w q (take m own) → SameTo m own (drop q w′)
+same-written w w′ own q m h room e j l =
+    let long : length (take m own) ≡ m = length-take-le m own h in
+    ap (λ (v : List ℕ). getD (drop q v) j 0) e
+    ∙ getD-drop q (sets w q (take m own)) j 0 ∙ sets-at w q (take m own) j (omega arith) (omega arith) ∙ getD-take m own j 0 l
+
+-- ---- while words from 144 on are written, types and opening stay
+
+module _ (p : Plan) (tape tape′ : List ℕ) (kept : take 144 tape′ ≡ take 144 tape) where
+  pub types-kept : p .declared + 1 ≤ 64 → typesOn p tape′ ≡ typesOn p tape
+  types-kept h = begin-alike (p .declared + 1) 144 tape tape′ (omega arith) kept
+
+  buffers-kept : buffersIn (drop 64 tape′) ≡ buffersIn (drop 64 tape)
+  buffers-kept =
+      rows-same (bufferIn (drop 64 tape′)) (bufferIn (drop 64 tape)) 0 8
+      (λ k a b. buffer-like (drop 64 tape′) (drop 64 tape) k (λ j l. same-below 64 80 tape tape′ kept (10 * k + j) (omega arith)))
+
+  pub state-kept : stateIn (drop 64 tape′) 0 ≡ stateIn (drop 64 tape) 0
+  state-kept = ap (λ (bs : List Buffer). record { buffers = bs; clock = 0 }) buffers-kept
+
+  pub opening-kept : openingOn p tape′ ≡ openingOn p tape
+  opening-kept = ap (λ (bs : List Buffer). map chunkIn (take (p .buffers) bs)) buffers-kept
+
+-- ---- facts stay while words from their end on are written
+
+pub facts-kept : (p : Plan) (tape tape′ : List ℕ) → take (144 + 11 * p .facts) tape′ ≡ take (144 + 11 * p .facts) tape → factsOn p tape′ ≡ factsOn p tape
+facts-kept p tape tape′ kept =
+    rows-same (λ k. factIn (drop 144 tape′) (11 * k)) (λ k. factIn (drop 144 tape) (11 * k)) 0 (p .facts)
+    (λ k a b. fact-like (drop 144 tape′) (drop 144 tape) (11 * k) (11 * k) (λ j l. same-below 144 (11 * p .facts) tape tape′ kept (11 * k + j) (omega arith)))
+
+-- ---- rules in heads and rows that are alike
+
+module _ (heads heads′ words words′ : List ℕ) (n : ℕ) (laid : Laid heads words n) (same-heads : SameTo (4 * n) heads heads′) (same-words : SameTo (176 * n) words words′) where
+  pub tests-kept : (j : ℕ) → j < n → testsIn words′ (176 * j) (getD heads′ (4 * j) 0) ≡ testsIn words (176 * j) (getD heads (4 * j) 0)
+  tests-kept j h =
+      ap (testsIn words′ (176 * j)) (same-heads (4 * j) (omega arith))
+      ∙ in-same testIn test-like words′ words (176 * j) (getD heads (4 * j) 0) (λ i l. same-words i (omega (arith, laid .tests-few j h)))
+
+  actions-kept : (j : ℕ) → j < n → actionsIn words′ (176 * j + 88) (getD heads′ (4 * j + 1) 0) ≡ actionsIn words (176 * j + 88) (getD heads (4 * j + 1) 0)
+  actions-kept j h =
+      ap (actionsIn words′ (176 * j + 88)) (same-heads (4 * j + 1) (omega arith))
+      ∙ in-same actionIn action-like words′ words (176 * j + 88) (getD heads (4 * j + 1) 0) (λ i l. same-words i (omega (arith, laid .actions-few j h)))
+
+  pub rule-kept : (j : ℕ) → j < n → ruleIn heads′ words′ j ≡ ruleIn heads words j
+  rule-kept j h =
+      ap (λ (u : ℕ). record { utility = utilityOf u; tests = testsIn words′ (176 * j) (getD heads′ (4 * j) 0); actions = actionsIn words′ (176 * j + 88) (getD heads′ (4 * j + 1) 0) })
+      (same-heads (4 * j + 2) (omega arith))
+      ∙ ap₂ (λ (ts : List Test) (as′ : List Action). record { utility = utilityOf (getD heads (4 * j + 2) 0); tests = ts; actions = as′ }) (tests-kept j h) (actions-kept j h)
+
+  pub rules-kept : rulesIn heads′ words′ n ≡ rulesIn heads words n
+  rules-kept = rows-same (ruleIn heads′ words′) (ruleIn heads words) 0 n (λ j a b. rule-kept j (omega arith))
+
+  pub laid-kept : 4 * n ≤ length heads′ → 176 * n ≤ length words′ → Laid heads′ words′ n
+  laid-kept heads-fit words-fit =
+      record {
+        at-most = laid .at-most;
+        heads-room = heads-fit;
+        words-room = words-fit;
+        tests-few = λ j h. omega (arith, same-heads (4 * j) (omega arith), laid .tests-few j h);
+        actions-few = λ j h. omega (arith, same-heads (4 * j + 1) (omega arith), laid .actions-few j h);
+        masks = λ j h. same-heads (4 * j + 3) (omega arith) ∙ laid .masks j h ∙ ap testedMask (sym (tests-kept j h));
+      }
+
+-- ---- where the sections of a plan begin: each where the one before it ends
+
+pub record Follows (p : Plan) : Type 0 where
+  pub heads-at : p .heads ≡ 144 + 11 * p .facts
+  pub rows-at : p .rows ≡ p .heads + 4 * p .rules
+  pub chains-at : p .chains ≡ p .rows + 176 * p .rules
+  pub gates-at : p .gates ≡ p .chains + 64 + p .facts
+  pub unions-at : p .unions ≡ p .gates + 2 * p .rules
+
+pub follows : {p : Plan} {tape : List ℕ} → Planned p tape → Follows p
+follows planned =
+    let e = planned .starts in
+    let heads = ap (λ (p : Plan). p .heads) e in
+    let rows = ap (λ (p : Plan). p .rows) e in
+    let chains = ap (λ (p : Plan). p .chains) e in
+    let gates = ap (λ (p : Plan). p .gates) e in
+    let unions = ap (λ (p : Plan). p .unions) e in
+    record { heads-at = heads; rows-at = omega arith; chains-at = omega arith; gates-at = omega arith; unions-at = omega arith }
+
+-- ---- the model stays while words after its sections are written
+
+abbrev modelBy : Plan → List ℕ → List Chunk → List Fact → List Rule → Model
+modelBy p types opening facts rules = record { buffers = p .buffers; types = types; failure = p .failure; opening = opening; facts = facts; rules = rules }
+
+module _ (p : Plan) (tape tape′ : List ℕ) (planned : Planned p tape) (o : ℕ) (after : p .chains ≤ o) (below : take o tape′ ≡ take o tape) (as-long : length tape′ ≡ length tape) where
+  kept-to : (m : ℕ) → m ≤ p .chains → take m tape′ ≡ take m tape
+  kept-to m h = begin-alike m o tape tape′ (omega arith) below
+
+  pub same-facts : SameTo (11 * p .facts) (drop 144 tape) (drop 144 tape′)
+  same-facts = let f = follows planned in same-below 144 (11 * p .facts) tape tape′ (kept-to (144 + 11 * p .facts) (omega arith))
+
+  pub same-heads : SameTo (4 * p .rules) (headsOn p tape) (headsOn p tape′)
+  same-heads = let f = follows planned in same-below (p .heads) (4 * p .rules) tape tape′ (kept-to (p .heads + 4 * p .rules) (omega arith))
+
+  pub same-rows : SameTo (176 * p .rules) (rowsOn p tape) (rowsOn p tape′)
+  same-rows = let f = follows planned in same-below (p .rows) (176 * p .rules) tape tape′ (kept-to (p .rows + 176 * p .rules) (omega arith))
+
+  opening-below : take 144 tape′ ≡ take 144 tape
+  opening-below = let f = follows planned in kept-to 144 (omega arith)
+
+  types-below : typesOn p tape′ ≡ typesOn p tape
+  types-below = types-kept p tape tape′ opening-below (omega (arith, planned .most-declared))
+
+  pub model-kept : modelOn p tape′ ≡ modelOn p tape
+  unfolding modelOn
+  model-kept =
+      let f = follows planned in
+      let facts = facts-kept p tape tape′ (kept-to (144 + 11 * p .facts) (omega arith)) in
+      let rules = rules-kept (headsOn p tape) (headsOn p tape′) (rowsOn p tape) (rowsOn p tape′) (p .rules) (planned .laid) same-heads same-rows in
+      ap₂ (λ (ts : List ℕ) (cs : List Chunk). modelBy p ts cs (factsOn p tape′) (rulesOn p tape′)) types-below (opening-kept p tape tape′ opening-below)
+      ∙ ap₂ (λ (fs : List Fact) (rs : List Rule). modelBy p (typesOn p tape) (openingOn p tape) fs rs) facts rules
+
+  pub planned-kept : Planned p tape′
+  planned-kept =
+      let s = sections planned in
+      let heads-fit : 4 * p .rules ≤ length (headsOn p tape′) = omega (arith, length-drop (p .heads) tape′) in
+      let rows-fit : 176 * p .rules ≤ length (rowsOn p tape′) = omega (arith, length-drop (p .rows) tape′) in
+      record {
+        starts = planned .starts;
+        room = omega (arith, planned .room);
+        some-buffers = planned .some-buffers;
+        most-buffers = planned .most-buffers;
+        most-declared = planned .most-declared;
+        most-facts = planned .most-facts;
+        small = subst (λ (ts : List ℕ). Small ts) (sym types-below) (planned .small);
+        laid = laid-kept (headsOn p tape) (headsOn p tape′) (rowsOn p tape) (rowsOn p tape′) (p .rules) (planned .laid) same-heads same-rows heads-fit rows-fit;
+        opens = state-kept p tape tape′ opening-below ∙ planned .opens ∙ ap openState (sym model-kept);
+      }
