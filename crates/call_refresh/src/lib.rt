@@ -44,13 +44,7 @@ fn mark_allowed(mark: u16, buffers: u16) -> bool
 }
 
 // What is left to refuse once the image and the table's length are accepted, and the refresh.
-fn refresh_for(
-    table: &mut [u16],
-    plan: Plan,
-    tape: &[u16],
-    state: State,
-    mark: u16,
-) -> RefreshDone
+fn refresh_for(table: &mut [u16], plan: Plan, tape: &[u16], state: State, mark: u16) -> RefreshDone
     requires { ⌜ Planned plan (now tape) × (length (now table) ≡ 9 * plan .rules) ⌝ }
     ensures { λ r. ⌜ refreshedIn r (now (table .exit)) ≡ refreshedBy state mark (now (table .entry)) (Got (modelOn plan (now (tape .entry))) 0) ⌝ }
 {

@@ -11,18 +11,18 @@ use Rattle.meaning.specs.Read.{Read, Refused, Got}
 use Rattle.meaning.specs.Run.{going, ends}
 use Rattle.meaning.specs.Calls.{accepted, tracedBy}
 use Rattle.layout.specs.StateWords.{buffersIn, stateIn}
-use Rattle.read_image.specs.declared.ImageRead.{ImageRead}
-use Rattle.read_image.specs.Whole.{modelIn}
+use Rattle.layout.specs.declared.Plan.{Plan}
+use Rattle.layout.specs.Plans.{modelOn}
 use Rattle.layout_state.specs.Words.{wellIn}
 use Rattle.layout_state.proofs.ValueLaws.{state-is, well-by}
 use Rattle.step_run.specs.declared.Went.{Went}
 use Rattle.step_run.specs.Events.{inscribed, Tells, WentMet}
 use Rattle.call_accept.specs.declared.Taken.{Taken}
 use Rattle.call_accept.specs.declared.Taken.the-variants as taken
-use Rattle.call_accept.specs.Acceptance.{unplaced, TakenMet}
+use Rattle.call_accept.specs.Acceptance.{settled, TakenMet}
 use Rattle.call_accept.proofs.TakenLaws.{by-refused, by-accepted}
 use Rattle.call_run.specs.declared.RunDone.{RunDone}
-use Rattle.call_run.specs.Answers.{Stands, RunMet}
+use Rattle.call_run.specs.Answers.{RunMet}
 
 abbrev done : ℕ → State → ℕ → RunDone
 done number s made = record { number = number; state = s; made = made }
@@ -34,25 +34,20 @@ nothing-done n s table lent = record { is-run = refl; events = refl }
 
 -- ---- by what was accepted
 
-module _ (s : State) (steps : ℕ) (t : Taken) (begun : ImageRead) (image table facts heads words : List ℕ) (met : TakenMet t begun image (length table) facts heads words) where
-  ran-unplaced : (a : Read Model) → tracedBy (going s table) steps a ≡ tracedBy (going s table) steps (unplaced a)
-  ran-unplaced (Refused n at) = refl
-  ran-unplaced (Got m at) = refl
+module _ (s : State) (steps : ℕ) (t : Taken) (p : Plan) (image table tape : List ℕ) (met : TakenMet t p image (length table) tape) where
+  ran-settled : (a : Read Model) → tracedBy (going s table) steps a ≡ tracedBy (going s table) steps (settled a)
+  ran-settled (Refused n at) = refl
+  ran-settled (Got m at) = refl
 
   -- refused: nothing is done, and no event is noted
-  pub run-refused : (n : ℕ) → t ≡ taken.Refused n → (r : RunDone) → r ≡ done n s 0 → (lent : List ℕ) → RunMet r (accepted image table) s table table steps lent lent
-  run-refused n e r g lent =
-      rw (g, ← by-refused (tracedBy (going s table) steps) ran-unplaced t begun image table facts heads words met n e) (nothing-done n s table lent)
+  pub run-refused : (n at : ℕ) → t ≡ taken.Refused n at → (r : RunDone) → r ≡ done n s 0 → (lent : List ℕ) → RunMet r (accepted image table) s table table steps lent lent
+  run-refused n at e r g lent =
+      rw (g, ← by-refused (tracedBy (going s table) steps) ran-settled t p image table tape met n at e) (nothing-done n s table lent)
 
   -- accepted: what is left, for the model that was laid out
-  pub run-accepted : t ≡ taken.Accepted → (r : RunDone) (table′ lent lent′ : List ℕ) → RunMet r (Got (modelIn begun facts heads words) 0) s table table′ steps lent lent′
+  pub run-accepted : t ≡ taken.Accepted → (r : RunDone) (table′ lent lent′ : List ℕ) → RunMet r (Got (modelOn p tape) 0) s table table′ steps lent lent′
       → RunMet r (accepted image table) s table table′ steps lent lent′
-  run-accepted e r table′ lent lent′ g = rw (by-accepted (tracedBy (going s table) steps) ran-unplaced t begun image table facts heads words met e) at g
-
--- the model that was laid out stands in the words
-pub laid-stands : (begun : ImageRead) (facts heads words : List ℕ)
-    → Stands (modelIn begun facts heads words) (begun .buffers) (modelIn begun facts heads words .types) (begun .failure) facts (begun .facts) heads words (begun .rules)
-laid-stands begun facts heads words = record { its-buffers = refl; its-types = refl; its-failure = refl; its-facts = refl; its-rules = refl }
+  run-accepted e r table′ lent lent′ g = rw (by-accepted (tracedBy (going s table) steps) ran-settled t p image table tape met e) at g
 
 -- ---- of a model with these buffers and types, whose state stands in the words w
 

@@ -1,27 +1,17 @@
 -- What a run answers, and what is promised of it.
 use Prim.Native.Nat.{ℕ}
-use mathlib.Core.Path.{_≡_}
 use mathlib.Core.List.{List}
 use Rattle.meaning.specs.declared.State.{State}
 use Rattle.meaning.specs.Model.{Model}
 use Rattle.meaning.specs.Read.{Read}
 use Rattle.meaning.specs.Run.{going}
 use Rattle.meaning.specs.Calls.{Ran, tracedBy}
-use Rattle.layout.specs.Rows.{factsIn, rulesIn}
 use Rattle.step_run.specs.Events.{Tells}
 use Rattle.call_run.specs.declared.RunDone.{RunDone}
 
 -- the answer, with the table as it is left
 abbrev pub ranBack : RunDone → List ℕ → Ran
 ranBack r table = record { number = r .number; state = r .state; table = table; made = r .made }
-
--- a model stands in words
-pub record Stands (m : Model) (buffers : ℕ) (types : List ℕ) (failure : ℕ) (facts : List ℕ) (many : ℕ) (heads words : List ℕ) (n : ℕ) : Type 0 where
-  pub its-buffers : m .buffers ≡ buffers
-  pub its-types : m .types ≡ types
-  pub its-failure : m .failure ≡ failure
-  pub its-facts : m .facts ≡ factsIn facts many
-  pub its-rules : m .rules ≡ rulesIn heads words n
 
 -- a run by what was accepted
 abbrev pub RunMet : RunDone → Read Model → State → List ℕ → List ℕ → ℕ → List ℕ → List ℕ → Type 0

@@ -1,0 +1,84 @@
+-- `call_run::run_on` meets its contract: refused with nothing done, or what is left to refuse, and the run.
+use Prim.Native.Nat.{ℕ}
+use mathlib.Core.List.{List}
+use Rattle.call_run.proofs.RunLaws.{run-refused, run-accepted}
+use borrow.Author.Needs.{needs}
+use Rattle.call_run.proofs.run_on.Statement.{statement}
+use Rattle.call_run.proofs.run_on.Tie as tie
+
+-- ---- the places of the code, each named once
+
+abbrev start : tie.After-accept → tie.Start
+start c = c .before .before .before .before .before .before
+
+abbrev taken : tie.After-enum-told → tie.After-accept
+taken c = c .before .before .before .before
+
+abbrev told : tie.After-run-for → tie.After-enum-told
+told c = c .before .before .before .before .before
+
+abbrev tape : tie.After-accept → List ℕ
+tape c = c .accept .last .1 .1 .1 .0
+
+-- ---- what is asked
+
+accept-requires : tie.Need-accept-requires
+accept-requires c κs = search needs
+
+enum-known-taken : tie.Need-enum-known-taken
+enum-known-taken c = search needs
+
+no-run-requires : tie.Need-no-run-requires
+no-run-requires c κs = search needs
+
+same-length : tie.Need-same-length
+same-length c = search needs
+
+returns : tie.Need-returns
+returns c =
+    let t = c .before .before .before .before .before .before in
+    let a = start t .args in
+    run-refused (a .state) (a .steps) (t .accept .result) (a .begun .plan) (a .image .now) (a .table .now) (tape t) (t .accept .ensures) _ _ (c .before .before .taken .given .1) (c .no-run .result) (c .no-run .ensures) (a .events .now)
+
+enum-told : tie.Need-enum-told
+enum-told c = search needs
+
+run-for-requires : tie.Need-run-for-requires
+run-for-requires c κs =
+    let d = c .before .before .before .before in
+    let met = taken d .accept .ensures in
+    (met .planned (d .enum-told .given .1), met .right-length (d .enum-told .given .1))
+
+same-length-2 : tie.Need-same-length-2
+same-length-2 c = search needs
+
+same-length-3 : tie.Need-same-length-3
+same-length-3 c = search needs
+
+same-length-4 : tie.Need-same-length-4
+same-length-4 c = search needs
+
+returns-2 : tie.Need-returns-2
+returns-2 c =
+    let r = c .before .before .before .before .before .before in
+    let d = told r in
+    let t = taken d in
+    let a = start t .args in
+    run-accepted (a .state) (a .steps) (t .accept .result) (a .begun .plan) (a .image .now) (a .table .now) (tape t) (t .accept .ensures) (d .enum-told .given .1)
+    (r .run-for .result) _ (a .events .now) _ (r .run-for .ensures)
+
+pub run-on-spec : {M : Type 1} → statement M
+run-on-spec =
+    tie.close
+    (tie.spec
+    accept-requires
+    enum-known-taken
+    no-run-requires
+    same-length
+    returns
+    enum-told
+    run-for-requires
+    same-length-2
+    same-length-3
+    same-length-4
+    returns-2)
