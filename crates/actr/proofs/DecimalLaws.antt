@@ -9,7 +9,7 @@ use borrow.Author.Tests.{ltb-true, ltb-false}
 use lib.Dec.{ltb}
 use lib.ListN.{length, take}
 use Rattle.meaning.specs.Base.{if_then_else_}
-use Rattle.laws.specs.WindowLaws.{by-lt}
+use Rattle.laws.specs.BaseLaws.{by-lt}
 use Rattle.io.specs.Digits.{digits, Fewest}
 use Rattle.actr.specs.Text.{widthFrom, decimal}
 use Rattle.actr.specs.Written.{Written}

@@ -10,8 +10,8 @@ use Rattle.meaning.specs.Image.{decode}
 use Rattle.meaning.specs.Match.{freshTable}
 use Rattle.meaning.specs.Calls.{accepted, wordsFor, tableLength, Opened, openState, openedBy, openOf, traceOf}
 use Rattle.meaning.specs.Print.{End, linesOf, printedBy, printed}
-use Rattle.laws.specs.EntryLaws.{fresh-length}
-use Rattle.laws.specs.OpenLaws.{open-well}
+use Rattle.laws.specs.MatchLaws.{fresh-length}
+use Rattle.laws.specs.CallsLaws.{open-well}
 
 module _ (image table : List ℕ) (room : length table ≡ tableLength image) where
   -- the table has the right length, so the image alone decides

@@ -14,7 +14,7 @@ use Rattle.meaning.specs.Step.{Event, Fired, Waited}
 use Rattle.meaning.specs.Run.{Timed, Run}
 use Rattle.meaning.specs.Calls.{Ran, traceOf, runOf}
 use Rattle.meaning.specs.Print.{Line, Stepped, End, lineOf, linesOf}
-use Rattle.laws.specs.RunLaws.{made-most}
+use Rattle.laws.specs.CallsLaws.{made-most}
 use Rattle.step_run.specs.Events.{eventWords, noted, inscribed}
 use Rattle.step_run.specs.Told.{eventBy}
 use Rattle.actr.specs.Written.{lineIn, linesIn}

@@ -2,3 +2,4 @@
 pub mod Text
 pub mod Examples
 pub mod Written
+pub mod Once

@@ -8,7 +8,7 @@ use native.Mathlib.Nat.{min-le-right}
 use borrow.Author.Tests.{leb-true}
 use lib.Dec.{leb}
 use lib.ListN.{length, length-take}
-use Rattle.laws.specs.BoolLaws.{and-left, and-right}
+use Rattle.laws.specs.BaseLaws.{and-left, and-right}
 use Rattle.read_image.specs.declared.ImageRead.{ImageRead}
 use Rattle.read_image.specs.Whole.{Begun, Fits}
 use Rattle.call_accept.specs.Acceptance.{Room, Small}

@@ -75,12 +75,6 @@ pub words-laid : (s : State) (b : List ℕ) → length b ≡ 80 → buffersIn b 
 unfolding wordsOf
 words-laid s b e l = ap (λ (xs : List ℕ). s .clock ∷ xs) (sym (words-in b e) ∙ ap buffersWords l)
 
--- the words of the state that 81 words hold are these words: what a refused run leaves
-pub words-back : (w : List ℕ) → length w ≡ 81 → wordsOf (stateOf w) ≡ w
-unfolding wordsOf
-words-back [] e = absurd (omega arith)
-words-back (x ∷ xs) e = ap (λ (l : List ℕ). x ∷ l) (words-in xs (omega arith))
-
 pub lay-done : (s : State) (w w′ b : List ℕ) → length b ≡ 80 → buffersIn b ≡ s .buffers → w′ ≡ getD w 0 0 ∷ b → set w′ 0 (s .clock) ≡ wordsOf s
 lay-done s w w′ b e l d = ap (λ (xs : List ℕ). set xs 0 (s .clock)) d ∙ words-laid s b e l
 

@@ -1,19 +1,19 @@
 -- What `choose` gives: the matching rule of highest utility, the lowest number among equals; nothing exactly if none matches.
-use mathlib.Core.Path.{_≡_, refl, sym, ap, _∙_}
+use mathlib.Core.Path.{_≡_, refl}
 use mathlib.Core.Logic.{_↔_, _⊎_, inl, inr, ⊎-elim}
-use mathlib.Core.Bool.{Bool, true, false, _&&_, not}
+use mathlib.Core.Bool.{Bool, true, false, not}
 use mathlib.Core.List.{List, [], _∷_, _++_, List·Memᴰ, List·Memᴰ·head, List·Memᴰ·not-nil, List·Memᴰ·cases-cons, List·Memᴰ·append-cases, Memᴰ·append-right}
-use mathlib.Core.Option.{Option, none, some}
+use mathlib.Core.Option.{none, some}
 use Prim.Native.Nat.{ℕ, _+_, _≤_}
 use native.Mathlib.Omega.{arith}
 use borrow.Author.Tests.{ltb-true, ltb-false, lt-ltb, le-ltb, not-true}
-use lib.ListN.{take, drop}
+use lib.ListN.{drop}
 use lib.IntN.{ℤ, pos, negsuc}
 use lib.Signed.{ltZ}
 use Rattle.meaning.specs.Base.{every, admit, keep}
 use Rattle.meaning.specs.Model.{Rule}
 use Rattle.meaning.specs.Choice.{Candidate, candidates, counts, lower, choose}
-use Rattle.laws.specs.ListLaws.{keep-none, none-keep, keep-member, member-keep, all-member}
+use Rattle.laws.specs.BaseLaws.{every-member, keep-member, keep-none, member-keep, none-keep}
 use Rattle.laws.specs.HighestLaws.{Best, highest-best, highest-none}
 
 -- ---- the order of utilities
@@ -99,10 +99,10 @@ choose-best rules us table c e =
       candidate = keep-member counts cs here .0;
       matching = keep-member counts cs here .1;
       best = λ d m t.
-          ⊎-elim (λ (h : List·Memᴰ d (b .before)). inl (all-member (λ y. lower y c) (b .before) (b .lower) h))
+          ⊎-elim (λ (h : List·Memᴰ d (b .before)). inl (every-member (λ y. lower y c) (b .before) (b .lower) h))
           (λ (h : List·Memᴰ d (c ∷ b .after)).
           ⊎-elim (λ (q : d ≡ c). inr (rw q (ltZ-self (c .utility), omega arith)))
-          (λ (k : List·Memᴰ d (b .after)). inr (not-true _ (all-member (λ y. not (lower c y)) (b .after) (b .none-higher) k), rising-member (c .number) (b .after) rising k))
+          (λ (k : List·Memᴰ d (b .after)). inr (not-true _ (every-member (λ y. not (lower c y)) (b .after) (b .none-higher) k), rising-member (c .number) (b .after) rising k))
           (List·Memᴰ·cases-cons h))
           (List·Memᴰ·append-cases (b .before) (rw (b .split) at (member-keep counts cs m t)));
     }

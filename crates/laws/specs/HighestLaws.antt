@@ -3,11 +3,11 @@ use mathlib.Core.Path.{_≡_, refl, sym, ap}
 use mathlib.Core.Logic.{_⊎_, inl, inr}
 use mathlib.Core.Bool.{Bool, true, false, not}
 use mathlib.Core.List.{List, [], _∷_, _++_}
-use mathlib.Core.Option.{Option, none, some}
+use mathlib.Core.Option.{none, some}
 use Prim.Native.Nat.{ℕ}
 use native.Mathlib.Omega.{arith}
 use Rattle.meaning.specs.Base.{if_then_else_, every}
-use Rattle.meaning.specs.Highest.{better, highest}
+use Rattle.meaning.specs.Highest.{highest}
 
 no-none : {A : Type 0} (x : A) → none ≡ some x → ⊥
 no-none x e = let z : _≡_ {A = ℕ} 0 1 = cc in omega arith

@@ -1,17 +1,12 @@
--- Laws about the definitions of `meaning`: one file for one notion, each law stated once over the width, the index or the element.
-pub mod BoolLaws
-pub mod ListLaws
+-- What follows from the definitions: laws on meaning's X stand in XLaws here.
+pub mod BaseLaws
 pub mod HighestLaws
-pub mod FieldLaws
-pub mod WindowLaws
-pub mod MaskLaws
+pub mod BitsLaws
 pub mod ReadLaws
-pub mod PartsLaws
-pub mod OpenLaws
+pub mod ImageLaws
+pub mod MatchLaws
 pub mod ChoiceLaws
 pub mod RetrievalLaws
-pub mod PlaceLaws
-pub mod EntryLaws
-pub mod MarkLaws
+pub mod RefreshLaws
 pub mod RunLaws
-pub mod SizeLaws
+pub mod CallsLaws

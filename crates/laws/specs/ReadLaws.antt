@@ -1,18 +1,15 @@
 -- Laws of reading: the three answers of a field, a reading taken apart, n things one after the other.
-use mathlib.Core.Path.{_≡_, refl, sym, ap, _∙_}
-use mathlib.Core.Bool.{Bool, true, false, _&&_}
+use mathlib.Core.Path.{_≡_, refl, sym, ap}
+use mathlib.Core.Bool.{Bool, true, false}
 use mathlib.Core.List.{List, [], _∷_}
 use Prim.Native.Nat.{ℕ, zero, suc, _+_, _*_, _≤_, _<_}
 use native.Mathlib.Omega.{arith}
-use borrow.Author.Tests.{ltb-false, lt-ltb, le-ltb, leb-true}
-use lib.Dec.{ltb, leb}
+use borrow.Author.Tests.{ltb-false, lt-ltb, le-ltb}
+use lib.Dec.{ltb}
 use lib.ListN.{length}
-use Rattle.meaning.specs.Numbers.{bad-number}
 use Rattle.meaning.specs.Base.{if_then_else_, every}
 use Rattle.meaning.specs.Bits.{fieldAt}
-use Rattle.meaning.specs.Read.{Read, Refused, Got, Reader, follow, must, judged, field, times}
-use Rattle.meaning.specs.Image.{between}
-use Rattle.laws.specs.BoolLaws.{and-left, and-right}
+use Rattle.meaning.specs.Read.{Read, Refused, Got, Reader, follow, judged, field, times}
 
 -- ---- one field
 
@@ -53,7 +50,8 @@ field-got width rule image at value next e =
     → FieldRead width rule image at value next) [
       | true ↦ λ t h. absurd (no-got 2 at value next h)
       | false ↦ λ t h.
-          let g : (rule (fieldAt image at width) ≡ 0) × (fieldAt image at width ≡ value) × (at + width ≡ next) = judged-got (rule (fieldAt image at width)) (fieldAt image at width) at (at + width) value next h in
+          let v : ℕ = fieldAt image at width in
+          let g : (rule v ≡ 0) × (v ≡ value) × (at + width ≡ next) = judged-got (rule v) v at (at + width) value next h in
           record { there = omega (arith, ltb-false (8 * length image) (at + width) t); after = omega arith; is = sym (g .1); kept = rw (← g .1) (g .0) }
     ]) refl e
 
@@ -61,12 +59,6 @@ field-got width rule image at value next e =
 pub must-kept : (n : ℕ) (t : Bool) → (if t then 0 else suc n) ≡ 0 → t ≡ true
 must-kept n true e = refl
 must-kept n false e = absurd (omega arith)
-
--- a count that was read lies between its bounds
-pub between-got : (width low high : ℕ) (s : List ℕ) (at n next : ℕ) → field width (must bad-number (between low high)) s at ≡ Got n next → (low ≤ n) × (n ≤ high)
-between-got width low high s at n next e =
-    let k = must-kept 2 (leb low n && leb n high) (field-got width (must bad-number (between low high)) s at n next e .kept) in
-    (leb-true low n (and-left (leb low n) (leb n high) k), leb-true n high (and-right (leb low n) (leb n high) k))
 
 -- ---- a reading taken apart
 
@@ -92,19 +84,3 @@ module _ {A : Type 0} (p : Reader A) (test : A → Bool) (each : (image : List �
       let q : a ∷ as′ ≡ xs = cc in
       let ih : (every test as′ ≡ true) × (length as′ ≡ n) = times-all n image n₁ as′ n₂ e₂ in
       rw (← q) (rw (each image at a n₁ e₁) (ih .0), ap suc (ih .1))
-
--- n + 1 things were read: the first, and then the rest from where it ends. What a loop over the rules goes by
-pub record Cons {A : Type 0} (n : ℕ) (p : Reader A) (image : List ℕ) (at : ℕ) (x : A) (xs : List A) (end : ℕ) : Type 0 where
-  pub next : ℕ
-  pub first : p image at ≡ Got x next
-  pub rest : times n p image next ≡ Got xs end
-
-pub times-cons : {A : Type 0} (n : ℕ) (p : Reader A) (image : List ℕ) (at : ℕ) (x : A) (xs : List A) (end : ℕ)
-    → times (suc n) p image at ≡ Got (x ∷ xs) end → Cons n p image at x xs end
-unfolding times
-times-cons n p image at x xs end e =
-    split (p image at) _ e λ a n₁ e₁ k₁.
-    split (times n p image n₁) _ k₁ λ as′ n₂ e₂ k₂.
-    let q : a ≡ x = cc in
-    let r : Got as′ n₂ ≡ Got xs end = cc in
-    record { next = n₁; first = e₁ ∙ ap (λ v. Got v n₁) q; rest = e₂ ∙ r }

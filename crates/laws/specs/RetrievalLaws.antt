@@ -1,16 +1,16 @@
 -- What `retrieve` gives: the fitting fact of highest activation, the first among equals; nothing exactly if no fact fits.
 use mathlib.Core.Path.{_≡_, refl}
 use mathlib.Core.Logic.{_↔_}
-use mathlib.Core.Bool.{Bool, true, false, not}
+use mathlib.Core.Bool.{true, not}
 use mathlib.Core.List.{List}
-use mathlib.Core.Option.{Option, none, some}
+use mathlib.Core.Option.{none, some}
 use Prim.Native.Nat.{ℕ}
 use native.Mathlib.Omega.{arith}
 use borrow.Author.Tests.{ltb-true, ltb-false, lt-ltb}
 use Rattle.meaning.specs.Base.{every, keep}
 use Rattle.meaning.specs.Model.{Fact, Named}
 use Rattle.meaning.specs.Retrieval.{fits, weaker, retrieve}
-use Rattle.laws.specs.ListLaws.{keep-none, none-keep}
+use Rattle.laws.specs.BaseLaws.{keep-none, none-keep}
 use Rattle.laws.specs.HighestLaws.{Best, highest-best, highest-none}
 
 module _ (memory : List Fact) (isa : ℕ) (ns : List Named) (entry : List ℕ) where

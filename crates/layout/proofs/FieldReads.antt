@@ -10,43 +10,33 @@ use borrow.Author.Tests.{leb-true, leb-false, lt-leb, le-leb, le-ltb, lt-ltb}
 use Rattle.meaning.specs.Numbers.{bad-number, bad-variable}
 use Rattle.meaning.specs.Base.{if_then_else_}
 use Rattle.meaning.specs.Bits.{fieldAt}
-use Rattle.meaning.specs.Read.{Read, Refused, Got, field, must}
-use Rattle.meaning.specs.Image.{between, aTerm}
-use Rattle.laws.specs.ReadLaws.{field-short, field-broken, field-kept}
+use Rattle.meaning.specs.Read.{Refused, Got, field, must}
+use Rattle.meaning.specs.Image.{anything, between, aTerm}
+use Rattle.laws.specs.BaseLaws.{by-lt}
+use Rattle.laws.specs.ReadLaws.{field-short, field-broken, field-kept, field-got, no-got}
 use Rattle.layout.specs.Walks.{inRange}
-use Rattle.read_fields.specs.Field.{fieldOf}
-use Rattle.read_fields.specs.declared.Field.{Field}
-use Rattle.read_fields.specs.declared.Field.the-variants.{Value, Short}
 
 -- ---- a fetch and its reader
 
-value-says : (b : Bool) (n x : ℕ) → Value n ≡ (if b then Value x else Short) → (b ≡ true) × (n ≡ x)
-value-says true n x e = (refl, cc)
-value-says false n x e = let z : _≡_ {A = ℕ} 0 1 = cc in absurd (omega arith)
-
-short-says : (b : Bool) (x : ℕ) → Short ≡ (if b then Value x else Short) → b ≡ false
-short-says true x e = cc
-short-says false x e = refl
-
 module _ (s : List ℕ) (w p : ℕ) where
-  pub there : (n : ℕ) → Value n ≡ fieldOf s p w → p + w ≤ 8 * length s
-  there n e = leb-true (p + w) (8 * length s) (value-says (leb (p + w) (8 * length s)) n _ e .0)
+  pub there : (n : ℕ) → Got n (p + w) ≡ field w anything s p → p + w ≤ 8 * length s
+  there n e = field-got w anything s p n (p + w) (sym e) .there
 
-  pub is : (n : ℕ) → Value n ≡ fieldOf s p w → n ≡ fieldAt s p w
-  is n e = value-says (leb (p + w) (8 * length s)) n _ e .1
+  pub is : (n : ℕ) → Got n (p + w) ≡ field w anything s p → n ≡ fieldAt s p w
+  is n e = field-got w anything s p n (p + w) (sym e) .is
 
   module _ (rule : ℕ → ℕ) where
-    pub read-short : Short ≡ fieldOf s p w → field w rule s p ≡ Refused 2 p
-    read-short e = field-short w rule s p (leb-false (p + w) (8 * length s) (short-says (leb (p + w) (8 * length s)) _ e))
+    pub read-short : Refused 2 p ≡ field w anything s p → field w rule s p ≡ Refused 2 p
+    read-short e = by-lt (8 * length s) (p + w) (field-short w rule s p) (λ h. absurd (no-got 2 p _ _ (e ∙ field-kept w anything s p h refl)))
 
-    pub read-kept : (n : ℕ) → Value n ≡ fieldOf s p w → rule n ≡ 0 → field w rule s p ≡ Got n (p + w)
+    pub read-kept : (n : ℕ) → Got n (p + w) ≡ field w anything s p → rule n ≡ 0 → field w rule s p ≡ Got n (p + w)
     read-kept n e k = rw (is n e) (field-kept w rule s p (there n e) (rw (is n e) at k))
 
-    pub read-broken : (n m : ℕ) → Value n ≡ fieldOf s p w → rule n ≡ suc m → field w rule s p ≡ Refused (suc m) p
+    pub read-broken : (n m : ℕ) → Got n (p + w) ≡ field w anything s p → rule n ≡ suc m → field w rule s p ≡ Refused (suc m) p
     read-broken n m e k = field-broken w rule s p m (there n e) (rw (is n e) at k)
 
     -- a rule that gives the number of a refusal, whatever number it is
-    pub read-refused : (n m : ℕ) → Value n ≡ fieldOf s p w → rule n ≡ m → 0 < m → field w rule s p ≡ Refused m p
+    pub read-refused : (n m : ℕ) → Got n (p + w) ≡ field w anything s p → rule n ≡ m → 0 < m → field w rule s p ≡ Refused m p
     read-refused n zero e k h = absurd (omega arith)
     read-refused n (suc m) e k h = read-broken n m e k
 

@@ -58,9 +58,9 @@ map-below {A} f g p i (suc n) h =
       | false ↦ map-below f g p (i + 1) n (λ j l. h j (omega arith))
     ]
 
-pub map-count : {A : Type 0} (f g : ℕ → A) (i n : ℕ) → ((j : ℕ) → j < i + n → f j ≡ g j) → map f (upFrom i n) ≡ map g (upFrom i n)
-map-count f g i zero h = refl
-map-count {A} f g i (suc n) h = ap₂ (λ (y : A) (r : List A). y ∷ r) (h i (omega arith)) (map-count f g (i + 1) n (λ j l. h j (omega arith)))
+pub map-upFrom : {A : Type 0} (f g : ℕ → A) (i n : ℕ) → ((j : ℕ) → j < i + n → f j ≡ g j) → map f (upFrom i n) ≡ map g (upFrom i n)
+map-upFrom f g i zero h = refl
+map-upFrom {A} f g i (suc n) h = ap₂ (λ (y : A) (r : List A). y ∷ r) (h i (omega arith)) (map-upFrom f g (i + 1) n (λ j l. h j (omega arith)))
 
 module _ (w w′ : List ℕ) (o o′ : ℕ) (h : Alike w o w′ o′) where
   first-like : getD w o 0 ≡ getD w′ o′ 0
@@ -85,7 +85,7 @@ module _ (w w′ : List ℕ) (o o′ : ℕ) (h : Alike w o w′ o′) where
   fact-like =
       rw (first-like, h 1 (omega arith), h 2 (omega arith))
       (ap (λ (l : List ℕ). record { chunk = record { isa = getD w′ o′ 0; slots = l }; activation = getD w′ (o′ + 1) 0; latency = getD w′ (o′ + 2) 0 })
-      (map-count (λ b. getD w (o + 3 + b) 0) (λ b. getD w′ (o′ + 3 + b) 0) 0 8 slot-like))
+      (map-upFrom (λ b. getD w (o + 3 + b) 0) (λ b. getD w′ (o′ + 3 + b) 0) 0 8 slot-like))
 
   pub test-like : testIn w o ≡ testIn w′ o′
   test-like = ap₂ (λ (x : ℕ) (k : ℕ). record { buffer = x % 8; isa = k; named = maskedIn w o }) first-like (h 1 (omega arith)) ∙ ap (λ (l : List Named). record { buffer = getD w′ o′ 0 % 8; isa = getD w′ (o′ + 1) 0; named = l }) masked-like

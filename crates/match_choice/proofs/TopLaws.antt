@@ -6,7 +6,7 @@ use mathlib.Core.List.{List}
 use native.Mathlib.Omega.{arith}
 use lib.ListN.{length, getD, set}
 use lib.Seq.{getD-set-same, getD-set-other}
-use Rattle.laws.specs.WindowLaws.{by-lt}
+use Rattle.laws.specs.BaseLaws.{by-lt}
 use Rattle.match_choice.specs.Ranks.{rankAt, Matching, Holds, Top, Ends, Led}
 
 module _ (heads table : List ℕ) (a : ℕ) where

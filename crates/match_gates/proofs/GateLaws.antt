@@ -13,7 +13,7 @@ use Rattle.meaning.specs.Base.{if_then_else_}
 use Rattle.meaning.specs.Model.{Rule}
 use Rattle.meaning.specs.State.{nothing}
 use Rattle.meaning.specs.Match.{entryOf}
-use Rattle.laws.specs.WindowLaws.{by-lt}
+use Rattle.laws.specs.BaseLaws.{by-lt}
 use Rattle.layout.specs.Rows.{wordTerm, testsIn, ruleIn}
 use Rattle.layout.specs.StateWords.{buffersIn, stateIn}
 use Rattle.layout.proofs.StateLaws.{slot-is}

@@ -16,7 +16,7 @@ use Rattle.meaning.specs.Model.{Term, Symbol, Variable, Named, Test, Rule}
 use Rattle.meaning.specs.State.{bufferOf}
 use Rattle.meaning.specs.Image.{isVariable, slotsIn}
 use Rattle.meaning.specs.Match.{Place, place, places, valueIn, agrees, agreed, shows, matches, entryOf}
-use Rattle.laws.specs.PlaceLaws.{stands, stands-more, value-seen, value-new, value-other, agrees-seen, agrees-new, agreedFrom, agreed-walk}
+use Rattle.laws.specs.MatchLaws.{stands, stands-more, value-seen, value-new, value-other, agrees-seen, agrees-new, agreedFrom, agreed-walk}
 use Rattle.layout.specs.Rows.{rowsIn, wordTerm, namedIn, testsIn}
 use Rattle.match_rule.specs.Run.{Vars, Run, stop, on, thenOn, bind, termRun, termsRun, testRun, testsRun, noVars, entryWords}
 use Rattle.match_rule.proofs.TestLaws.{testsFrom}

@@ -11,7 +11,7 @@ use lib.Seq.{getD-set-same, getD-set-other, getD-take, getD-drop, getD-append-ad
 use Rattle.meaning.specs.declared.State.{State}
 use Rattle.meaning.specs.Model.{Rule}
 use Rattle.meaning.specs.Refresh.{testsMarked}
-use Rattle.laws.specs.WindowLaws.{by-lt}
+use Rattle.laws.specs.BaseLaws.{by-lt}
 use Rattle.layout.specs.Rows.{ruleIn, Laid}
 use Rattle.match_choice.specs.Ranks.{Top, Ends, Led}
 use Rattle.match_choice.proofs.TopLaws.{ends-once}

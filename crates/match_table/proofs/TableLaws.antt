@@ -12,10 +12,9 @@ use Rattle.meaning.specs.Base.{if_then_else_, anyOf, keep, admit, bit, upFrom}
 use Rattle.meaning.specs.Model.{Rule, Test}
 use Rattle.meaning.specs.Match.{entryOf, freshTable}
 use Rattle.meaning.specs.Refresh.{testsMarked, refresh, refreshCount}
-use Rattle.laws.specs.BoolLaws.{no-true}
-use Rattle.laws.specs.WindowLaws.{by-lt}
-use Rattle.laws.specs.EntryLaws.{entry-length}
-use Rattle.laws.specs.MarkLaws.{LowBuffers, meets, misses}
+use Rattle.laws.specs.BaseLaws.{no-true, by-lt}
+use Rattle.laws.specs.MatchLaws.{entry-length}
+use Rattle.laws.specs.RefreshLaws.{LowBuffers, meets, misses}
 use Rattle.layout.specs.Rows.{rowsIn, testIn, testsIn, ruleIn, rulesIn, Laid}
 use Rattle.layout.proofs.RowLaws.{rows-left}
 use Rattle.match_table.specs.Entries.{withEntry, doing}
@@ -125,11 +124,6 @@ module _ (rule : ℕ → Rule) (mark n : ℕ) where
     pub counting-other : testsMarked mark (rule k) ≡ false → counting (k + 1) c ≡ counting k c
     unfolding counting refreshCount
     counting-other m = rw (this, m)
-
-  -- no more are counted than there are rules
-  pub counting-low : (k c : ℕ) → k ≤ n → counting k c ≡ refreshCount (rowsIn rule 0 n) mark → c ≤ refreshCount (rowsIn rule 0 n) mark
-  unfolding counting
-  counting-low k c h e = omega arith
 
 -- ---- the mark against the mask of tested buffers
 

@@ -8,7 +8,7 @@ use native.Mathlib.Decide.{ℕ-discrete}
 use lib.Bits.{bitAnd, bitOr, and-step, or-step, or-comm, and-zero-l}
 use lib.ListN.{length, getD, set}
 use lib.Seq.{getD-set-same, getD-set-other}
-use Rattle.laws.specs.WindowLaws.{by-lt}
+use Rattle.laws.specs.BaseLaws.{by-lt}
 use Rattle.match_table.specs.Unions.{InBlock, UnitedBelow}
 
 digit : (x y z : ℕ) → min (max x y) z ≡ 0 → min x z ≡ 0

@@ -16,7 +16,7 @@ use Rattle.meaning.specs.Match.{freshTable}
 use Rattle.meaning.specs.Refresh.{refresh, refreshCount}
 use Rattle.meaning.specs.Run.{Timed}
 use Rattle.meaning.specs.Calls.{tableLength, openState, openOf, Ran, traceOf, runOf, Refreshed, refreshOf}
-use Rattle.laws.specs.EntryLaws.{fresh-length}
+use Rattle.laws.specs.MatchLaws.{fresh-length}
 use Rattle.promises.specs.Words.{RefreshedTo, Machine, Reached}
 use Rattle.promises.specs.Sentences.{Taken, Given, AfterOpen, AfterRun, AfterRefresh, RanTo}
 use Rattle.promises.specs.Published.{Transitions, Ended}

@@ -9,8 +9,8 @@ use Rattle.meaning.specs.Numbers.{bad-buffer}
 use Rattle.meaning.specs.Model.{Test, Named, Deed, Action, Sizes}
 use Rattle.meaning.specs.Read.{Read, Refused, Got, follow, field, must}
 use Rattle.meaning.specs.Image.{aBuffer, kindRule, deed, action, actions}
+use Rattle.laws.specs.BitsLaws.{fieldAt-lt}
 use Rattle.laws.specs.ReadLaws.{FieldRead, field-got, follow-follow}
-use Rattle.laws.specs.FieldLaws.{fieldAt-lt}
 use Rattle.layout.specs.declared.Walk.{Walk}
 use Rattle.layout.specs.declared.Walk.the-variants.{Next, Bad}
 use Rattle.layout.specs.Walks.{answer}

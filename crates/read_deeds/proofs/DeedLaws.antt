@@ -11,9 +11,9 @@ use Rattle.meaning.specs.Numbers.{bad-number}
 use Rattle.meaning.specs.Model.{Test, Named, Deed, Modify, Request, Sizes}
 use Rattle.meaning.specs.Read.{Read, Refused, Got, follow, field, must}
 use Rattle.meaning.specs.Image.{aType, kindRule, isTested, testedType, masked, deed}
-use Rattle.laws.specs.BoolLaws.{and-left}
+use Rattle.laws.specs.BaseLaws.{and-left}
+use Rattle.laws.specs.BitsLaws.{fieldAt-lt}
 use Rattle.laws.specs.ReadLaws.{FieldRead, field-got, must-kept}
-use Rattle.laws.specs.FieldLaws.{fieldAt-lt}
 use Rattle.layout.specs.declared.Walk.{Walk}
 use Rattle.layout.specs.declared.Walk.the-variants.{Next, Bad}
 use Rattle.layout.specs.Walks.{answer}

@@ -11,7 +11,7 @@ use Rattle.meaning.specs.Numbers.{bad-number}
 use Rattle.meaning.specs.Model.{Chunk, Fact}
 use Rattle.meaning.specs.Read.{Read, Refused, Got, follow, times, field, must}
 use Rattle.meaning.specs.Image.{eight, anything, aType, chunk, fact}
-use Rattle.laws.specs.BoolLaws.{and-right}
+use Rattle.laws.specs.BaseLaws.{and-right}
 use Rattle.laws.specs.ReadLaws.{field-got, must-kept}
 use Rattle.layout.specs.declared.Walk.{Walk}
 use Rattle.layout.specs.declared.Walk.the-variants.{Next, Bad}

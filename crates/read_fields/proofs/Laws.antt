@@ -7,7 +7,7 @@ use lib.ListN.{getD}
 use lib.Bits.{bitAnd, bitOr, or-shifted, and-mask}
 use lib.Pow.{pow-mono}
 use Rattle.meaning.specs.Bits.{fieldAt}
-use Rattle.laws.specs.WindowLaws.{window, field-in}
+use Rattle.laws.specs.BitsLaws.{window, field-in}
 
 -- the three bytes put together by shifts
 window-or : (a b c : ℕ) → a < 2 ^ 8 → b < 2 ^ 8 → c < 2 ^ 8 → bitOr (bitOr (a * 2 ^ 16 % 2 ^ 32) (b * 2 ^ 8 % 2 ^ 32)) c ≡ (a * 2 ^ 8 + b) * 2 ^ 8 + c

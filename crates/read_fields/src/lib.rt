@@ -3,7 +3,9 @@ ghost use mathlib.Core.Path.{_≡_};
 ghost use Prim.Native.Nat.{_+_, _*_, _^_, _≤_, _<_};
 ghost use lib.ListN.{length, getD};
 ghost use Rattle.meaning.specs.Bits.{fieldAt};
-ghost use Rattle.read_fields.specs.Field.{fieldOf};
+ghost use Rattle.meaning.specs.Read.{field};
+ghost use Rattle.meaning.specs.Image.{anything};
+ghost use Rattle.read_fields.specs.Field.{fetched};
 
 // A field, or that it is not wholly there.
 pub enum Field {
@@ -35,7 +37,7 @@ pub fn bits(image: &[u8], at: usize, width: usize) -> u16
 // The field of `width` bits at bit `at`, or that it is not wholly there.
 pub fn field_at(image: &[u8], at: usize, width: usize) -> Field
     requires { ⌜ (width ≤ 16) × (at ≤ 2 ^ 32) × (length (now image) ≤ 65536) ⌝ }
-    ensures { λ r. ⌜ r ≡ fieldOf (now (image .entry)) at width ⌝ }
+    ensures { λ r. ⌜ fetched r at width ≡ field width anything (now (image .entry)) at ⌝ }
 {
     if at + width <= 8 * image.len() {
         Field::Value(bits(image, at, width))

@@ -5,7 +5,8 @@ use mathlib.Core.List.{List}
 use Rattle.meaning.specs.Numbers.{bad-number}
 use Rattle.meaning.specs.Read.{Got, field, must}
 use Rattle.meaning.specs.Image.{Header, header, between, anything}
-use Rattle.laws.specs.ReadLaws.{between-got, split}
+use Rattle.laws.specs.ReadLaws.{split}
+use Rattle.laws.specs.ImageLaws.{between-got}
 use Rattle.layout.specs.declared.Walk.{Walk}
 use Rattle.layout.specs.Walks.{answer, inRange}
 use Rattle.layout.proofs.FieldReads.{field-between}

@@ -12,7 +12,7 @@ use Rattle.meaning.specs.State.{nilAfter}
 use Rattle.meaning.specs.Read.{Got, field, times}
 use Rattle.meaning.specs.Image.{aType, anything, eight, chunk}
 use Rattle.meaning.specs.Calls.{opens}
-use Rattle.laws.specs.FieldLaws.{fieldAt-lt}
+use Rattle.laws.specs.BitsLaws.{fieldAt-lt}
 use Rattle.laws.specs.ReadLaws.{field-got, split}
 use Rattle.layout.specs.Walks.{Small}
 use Rattle.read_facts.specs.Made.{aChunk}

@@ -57,12 +57,12 @@ rest-some m b h = go (8 - b) refl h
     go zero e l = absurd (omega arith)
     go (suc n) e l = omega arith
 
-count-more : (i n : ℕ) → upFrom i (n + 1) ≡ upFrom i n ++ ((i + n) ∷ [])
-count-more i zero = let e : i + 0 ≡ i = omega arith in rw e
-count-more i (suc n) =
+upFrom-more : (i n : ℕ) → upFrom i (n + 1) ≡ upFrom i n ++ ((i + n) ∷ [])
+upFrom-more i zero = let e : i + 0 ≡ i = omega arith in rw e
+upFrom-more i (suc n) =
     let e : suc n + 1 ≡ suc (n + 1) = omega arith in
     let g : i + suc n ≡ i + 1 + n = omega arith in
-    rw (e, g) (ap (λ (l : List ℕ). i ∷ l) (count-more (i + 1) n))
+    rw (e, g) (ap (λ (l : List ℕ). i ∷ l) (upFrom-more (i + 1) n))
 
 keep-append : (p : ℕ → Bool) (xs ys : List ℕ) → keep p (xs ++ ys) ≡ keep p xs ++ keep p ys
 keep-append p [] ys = refl
@@ -74,7 +74,7 @@ keep-append p (x ∷ xs) ys =
 
 below-cons : (m b : ℕ) (u : Bool) → names m b ≡ u → below m (b + 1) ≡ below m b ++ admit u b []
 unfolding below
-below-cons m b u e = let z : 0 + b ≡ b = omega arith in rw (count-more 0 b, z, keep-append, e)
+below-cons m b u e = let z : 0 + b ≡ b = omega arith in rw (upFrom-more 0 b, z, keep-append, e)
 
 pub below-on : (m b : ℕ) → names m b ≡ true → below m (b + 1) ≡ below m b ++ (b ∷ [])
 below-on m b e = below-cons m b true e
@@ -86,7 +86,7 @@ below-off m b e = below-cons m b false e ∙ append-nil (below m b)
 pub below-all : (m b : ℕ) → b ≤ 8 → rest m b ≡ [] → below m b ≡ slotsIn m
 unfolding below rest slotsIn
 below-all m b h e =
-    let s : upFrom 0 8 ≡ upFrom 0 b ++ upFrom b (8 - b) = ap (upFrom 0) (split-at b h) ∙ count-split 0 b (8 - b) ∙ ap (λ (k : ℕ). upFrom 0 b ++ upFrom k (8 - b)) (zero-left b) in
+    let s : upFrom 0 8 ≡ upFrom 0 b ++ upFrom b (8 - b) = ap (upFrom 0) (split-at b h) ∙ upFrom-split 0 b (8 - b) ∙ ap (λ (k : ℕ). upFrom 0 b ++ upFrom k (8 - b)) (zero-left b) in
     let p : ℕ → Bool = names m in
     sym (append-nil (keep p (upFrom 0 b))) ∙ ap (λ (l : List ℕ). keep p (upFrom 0 b) ++ l) (sym e) ∙ sym (keep-append p (upFrom 0 b) (upFrom b (8 - b))) ∙ ap (keep p) (sym s)
   where
@@ -96,12 +96,12 @@ below-all m b h e =
     zero-left : (k : ℕ) → 0 + k ≡ k
     zero-left k = omega arith
 
-    count-split : (i k n : ℕ) → upFrom i (k + n) ≡ upFrom i k ++ upFrom (i + k) n
-    count-split i zero n = let e : 0 + n ≡ n = omega arith in let g : i + 0 ≡ i = omega arith in rw (e, g)
-    count-split i (suc k) n =
+    upFrom-split : (i k n : ℕ) → upFrom i (k + n) ≡ upFrom i k ++ upFrom (i + k) n
+    upFrom-split i zero n = let e : 0 + n ≡ n = omega arith in let g : i + 0 ≡ i = omega arith in rw (e, g)
+    upFrom-split i (suc k) n =
         let e : suc k + n ≡ suc (k + n) = omega arith in
         let g : i + suc k ≡ i + 1 + k = omega arith in
-        rw (e, g) (ap (λ (l : List ℕ). i ∷ l) (count-split (i + 1) k n))
+        rw (e, g) (ap (λ (l : List ℕ). i ∷ l) (upFrom-split (i + 1) k n))
 
 pub none-left : (l : List ℕ) → length l ≡ 0 → l ≡ []
 none-left [] e = refl

@@ -11,7 +11,7 @@ use Rattle.meaning.specs.Model.{Named, Test}
 use Rattle.meaning.specs.State.{slotCount}
 use Rattle.meaning.specs.Read.{Refused, Got, field, must}
 use Rattle.meaning.specs.Image.{aBuffer, aType, masked, test}
-use Rattle.laws.specs.BoolLaws.{and-right}
+use Rattle.laws.specs.BaseLaws.{and-right}
 use Rattle.laws.specs.ReadLaws.{FieldRead, field-got, must-kept}
 use Rattle.layout.specs.declared.Walk.{Walk}
 use Rattle.layout.specs.declared.Walk.the-variants.{Next, Bad}

@@ -5,7 +5,7 @@ use mathlib.Core.List.{List}
 use native.Mathlib.Omega.{arith}
 use lib.ListN.{length, getD, set, length-set}
 use lib.Seq.{getD-set-same, getD-set-other}
-use Rattle.laws.specs.WindowLaws.{by-lt}
+use Rattle.laws.specs.BaseLaws.{by-lt}
 use Rattle.step_retrieve.specs.Chains.{chainOf, Leap, Chained}
 
 pub by-same : {C : Type 0} (a b : ℕ) → (a ≡ b → C) → ((a ≡ b → ⊥) → C) → C

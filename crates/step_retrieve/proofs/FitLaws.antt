@@ -11,7 +11,7 @@ use borrow.Author.Tests.{eq-eqb, ne-eqb}
 use Rattle.meaning.specs.Base.{every}
 use Rattle.meaning.specs.Image.{slotsIn}
 use Rattle.meaning.specs.Retrieval.{valueOf, fits}
-use Rattle.laws.specs.ListLaws.{all-map}
+use Rattle.laws.specs.BaseLaws.{every-map}
 use Rattle.layout.specs.Rows.{rowsIn, wordTerm, namedIn, maskedIn, factIn}
 use Rattle.layout.proofs.RowLaws.{rows-get}
 use Rattle.read_terms.proofs.MaskBits.{names-on, names-off, rest, rest-start, rest-on, rest-off, rest-end}
@@ -41,7 +41,7 @@ module _ (facts : List ℕ) (f : ℕ) (words : List ℕ) (q : ℕ) (nine : List 
   unfolding fitsFrom
   fits-start e =
       rw (eq-eqb (getD facts f 0) (getD words (q + 1) 0) e, rest-start (getD words (q + 2) 0))
-      (sym (all-map (λ n. eqb (getD (factIn facts f .chunk .slots) (n .slot) 0) (valueOf nine (n .term))) (namedIn words q) (slotsIn (getD words (q + 2) 0))))
+      (sym (every-map (λ n. eqb (getD (factIn facts f .chunk .slots) (n .slot) 0) (valueOf nine (n .term))) (namedIn words q) (slotsIn (getD words (q + 2) 0))))
 
   pub fits-end : (mask b : ℕ) → 8 ≤ b → true ≡ fitsFrom mask b
   unfolding fitsFrom

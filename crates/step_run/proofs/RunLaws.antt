@@ -82,7 +82,9 @@ module _ (m : Model) (n : ℕ) (w₀ : List ℕ) (clock : ℕ) (table₀ lent₀
       -- no step is made: the state's words are as they were
       pub going-stop : t .kind ≡ 2 → w′ ≡ w → (number : ℕ) → number ≡ t .value → WentMet (record { number = number; clock = now; made = made }) m w₀ w′ clock table₀ table n lent₀ lent
       going-stop k ew number en =
-          let s : Stopped number ≡ stepOf m (stateIn w now) table = ap Stopped en ∙ sym (ap (λ (x : Bool). if x then Stopped (t .value) else Made (eventBy (t .kind) (t .value)) (stateIn w′ (now + t .elapsed)) (t .mark)) (eq-eqb (t .kind) 2 k)) ∙ e in
+          let made′ : Step = Made (eventBy (t .kind) (t .value)) (stateIn w′ (now + t .elapsed)) (t .mark) in
+          let told : Stopped (t .value) ≡ stepOf m (stateIn w now) table = sym (ap (λ (x : Bool). if x then Stopped (t .value) else made′) (eq-eqb (t .kind) 2 k)) ∙ e in
+          let s : Stopped number ≡ stepOf m (stateIn w now) table = ap Stopped en ∙ told in
           rw ew (from-ends (runFrom m n (going (stateIn w₀ clock) table₀)) lent₀ made lent number here (one (Stopped number) s))
 
       pub going-turn : (t .kind ≡ 2 → ⊥) → t .kind ≤ 2 → (table′ lent′ : List ℕ) → table′ ≡ refresh (m .rules) (stateIn w′ (now + t .elapsed)) (t .mark) table

@@ -15,7 +15,7 @@ use Rattle.meaning.specs.State.{nothing}
 use Rattle.meaning.specs.Fire.{change}
 use Rattle.meaning.specs.Mark.{actedOn, markOf}
 use Rattle.layout.specs.StateWords.{bufferIn, buffersIn, stateIn}
-use Rattle.layout.proofs.RowLaws.{rows-length, map-count}
+use Rattle.layout.proofs.RowLaws.{rows-length, map-upFrom}
 use Rattle.layout.proofs.StateLaws.{buffer-is, buffer-like, anew, anew-start, anew-turn, anew-end}
 use Rattle.step_wait.specs.Remade.{Remade, arrives}
 use Rattle.step_wait.proofs.MarkLaws.{marking, marking-start, marking-on, marking-off, marking-fits, marking-end}
@@ -89,7 +89,7 @@ module _ {anewly : ℕ → Buffer → Buffer} {acted : ℕ → Bool} {w w′ : L
         marking-end (marks anewly acted w) k mark weight h
         ∙ g .marked
         ∙ rw (rows-length (bufferIn w) 0 8, going-made, a)
-        (ap weigh (map-count (marks anewly (actedOn as′) w) (λ b. actedOn as′ b || arrives (getD (buffersIn w) b nothing) (getD (change anewly 0 (buffersIn w)) b nothing)) 0 8 (λ b l.
+        (ap weigh (map-upFrom (marks anewly (actedOn as′) w) (λ b. actedOn as′ b || arrives (getD (buffersIn w) b nothing) (getD (change anewly 0 (buffersIn w)) b nothing)) 0 8 (λ b l.
         let z : 0 + b ≡ b = omega arith in
         let n : b < length (buffersIn w) = omega (arith, rows-length (bufferIn w) 0 8) in
         rw (change-get anewly 0 (buffersIn w) b n, z, buffer-is w b l))))

@@ -4,7 +4,7 @@ use native.Mathlib.Omega.{arith}
 use lib.ListN.{replicate}
 use lib.Seq.{length-take-le}
 use Rattle.actr.proofs.WrittenLaws.{written-first, written-counts}
-use Rattle.laws.specs.SizeLaws.{table-most}
+use Rattle.laws.specs.CallsLaws.{table-most}
 use borrow.Author.Needs.{needs}
 use Rattle.actr.proofs.print.Statement.{statement}
 use Rattle.actr.proofs.print.Tie as tie
@@ -19,10 +19,16 @@ array-borrow-prefix-room : tie.Need-array-borrow-prefix-room
 array-borrow-prefix-room c = omega (arith, c .table-length .ensures, table-most (c .before .before .args .image .now))
 
 slice-aggregate-print-model : tie.Need-slice-aggregate-print-model
-slice-aggregate-print-model c = sym (length-take-le (c .before .table-length .result) (replicate 2304 0) (omega (arith, c .before .table-length .ensures, table-most (c .before .before .before .args .image .now))))
+slice-aggregate-print-model c =
+    let a = c .before .before .before .args in
+    let t = c .before .table-length in
+    sym (length-take-le (t .result) (replicate 2304 0) (omega (arith, t .ensures, table-most (a .image .now))))
 
 print-model-requires : tie.Need-print-model-requires
-print-model-requires c κs = (length-take-le (c .before .before .table-length .result) (replicate 2304 0) (omega (arith, c .before .before .table-length .ensures, table-most (c .before .before .before .before .args .image .now))) ∙ c .before .before .table-length .ensures, search needs)
+print-model-requires c κs =
+    let a = c .before .before .before .before .args in
+    let t = c .before .before .table-length in
+    (length-take-le (t .result) (replicate 2304 0) (omega (arith, t .ensures, table-most (a .image .now))) ∙ t .ensures, search needs)
 
 returns : tie.Need-returns
 returns c =

@@ -12,7 +12,10 @@ is-small-requires : tie.Need-is-small-requires
 is-small-requires c κs = search needs
 
 run-small-requires : tie.Need-run-small-requires
-run-small-requires c κs = (c .before .before .before .before .begin .ensures, small-by (c .before .before .before .before .begin .result) (c .before .before .before .is-small .result) (c .before .before .before .is-small .ensures) (c .before .before .if1 .taken))
+run-small-requires c κs =
+    let begin = c .before .before .before .before .begin in
+    let small = c .before .before .before .is-small in
+    (begin .ensures, small-by (begin .result) (small .result) (small .ensures) (c .before .before .if1 .taken))
 
 run-large-requires : tie.Need-run-large-requires
 run-large-requires c κs = search needs

@@ -7,7 +7,7 @@ use native.Mathlib.Omega.{arith}
 use lib.ListN.{length, getD}
 use borrow.Author.Needs.{needs}
 use Rattle.meaning.specs.Match.{entryOf}
-use Rattle.laws.specs.EntryLaws.{entry-length}
+use Rattle.laws.specs.MatchLaws.{entry-length}
 use Rattle.layout.specs.Rows.{ruleIn}
 use Rattle.layout.specs.StateWords.{stateIn}
 use Rattle.match_choice.specs.Ranks.{Top}

@@ -15,13 +15,10 @@ use Rattle.meaning.specs.Read.{Got, Reader, field, require, rising, must}
 use Rattle.meaning.specs.Image.{anything, between, aType, aBuffer, aMask, aTerm, kindRule, Header, header, chunk, fact, slotsIn, termOf, terms, masked}
 use Rattle.meaning.specs.Image.{tests, standsIn, isTested, testedType, deed, action, actions, utilityOf, head, body, rule, decode}
 use Rattle.meaning.specs.Calls.{opens}
-use Rattle.laws.specs.BoolLaws.{no-true, and-left, and-right}
-use Rattle.laws.specs.FieldLaws.{fieldAt-lt}
-use Rattle.laws.specs.ListLaws.{every-count}
-use Rattle.laws.specs.ReadLaws.{no-got, FieldRead, field-got, must-kept, between-got, split, times-all}
-use Rattle.laws.specs.WindowLaws.{by-lt}
-use Rattle.laws.specs.OpenLaws.{chunk-well}
-use Rattle.laws.specs.PartsLaws.{Parts, parts, head-fits}
+use Rattle.laws.specs.BaseLaws.{no-true, and-left, and-right, every-upFrom, by-lt}
+use Rattle.laws.specs.BitsLaws.{fieldAt-lt}
+use Rattle.laws.specs.ReadLaws.{no-got, FieldRead, field-got, must-kept, times-all, split}
+use Rattle.laws.specs.ImageLaws.{between-got, chunk-well, Parts, parts, head-fits}
 
 pub and-true : (a b : Bool) → a ≡ true → b ≡ true → (a && b) ≡ true
 and-true true b p q = q
@@ -75,7 +72,7 @@ or-else false b e h = absurd (no-true (sym e))
 mask-low : (slots mask : ℕ) → slots < 9 → mask < 256 → mask % 2 ^ (8 - slots) ≡ 0 → (every (λ x. ltb x slots) (slotsIn mask) && rises (λ x. x) 0 (slotsIn mask)) ≡ true
 mask-low slots mask h l e =
     or-else (eqb (mask % 2 ^ (8 - slots)) 0) _ (eq-eqb (mask % 2 ^ (8 - slots)) 0 e)
-    (every-count (maskRight slots) 0 256 (every-count (λ k. every (maskRight k) (upFrom 0 256)) 0 9 masks-right slots (omega arith) (omega arith)) mask (omega arith) (omega arith))
+    (every-upFrom (maskRight slots) 0 256 (every-upFrom (λ k. every (maskRight k) (upFrom 0 256)) 0 9 masks-right slots (omega arith) (omega arith)) mask (omega arith) (omega arith))
 
 mask-slots : (slots mask : ℕ) → mask < 256 → mask % 2 ^ (8 - slots) ≡ 0 → (every (λ x. ltb x slots) (slotsIn mask) ≡ true) × (rises (λ x. x) 0 (slotsIn mask) ≡ true)
 mask-slots slots mask l e =
@@ -101,7 +98,7 @@ module _ (ts : List Test) (variables : ℕ) (few : variables ≤ 8) (stood : eve
         | true ↦ λ b. le-leb t 4095 (omega (arith, ltb-true t 4096 b))
         | false ↦ λ b.
             let l : 4096 ≤ t = ltb-false t 4096 b in
-            and-true (ltb (t - 4096) 8) (standsIn ts (t - 4096)) (lt-ltb (t - 4096) 8 (omega arith)) (every-count (standsIn ts) 0 variables stood (t - 4096) (omega arith) (omega arith))
+            and-true (ltb (t - 4096) 8) (standsIn ts (t - 4096)) (lt-ltb (t - 4096) 8 (omega arith)) (every-upFrom (standsIn ts) 0 variables stood (t - 4096) (omega arith) (omega arith))
       ]) refl
 
   terms-good : (k : ℕ) (slots : List ℕ) (least : ℕ) → every (λ x. ltb x k) slots ≡ true → rises (λ x. x) least slots ≡ true

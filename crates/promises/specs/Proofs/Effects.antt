@@ -20,8 +20,7 @@ use Rattle.meaning.specs.Image.{isTested, testedType}
 use Rattle.meaning.specs.Match.{entryOf}
 use Rattle.meaning.specs.Retrieval.{valueOf, retrieve, retrieved}
 use Rattle.meaning.specs.Fire.{put, done}
-use Rattle.laws.specs.BoolLaws.{and-left, and-right}
-use Rattle.laws.specs.ListLaws.{all-member}
+use Rattle.laws.specs.BaseLaws.{and-left, and-right, every-member}
 use Rattle.promises.specs.Words.{At}
 use Rattle.promises.specs.Published.{standsFor, Binds, Modified, Fits, Retrieved, Effect, modify, request, fail, clear}
 use Rattle.promises.specs.Proofs.Decoded.{rises, goodTerm, goodNamed, goodNames, goodDeed}
@@ -97,7 +96,7 @@ module _ (m : Model) (r : Rule) (s : State) (v : ℕ → ℕ) (binds : Binds r s
   entry = entryOf r s
 
   same-values : (k : ℕ) (ns : List Named) → every (goodNamed (r .tests) k) ns ≡ true → (n : Named) → List·Memᴰ n ns → valueOf entry (n .term) ≡ standsFor v (n .term)
-  same-values k ns g n h = value-binds r s v binds (n .term) (and-right (ltb (n .slot) k) (goodTerm (r .tests) (n .term)) (all-member (goodNamed (r .tests) k) ns g h))
+  same-values k ns g n h = value-binds r s v binds (n .term) (and-right (ltb (n .slot) k) (goodTerm (r .tests) (n .term)) (every-member (goodNamed (r .tests) k) ns g h))
 
   -- the parts of what is known of the names
   good-all : (k : ℕ) (ns : List Named) → goodNames (r .tests) k ns ≡ true → every (goodNamed (r .tests) k) ns ≡ true

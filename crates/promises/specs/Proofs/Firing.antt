@@ -20,8 +20,7 @@ use Rattle.meaning.specs.Choice.{Candidate, candidates}
 use Rattle.meaning.specs.Fire.{later, after, done, deedOn, fire}
 use Rattle.meaning.specs.Wait.{wait}
 use Rattle.meaning.specs.Step.{Event, Fired, Waited, Made, step}
-use Rattle.laws.specs.BoolLaws.{and-left, and-right}
-use Rattle.laws.specs.ListLaws.{all-member}
+use Rattle.laws.specs.BaseLaws.{and-left, and-right, every-member}
 use Rattle.laws.specs.ChoiceLaws.{Chosen, choose-best}
 use Rattle.promises.specs.Words.{At, Matching}
 use Rattle.promises.specs.Proofs.Marks.{getD-change}
@@ -31,7 +30,7 @@ use Rattle.promises.specs.Proofs.Steps.{FiredBy, WaitedBy, step-fired, s
 pub matches-tests : (r : Rule) (s : State) → matches r s ≡ true → (t : Test) → List·Memᴰ t (r .tests) → shows t (bufferOf s (t .buffer)) ≡ true
 unfolding matches
 matches-tests r s h t at =
-    all-member (λ t. shows t (bufferOf s (t .buffer))) (r .tests) (and-left (every (λ t. shows t (bufferOf s (t .buffer))) (r .tests)) (agreed (places (r .tests) s)) h) at
+    every-member (λ t. shows t (bufferOf s (t .buffer))) (r .tests) (and-left (every (λ t. shows t (bufferOf s (t .buffer))) (r .tests)) (agreed (places (r .tests) s)) h) at
 
 module _ (m : Model) (memory : List Fact) (us : List ℤ) (s : State) (table : List ℕ) (k : ℕ) (s′ : State) (mark : ℕ)
     (made : step m memory us s table ≡ Made (Fired k) s′ mark) where

@@ -23,13 +23,13 @@ use Rattle.meaning.specs.Fire.{put, done, later, deedOn, after, change, fire}
 use Rattle.meaning.specs.Wait.{wait}
 use Rattle.meaning.specs.Step.{Event, Fired, Waited, Made, largest, stepOf}
 use Rattle.meaning.specs.Calls.{opens, openState}
-use Rattle.laws.specs.BoolLaws.{and-left, and-right}
-use Rattle.laws.specs.FieldLaws.{fieldAt-lt}
-use Rattle.laws.specs.ListLaws.{all-append, all-replicate, all-member, keep-member}
-use Rattle.laws.specs.ReadLaws.{FieldRead, field-got, between-got, split, times-all}
+use Rattle.laws.specs.BaseLaws.{and-left, and-right, every-append, every-replicate, every-member, keep-member}
+use Rattle.laws.specs.BitsLaws.{fieldAt-lt}
+use Rattle.laws.specs.ReadLaws.{FieldRead, field-got, times-all, split}
+use Rattle.laws.specs.ImageLaws.{between-got}
 use Rattle.laws.specs.HighestLaws.{Best}
 use Rattle.laws.specs.RetrievalLaws.{retrieve-best}
-use Rattle.laws.specs.OpenLaws.{open-well}
+use Rattle.laws.specs.CallsLaws.{open-well}
 use Rattle.promises.specs.Words.{isWord, isBuffer, Machine, Reached}
 use Rattle.promises.specs.Proofs.Decoded.{decoded, and-true, all-weaken}
 use Rattle.promises.specs.Proofs.Numbers.{decode-got}
@@ -153,7 +153,7 @@ module _ (m : Model) (fit : Fit m) (entry : List ℕ) where
   retrieved-rough isa ns (some f) e =
       let b : Best weaker (keep (fits isa ns entry) (m .facts)) f = retrieve-best (m .facts) isa ns entry f e in
       let h : List·Memᴰ f (keep (fits isa ns entry) (m .facts)) = rw (b .split) (Memᴰ·append-right (b .before) (List·Memᴰ·head refl)) in
-      let g : factFit f ≡ true = all-member factFit (m .facts) (fit .facts-fit) (keep-member (fits isa ns entry) (m .facts) h .0) in
+      let g : factFit f ≡ true = every-member factFit (m .facts) (fit .facts-fit) (keep-member (fits isa ns entry) (m .facts) h .0) in
       let c : chunkFit (f .chunk) ≡ true = and-left (chunkFit (f .chunk)) (isWord (f .latency)) g in
       rough-made (f .chunk .isa) (f .chunk .slots) (f .latency) (eqb-true (length (f .chunk .slots)) 8 (and-left (eqb (length (f .chunk .slots)) 8) (isWord (f .chunk .isa)) c))
       (and-right (eqb (length (f .chunk .slots)) 8) (isWord (f .chunk .isa)) c) (and-right (chunkFit (f .chunk)) (isWord (f .latency)) g)
@@ -204,7 +204,7 @@ opens-rough (c ∷ cs) e =
 open-rough : (m : Model) → Fit m → every rough (openState m .buffers) ≡ true
 unfolding openState
 open-rough m fit =
-    all-append rough (map opens (m .opening)) (replicate (8 - m .buffers) (nilAfter 0)) (opens-rough (m .opening) (fit .opening-fits)) (all-replicate rough (8 - m .buffers) (nilAfter 0) refl)
+    every-append rough (map opens (m .opening)) (replicate (8 - m .buffers) (nilAfter 0)) (opens-rough (m .opening) (fit .opening-fits)) (every-replicate rough (8 - m .buffers) (nilAfter 0) refl)
 
 -- ---- well formed, and so with small values
 

@@ -18,10 +18,7 @@ use Rattle.meaning.specs.State.{bufferOf, visible}
 use Rattle.meaning.specs.Fire.{deedOn}
 use Rattle.meaning.specs.Mark.{isSome, actedOn, arrived, markOf}
 use Rattle.meaning.specs.Step.{Event, Fired, Waited, Made, step}
-use Rattle.laws.specs.BoolLaws.{no-true, and-left, and-right}
-use Rattle.laws.specs.ListLaws.{getD-count}
-use Rattle.laws.specs.MarkLaws.{bit-weigh}
-use Rattle.laws.specs.WindowLaws.{by-lt}
+use Rattle.laws.specs.BaseLaws.{no-true, and-left, and-right, getD-upFrom, bit-weigh, by-lt}
 use Rattle.promises.specs.Words.{At, Touched, acted-on, came}
 use Rattle.promises.specs.Proofs.Selection.{at-same}
 use Rattle.promises.specs.Proofs.Steps.{FiredBy, WaitedBy, step-fired, step-waited}
@@ -74,7 +71,7 @@ module _ (as′ : List Action) (s s′ : State) where
 
   mark-bit : (b : ℕ) → b < length (s .buffers) → bit (markOf as′ s s′) b ≡ touched b
   unfolding markOf
-  mark-bit b h = bit-weigh (map touched (upFrom 0 (length (s .buffers)))) b ∙ getD-count touched 0 (length (s .buffers)) b h ∙ ap touched (zero-add b)
+  mark-bit b h = bit-weigh (map touched (upFrom 0 (length (s .buffers)))) b ∙ getD-upFrom touched 0 (length (s .buffers)) b h ∙ ap touched (zero-add b)
 
   mark-past : (b : ℕ) → length (s .buffers) ≤ b → bit (markOf as′ s s′) b ≡ false
   unfolding markOf

@@ -25,10 +25,8 @@ use Rattle.meaning.specs.Wait.{soonest, wait}
 use Rattle.meaning.specs.Mark.{isSome, actedOn, arrived, markOf}
 use Rattle.meaning.specs.Step.{Event, Fired, Waited, Step, Stopped, Made, largest, unlessPast, fireStep, waitStep, stepBy, step}
 use Rattle.meaning.specs.Refresh.{testsMarked, refresh}
-use Rattle.laws.specs.BoolLaws.{or-left, or-right}
-use Rattle.laws.specs.ListLaws.{getD-count}
-use Rattle.laws.specs.EntryLaws.{Alike, AlikeOn, entry-same, entry-length}
-use Rattle.laws.specs.MarkLaws.{bit-weigh}
+use Rattle.laws.specs.BaseLaws.{or-left, or-right, getD-upFrom, bit-weigh}
+use Rattle.laws.specs.MatchLaws.{Alike, AlikeOn, entry-same, entry-length}
 
 -- ---- each buffer anew
 
@@ -79,7 +77,7 @@ module _ (as′ : List Action) (s s′ : State) (ms : ℕ) (same-length : length
   unfolding markOf
   marked-by b true t e =
       let h : b < length (s .buffers) = ltb-true b (length (s .buffers)) t in
-      inside b h (sym (getD-count touched 0 (length (s .buffers)) b h ∙ ap touched (zero-add b)) ∙ sym (bit-weigh (map touched (upFrom 0 (length (s .buffers)))) b) ∙ e)
+      inside b h (sym (getD-upFrom touched 0 (length (s .buffers)) b h ∙ ap touched (zero-add b)) ∙ sym (bit-weigh (map touched (upFrom 0 (length (s .buffers)))) b) ∙ e)
   marked-by b false t e =
       let h : length (s .buffers) ≤ b = ltb-false b (length (s .buffers)) t in
       inl (past s b h ∙ sym (past s′ b (omega arith)))

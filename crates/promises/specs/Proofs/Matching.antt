@@ -17,8 +17,7 @@ use Rattle.meaning.specs.State.{bufferOf, visible}
 use Rattle.meaning.specs.Image.{isVariable, standsIn}
 use Rattle.meaning.specs.Match.{Place, place, places, valueIn, termIn, agrees, agreed, shows, matches, entryOf}
 use Rattle.meaning.specs.Retrieval.{valueOf}
-use Rattle.laws.specs.BoolLaws.{no-true, and-left, and-right}
-use Rattle.laws.specs.ListLaws.{all-member}
+use Rattle.laws.specs.BaseLaws.{no-true, and-left, and-right, every-member}
 use Rattle.promises.specs.Published.{standsFor, Holds, Binds, Matches}
 use Rattle.promises.specs.Proofs.Decoded.{and-true, goodTerm}
 
@@ -99,12 +98,12 @@ matches-bind r s e =
       binding = valueIn ps;
       binds = λ t h.
           let b : Buffer = bufferOf s (t .buffer) in
-          let y : shows t b ≡ true = all-member (λ t. shows t (bufferOf s (t .buffer))) (r .tests) seen h in
+          let y : shows t b ≡ true = every-member (λ t. shows t (bufferOf s (t .buffer))) (r .tests) seen h in
           record {
             visible = eqb-true (b .delay) 0 (and-left (visible b) (eqb (b .isa) (t .isa)) y);
             typed = eqb-true (b .isa) (t .isa) (and-right (visible b) (eqb (b .isa) (t .isa)) y);
             valued = λ n k.
-                eqb-true (getD (b .slots) (n .slot) 0) (termIn ps (n .term)) (all-member (agrees ps) ps agree (place-in s (r .tests) t n h k)) ∙ term-own ps (n .term);
+                eqb-true (getD (b .slots) (n .slot) 0) (termIn ps (n .term)) (every-member (agrees ps) ps agree (place-in s (r .tests) t n h k)) ∙ term-own ps (n .term);
           };
     }
 

@@ -18,8 +18,8 @@ use Rattle.meaning.specs.Choice.{Candidate, choose, utilities}
 use Rattle.meaning.specs.Step.{Event, Step, Stopped, Made, largest, unlessPast, stepOf}
 use Rattle.meaning.specs.Run.{Going, going, Timed, Run, before, runFrom}
 use Rattle.meaning.specs.Calls.{accepted, traceOf, ranBy, runOf}
-use Rattle.laws.specs.EntryLaws.{fresh-length}
-use Rattle.laws.specs.WindowLaws.{by-lt}
+use Rattle.laws.specs.BaseLaws.{by-lt}
+use Rattle.laws.specs.MatchLaws.{fresh-length}
 use Rattle.promises.specs.Words.{Reached}
 use Rattle.promises.specs.Published.{Selected, NoneSelected, Transition, Final, Transitions, no-step, one-step, Passes, Ended, done, full, over, RanOn}
 use Rattle.promises.specs.Proofs.Decoded.{Decoded, decoded}

@@ -12,8 +12,7 @@ use lib.ListN.{length, getD}
 use Rattle.meaning.specs.Base.{every, admit, keep}
 use Rattle.meaning.specs.Model.{Named, Term, Symbol, Variable, Fact}
 use Rattle.meaning.specs.Retrieval.{valueOf, fits, weaker, retrieve}
-use Rattle.laws.specs.BoolLaws.{no-true, and-left, and-right}
-use Rattle.laws.specs.ListLaws.{all-member, member-keep}
+use Rattle.laws.specs.BaseLaws.{no-true, and-left, and-right, every-member, member-keep}
 use Rattle.laws.specs.HighestLaws.{Best}
 use Rattle.laws.specs.RetrievalLaws.{retrieve-none, retrieve-best}
 use Rattle.promises.specs.Words.{At, first, next}
@@ -98,7 +97,7 @@ module _ (v : ℕ → ℕ) (isa : ℕ) (ns : List Named) (entry : List ℕ) (sam
       record {
         typed = eqb-true (f .chunk .isa) isa (and-left (eqb (f .chunk .isa) isa) _ e);
         valued = λ n h.
-            eqb-true (getD (f .chunk .slots) (n .slot) 0) (valueOf entry (n .term)) (all-member (λ n. eqb (getD (f .chunk .slots) (n .slot) 0) (valueOf entry (n .term))) ns valued h)
+            eqb-true (getD (f .chunk .slots) (n .slot) 0) (valueOf entry (n .term)) (every-member (λ n. eqb (getD (f .chunk .slots) (n .slot) 0) (valueOf entry (n .term))) ns valued h)
             ∙ same-value n h;
       }
 
@@ -111,17 +110,17 @@ module _ (v : ℕ → ℕ) (isa : ℕ) (ns : List Named) (entry : List ℕ) (sam
     -- nothing is found: no fact fits
     pub none-fits : retrieve facts isa ns entry ≡ none → (k : ℕ) (f : Fact) → At f k facts → Fits v isa ns f → ⊥
     none-fits e k f at h =
-        no-true (sym (is-fits f h) ∙ not-true _ (all-member (λ f. not (fits isa ns entry f)) facts (retrieve-none facts isa ns entry .0 e) (at-member at)))
+        no-true (sym (is-fits f h) ∙ not-true _ (every-member (λ f. not (fits isa ns entry f)) facts (retrieve-none facts isa ns entry .0 e) (at-member at)))
 
     held-at : {f : Fact} (b : Best weaker (keep (fits isa ns entry) facts) f) (h : Parts (fits isa ns entry) facts (b .before) f (b .after)) (j : ℕ) (g : Fact)
         → Where (h .start) f (h .rest) g j → fits isa ns entry g ≡ true → Held f (length (h .start)) j g
     held-at {f} b h j g (inl m) t =
-        let w : weaker g f ≡ true = all-member (λ y. weaker y f) (b .before) (b .lower) (rw (h .before-is) at (member-keep (fits isa ns entry) (h .start) m t)) in
+        let w : weaker g f ≡ true = every-member (λ y. weaker y f) (b .before) (b .lower) (rw (h .before-is) at (member-keep (fits isa ns entry) (h .start) m t)) in
         let l : g .activation < f .activation = ltb-true (g .activation) (f .activation) w in
         (omega arith, λ q. absurd (omega arith))
     held-at {f} b h j g (inr (inl (l, q))) t = (omega (arith, ap (λ (x : Fact). x .activation) q), λ z. omega arith)
     held-at {f} b h j g (inr (inr (l, m))) t =
-        let w : weaker f g ≡ false = not-true _ (all-member (λ y. not (weaker f y)) (b .after) (b .none-higher) (rw (h .after-is) at (member-keep (fits isa ns entry) (h .rest) m t))) in
+        let w : weaker f g ≡ false = not-true _ (every-member (λ y. not (weaker f y)) (b .after) (b .none-higher) (rw (h .after-is) at (member-keep (fits isa ns entry) (h .rest) m t))) in
         let u : g .activation ≤ f .activation = ltb-false (f .activation) (g .activation) w in
         (u, λ z. omega arith)
 

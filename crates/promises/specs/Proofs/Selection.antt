@@ -17,9 +17,8 @@ use Rattle.meaning.specs.Base.{if_then_else_, upFrom}
 use Rattle.meaning.specs.Model.{Model, Rule}
 use Rattle.meaning.specs.Match.{places, valueIn, matches, entryOf, freshTable}
 use Rattle.meaning.specs.Choice.{Candidate, candidates, utilities, counts, lower, choose}
-use Rattle.laws.specs.BoolLaws.{no-true}
-use Rattle.laws.specs.ListLaws.{all-member}
-use Rattle.laws.specs.EntryLaws.{entry-length}
+use Rattle.laws.specs.BaseLaws.{no-true, every-member}
+use Rattle.laws.specs.MatchLaws.{entry-length}
 use Rattle.laws.specs.ChoiceLaws.{Chosen, choose-best, choose-none}
 use Rattle.promises.specs.Words.{At, first, next, entryAt}
 use Rattle.promises.specs.Published.{Selected, NoneSelected}
@@ -173,7 +172,7 @@ module _ (m : Model) (s : State) where
   pub chosen-none : choose (m .rules) us fresh ≡ none → NoneSelected m s
   chosen-none e k r at t =
       let d : HasCandidate 0 (m .rules) us fresh r k = rule-candidate r at 0 us fresh in
-      let n : counts (d .candidate) ≡ false = not-true _ (all-member (λ c. not (counts c)) (candidates 0 (m .rules) us fresh) (choose-none (m .rules) us fresh .0 e) (d .member)) in
+      let n : counts (d .candidate) ≡ false = not-true _ (every-member (λ c. not (counts c)) (candidates 0 (m .rules) us fresh) (choose-none (m .rules) us fresh .0 e) (d .member)) in
       absurd (no-true (sym (ap (λ (e : List ℕ). eqb (getD e 0 0) 1) (d .entry-is ∙ fresh-entry-at r at s) ∙ first-word r s ∙ is-match r s t) ∙ n))
 
   -- two that are selected are one

@@ -18,7 +18,7 @@ use Rattle.meaning.specs.Fire.{fire}
 use Rattle.meaning.specs.Wait.{soonest, wait}
 use Rattle.meaning.specs.Mark.{markOf}
 use Rattle.meaning.specs.Step.{Event, Fired, Waited, Stopped, Made, largest, unlessPast, fireStep, waitStep, stepBy, step}
-use Rattle.laws.specs.BoolLaws.{no-true, and-left, and-right}
+use Rattle.laws.specs.BaseLaws.{no-true, and-left, and-right}
 
 pub same-true : (xs ys : List ℕ) → same xs ys ≡ true → xs ≡ ys
 same-true [] [] e = refl

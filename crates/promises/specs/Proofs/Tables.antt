@@ -18,7 +18,7 @@ use Rattle.meaning.specs.Image.{decode}
 use Rattle.meaning.specs.Match.{entryOf}
 use Rattle.meaning.specs.Refresh.{testsMarked, refresh, refreshCount}
 use Rattle.meaning.specs.Calls.{accepted, Refreshed, refreshedBy, refreshOf}
-use Rattle.laws.specs.EntryLaws.{entry-length}
+use Rattle.laws.specs.MatchLaws.{entry-length}
 use Rattle.promises.specs.Words.{At, first, next, entryAt, RefreshedTo}
 
 -- what a refresh writes for one rule

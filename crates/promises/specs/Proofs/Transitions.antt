@@ -23,8 +23,7 @@ use Rattle.meaning.specs.Fire.{later, after, deedOn, change, fire}
 use Rattle.meaning.specs.Wait.{sooner, soonest, wait}
 use Rattle.meaning.specs.Mark.{markOf}
 use Rattle.meaning.specs.Step.{Event, Fired, Waited, Step, Stopped, unlessPast, waitStep, stepBy, step, stepOf}
-use Rattle.laws.specs.BoolLaws.{and-left, and-right}
-use Rattle.laws.specs.ListLaws.{all-member}
+use Rattle.laws.specs.BaseLaws.{and-left, and-right, every-member}
 use Rattle.laws.specs.ChoiceLaws.{choose-best}
 use Rattle.promises.specs.Words.{At}
 use Rattle.promises.specs.Published.{Binds, Selected, NoneSelected, Aged, Applied, LeastDelay, Passed, Transition, apply, no-rule, Final}
@@ -190,7 +189,7 @@ module _ (m : Model) (d : Decoded m) (s : State) where
     good-deed : (a : Action) → List·Memᴰ a (r .actions) → goodDeed (m .types) (r .tests) (a .buffer) (a .deed) ≡ true
     good-deed a h =
         and-right (ltb (a .buffer) (m .buffers)) (goodDeed (m .types) (r .tests) (a .buffer) (a .deed))
-        (all-member (goodAction (m .buffers) (m .types) (r .tests)) (r .actions)
+        (every-member (goodAction (m .buffers) (m .types) (r .tests)) (r .actions)
         (and-left (every (goodAction (m .buffers) (m .types) (r .tests)) (r .actions)) (rises (λ a. a .buffer) 0 (r .actions)) good) h)
 
     fire-applied : Applied m r v s (fire (m .failure) (m .facts) r (entryOf r s) s)

@@ -23,11 +23,10 @@ use Rattle.meaning.specs.Fire.{put, done, later, deedOn, after, change, fire}
 use Rattle.meaning.specs.Wait.{wait}
 use Rattle.meaning.specs.Step.{Event, Fired, Waited, Made, stepOf}
 use Rattle.meaning.specs.Calls.{opens}
-use Rattle.laws.specs.BoolLaws.{no-true, and-left, and-right}
-use Rattle.laws.specs.ListLaws.{all-member, all-append, keep-member}
+use Rattle.laws.specs.BaseLaws.{no-true, and-left, and-right, every-member, every-append, keep-member}
 use Rattle.laws.specs.HighestLaws.{Best}
 use Rattle.laws.specs.RetrievalLaws.{retrieve-best}
-use Rattle.laws.specs.OpenLaws.{nil-well}
+use Rattle.laws.specs.CallsLaws.{nil-well}
 use Rattle.promises.specs.Words.{At, first, next}
 use Rattle.promises.specs.Proofs.Decoded.{and-true, goodTerm, goodNamed, goodNames, goodDeed, goodAction, goodRule, rises, Decoded}
 use Rattle.promises.specs.Proofs.Steps.{FiredBy, WaitedBy, step-fired, step-waited}
@@ -145,7 +144,7 @@ places-small : (ts : List Test) (s : State) → ((b : ℕ) → Small (bufferOf s
 unfolding places
 places-small [] s h = refl
 places-small (t ∷ ts) s h =
-    all-append (λ p. leb (p .value) 4095) (map (place (bufferOf s (t .buffer))) (t .named)) (places ts s) (named-small (bufferOf s (t .buffer)) (t .named) (h (t .buffer))) (places-small ts s h)
+    every-append (λ p. leb (p .value) 4095) (map (place (bufferOf s (t .buffer))) (t .named)) (places ts s) (named-small (bufferOf s (t .buffer)) (t .named) (h (t .buffer))) (places-small ts s h)
 
 value-small : (ps : List Place) (v : ℕ) → every (λ p. leb (p .value) 4095) ps ≡ true → leb (valueIn ps v) 4095 ≡ true
 unfolding valueIn
@@ -226,7 +225,7 @@ module _ (m : Model) (d : Decoded m) (s : State) (well : wellFormed m s ≡ true
   retrieved-well isa ns (some f) e =
       let b : Best weaker (keep (fits isa ns (entryOf r s)) (m .facts)) f = retrieve-best (m .facts) isa ns (entryOf r s) f e in
       let h : List·Memᴰ f (keep (fits isa ns (entryOf r s)) (m .facts)) = rw (b .split) (Memᴰ·append-right (b .before) (List·Memᴰ·head refl)) in
-      all-member (λ f. wellBuffer (m .types) (opens (f .chunk))) (m .facts) (d .facts-well) (keep-member (fits isa ns (entryOf r s)) (m .facts) h .0)
+      every-member (λ f. wellBuffer (m .types) (opens (f .chunk))) (m .facts) (d .facts-well) (keep-member (fits isa ns (entryOf r s)) (m .facts) h .0)
 
   done-well : (b : ℕ) (x : Deed) → b < length (s .buffers) → goodDeed (m .types) (r .tests) b x ≡ true → wellBuffer (m .types) (done (m .failure) (m .facts) (entryOf r s) (bufferOf s b) x) ≡ true
   unfolding done

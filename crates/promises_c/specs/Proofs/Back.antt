@@ -14,9 +14,7 @@ use Rattle.meaning.specs.declared.State.{State}
 use Rattle.meaning.specs.Base.{every}
 use Rattle.meaning.specs.State.{nothing, bufferOf}
 use Rattle.meaning.specs.Step.{largest}
-use Rattle.laws.specs.BoolLaws.{and-left, and-right}
-use Rattle.laws.specs.ListLaws.{all-append}
-use Rattle.laws.specs.WindowLaws.{by-lt}
+use Rattle.laws.specs.BaseLaws.{and-left, and-right, every-append, by-lt}
 use Rattle.layout.specs.Rows.{rowsIn}
 use Rattle.layout.specs.StateWords.{bufferIn, buffersIn}
 use Rattle.jirvuntsag.specs.Words.{stateOf, bufferWords, buffersWords, wordsOf, fits}
@@ -119,9 +117,9 @@ words-small : (bs : List Buffer) → every isBuffer bs ≡ true → every isWord
 words-small [] h = refl
 words-small (b ∷ bs) h =
     let p : Parts b = parts b (and-left (isBuffer b) (every isBuffer bs) h) in
-    all-append isWord (bufferWords b) (buffersWords bs)
+    every-append isWord (bufferWords b) (buffersWords bs)
     (and-true (isWord (b .isa)) (every isWord (b .slots ++ (b .delay ∷ []))) (p .isa-word)
-    (all-append isWord (b .slots) (b .delay ∷ []) (p .slots-words) (and-true (isWord (b .delay)) true (p .delay-word) refl)))
+    (every-append isWord (b .slots) (b .delay ∷ []) (p .slots-words) (and-true (isWord (b .delay)) true (p .delay-word) refl)))
     (words-small bs (and-right (isBuffer b) (every isBuffer bs) h))
 
 pub eighty-one : (s : State) → Machine s → length (wordsOf s) ≡ 81

@@ -17,7 +17,7 @@ use Rattle.meaning.specs.Step.{largest}
 use Rattle.meaning.specs.Calls.{accepted, openedBy, openOf, Ran, traceOf, runOf, Refreshed, refreshOf}
 use Rattle.jirvuntsag.specs.Words.{stateOf, wordsOf, fits}
 use Rattle.jirvuntsag.specs.Told.{answer, unfitBy, Told, told, toldRun, toldRefresh, openIn, runIn, refreshIn, eventsIn}
-use Rattle.laws.specs.EntryLaws.{fresh-length}
+use Rattle.laws.specs.MatchLaws.{fresh-length}
 use Rattle.promises.specs.Words.{Machine, Reached}
 use Rattle.promises.specs.Words as words
 use Rattle.promises.specs.Published.{RanOn}

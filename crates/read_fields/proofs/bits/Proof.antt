@@ -2,7 +2,7 @@
 use native.Mathlib.Omega.{arith}
 use lib.Pow.{pow-pos, pow-mono}
 use Rattle.meaning.specs.Bits.{fieldAt}
-use Rattle.laws.specs.FieldLaws.{fieldAt-lt}
+use Rattle.laws.specs.BitsLaws.{fieldAt-lt}
 use Rattle.read_fields.proofs.Laws.{cut, cutOf}
 use mathlib.Core.Path.{_≡_}
 use borrow.Author.Needs.{needs}

@@ -3,7 +3,7 @@ use mathlib.Core.Path.{_≡_, sym, _∙_}
 use mathlib.Core.Bool.{true, _&&_}
 use lib.Dec.{leb}
 use borrow.Author.Tests.{leb-true}
-use Rattle.laws.specs.BoolLaws.{and-left, and-right}
+use Rattle.laws.specs.BaseLaws.{and-left, and-right}
 use borrow.Author.Needs.{needs}
 use Rattle.read_image.proofs.check.Statement.{statement}
 use Rattle.read_image.proofs.check.Tie as tie

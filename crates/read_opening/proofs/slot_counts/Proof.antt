@@ -11,7 +11,7 @@ use Rattle.layout.specs.Walks.{mapped, Small}
 use Rattle.layout.proofs.WalkLaws.{answer-bad, answer-next, bad-within, next-within}
 use Rattle.layout.proofs.FieldReads.{field-between}
 use Rattle.read_facts.proofs.StoreLaws.{stored, stored-start, stored-bad, stored-turn, stored-end}
-use Rattle.laws.specs.ReadLaws.{between-got}
+use Rattle.laws.specs.ImageLaws.{between-got}
 use Rattle.read_opening.proofs.OpeningLaws.{small-zeros, small-set, counts-fresh}
 use Rattle.read_opening.proofs.slot_counts.Statement.{statement}
 use Rattle.read_opening.proofs.slot_counts.Tie as tie

@@ -29,7 +29,7 @@ no-number-requires c κs = search needs
 returns : tie.Need-returns
 returns c =
     let a = c .before .before .before .before .before .before .before .before .args in (
-      after-next _ _ (field (a .width) anything (a .image .now)) _ (c .before .before .before .before .before .walk .given .1) (answer-bad _ _ _ _ (c .no-number .ensures) ∙ sym (read-short (a .image .now) (a .width) _ anything (sym (c .before .enum-told .given .1) ∙ c .before .before .before .field-at .ensures))),
+      after-next _ _ (field (a .width) anything (a .image .now)) _ (c .before .before .before .before .before .walk .given .1) (answer-bad _ _ _ _ (c .no-number .ensures) ∙ sym (read-short (a .image .now) (a .width) _ anything (rw (c .before .enum-told .given .1) at (c .before .before .before .field-at .ensures)))),
       bad-within _ _ _ _ (c .no-number .ensures),
     )
 
@@ -47,7 +47,7 @@ no-number-requires-2 c κs = search needs
 returns-2 : tie.Need-returns-2
 returns-2 c =
     let a = c .before .before .before .before .before .before .before .before .args in
-    let e = sym (c .before .n .given .1) ∙ c .before .before .before .field-at .ensures in (
+    let e = rw (c .before .n .given .1) at (c .before .before .before .field-at .ensures) in (
       after-next _ _ (field (a .width) anything (a .image .now)) _ (c .before .before .before .before .before .walk .given .1) (sym (read-kept (a .image .now) (a .width) _ anything _ e refl)),
       next-within _ _ _ refl (there (a .image .now) (a .width) _ _ e),
     )

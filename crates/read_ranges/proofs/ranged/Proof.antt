@@ -29,7 +29,7 @@ no-number-requires c κs = search needs
 returns : tie.Need-returns
 returns c =
     let a = c .before .before .before .before .before .args in (
-      answer-bad _ _ _ _ (c .no-number .ensures) ∙ sym (read-short (a .image .now) (a .width) (a .p) (must (a .number) (inRange (a .low) (a .end))) (sym (c .before .enum-told .given .1) ∙ c .before .before .before .field-at .ensures)),
+      answer-bad _ _ _ _ (c .no-number .ensures) ∙ sym (read-short (a .image .now) (a .width) (a .p) (must (a .number) (inRange (a .low) (a .end))) (rw (c .before .enum-told .given .1) at (c .before .before .before .field-at .ensures))),
       bad-within _ _ _ _ (c .no-number .ensures),
     )
 
@@ -40,7 +40,7 @@ returns-2 : tie.Need-returns-2
 returns-2 c =
     let a = c .before .before .before .before .before .before .before .args in (
       answer-bad _ _ _ _ (c .no-number2 .ensures)
-          ∙ sym (read-refused (a .image .now) (a .width) (a .p) (must (a .number) (inRange (a .low) (a .end))) _ (a .number) (sym (c .before .before .before .n .given .1) ∙ c .before .before .before .before .before .field-at .ensures) (range-low (a .number) (a .low) (a .end) (c .before .before .before .n .given .0 .0) (c .before .if1 .taken)) (search needs)),
+          ∙ sym (read-refused (a .image .now) (a .width) (a .p) (must (a .number) (inRange (a .low) (a .end))) _ (a .number) (rw (c .before .before .before .n .given .1) at (c .before .before .before .before .before .field-at .ensures)) (range-low (a .number) (a .low) (a .end) (c .before .before .before .n .given .0 .0) (c .before .if1 .taken)) (search needs)),
       bad-within _ _ _ _ (c .no-number2 .ensures),
     )
 
@@ -51,7 +51,7 @@ returns-3 : tie.Need-returns-3
 returns-3 c =
     let a = c .before .before .before .before .before .before .before .before .args in (
       answer-bad _ _ _ _ (c .no-number3 .ensures)
-          ∙ sym (read-refused (a .image .now) (a .width) (a .p) (must (a .number) (inRange (a .low) (a .end))) _ (a .number) (sym (c .before .before .before .before .n .given .1) ∙ c .before .before .before .before .before .before .field-at .ensures) (range-high (a .number) (a .low) (a .end) (c .before .before .before .before .n .given .0 .0) (c .before .before .if1 .left) (c .before .if2 .taken)) (search needs)),
+          ∙ sym (read-refused (a .image .now) (a .width) (a .p) (must (a .number) (inRange (a .low) (a .end))) _ (a .number) (rw (c .before .before .before .before .n .given .1) at (c .before .before .before .before .before .before .field-at .ensures)) (range-high (a .number) (a .low) (a .end) (c .before .before .before .before .n .given .0 .0) (c .before .before .if1 .left) (c .before .if2 .taken)) (search needs)),
       bad-within _ _ _ _ (c .no-number3 .ensures),
     )
 
@@ -61,7 +61,7 @@ add-t10 c = search needs
 returns-4 : tie.Need-returns-4
 returns-4 c =
     let a = c .before .before .before .before .before .before .before .args in
-    let e = sym (c .before .before .before .n .given .1) ∙ c .before .before .before .before .before .field-at .ensures in (
+    let e = rw (c .before .before .before .n .given .1) at (c .before .before .before .before .before .field-at .ensures) in (
       sym (read-kept (a .image .now) (a .width) (a .p) (must (a .number) (inRange (a .low) (a .end))) _ e (range-kept (a .number) (a .low) (a .end) (c .before .before .before .n .given .0 .0) (c .before .if1 .left) (c .if2 .left))),
       next-within _ _ _ refl (there (a .image .now) (a .width) (a .p) _ e),
     )

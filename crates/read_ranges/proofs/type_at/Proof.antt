@@ -11,7 +11,7 @@ use Rattle.meaning.specs.Read.{must}
 use Rattle.layout.proofs.WalkLaws.{answer-bad, bad-within, next-within}
 use Rattle.layout.proofs.FieldReads.{there, is, read-short, read-kept, read-refused, range-low, range-high, range-kept}
 use Rattle.meaning.specs.Image.{aType}
-use Rattle.laws.specs.FieldLaws.{fieldAt-lt}
+use Rattle.laws.specs.BitsLaws.{fieldAt-lt}
 use borrow.Author.Needs.{needs}
 use Rattle.read_ranges.proofs.type_at.Statement.{statement}
 use Rattle.read_ranges.proofs.type_at.Tie as tie
@@ -31,7 +31,7 @@ no-number-requires c κs = search needs
 returns : tie.Need-returns
 returns c =
     let a = c .before .before .before .before .before .before .args in (
-      answer-bad _ _ _ _ (c .no-number .ensures) ∙ sym (read-short (a .image .now) 6 (a .p) (must bad-number (aType (a .types .now) (a .least))) (sym (c .before .enum-told .given .1) ∙ c .before .before .before .field-at .ensures)),
+      answer-bad _ _ _ _ (c .no-number .ensures) ∙ sym (read-short (a .image .now) 6 (a .p) (must bad-number (aType (a .types .now) (a .least))) (rw (c .before .enum-told .given .1) at (c .before .before .before .field-at .ensures))),
       bad-within _ _ _ _ (c .no-number .ensures),
     )
 
@@ -43,7 +43,7 @@ returns-2 c =
     let a = c .before .before .before .before .before .before .before .before .before .args in
     let k = c .before .before .before .before .k .given .0 .0 in
     let z : k ≡ 0 = c .before .before .match2 .keys1 in (
-      answer-bad _ _ _ _ (c .no-number2 .ensures) ∙ sym (read-refused (a .image .now) 6 (a .p) (must bad-number (aType (a .types .now) (a .least))) _ 3 (sym (c .before .before .before .before .k .given .1) ∙ c .before .before .before .before .before .before .field-at .ensures) (range-low 3 (a .least) (length (a .types .now)) k (omega arith)) (omega arith)),
+      answer-bad _ _ _ _ (c .no-number2 .ensures) ∙ sym (read-refused (a .image .now) 6 (a .p) (must bad-number (aType (a .types .now) (a .least))) _ 3 (rw (c .before .before .before .before .k .given .1) at (c .before .before .before .before .before .before .field-at .ensures)) (range-low 3 (a .least) (length (a .types .now)) k (omega arith)) (omega arith)),
       bad-within _ _ _ _ (c .no-number2 .ensures),
     )
 
@@ -57,7 +57,7 @@ returns-3 : tie.Need-returns-3
 returns-3 c =
     let a = c .before .before .before .before .before .before .before .before .before .before .args in
     let k = c .before .before .before .before .before .k .given .0 .0 in (
-      answer-bad _ _ _ _ (c .no-number3 .ensures) ∙ sym (read-refused (a .image .now) 6 (a .p) (must bad-number (aType (a .types .now) (a .least))) _ 3 (sym (c .before .before .before .before .before .k .given .1) ∙ c .before .before .before .before .before .before .before .field-at .ensures) (range-high 3 (a .least) (length (a .types .now)) k (omega arith) (omega arith)) (omega arith)),
+      answer-bad _ _ _ _ (c .no-number3 .ensures) ∙ sym (read-refused (a .image .now) 6 (a .p) (must bad-number (aType (a .types .now) (a .least))) _ 3 (rw (c .before .before .before .before .before .k .given .1) at (c .before .before .before .before .before .before .before .field-at .ensures)) (range-high 3 (a .least) (length (a .types .now)) k (omega arith) (omega arith)) (omega arith)),
       bad-within _ _ _ _ (c .no-number3 .ensures),
     )
 
@@ -68,7 +68,7 @@ returns-4 : tie.Need-returns-4
 returns-4 c =
     let a = c .before .before .before .before .before .before .before .before .before .args in
     let k = c .before .before .before .before .k .given .0 .0 in
-    let e = sym (c .before .before .before .before .k .given .1) ∙ c .before .before .before .before .before .before .field-at .ensures in
+    let e = rw (c .before .before .before .before .k .given .1) at (c .before .before .before .before .before .before .field-at .ensures) in
     let big : k < 64 = omega (arith, is (a .image .now) 6 (a .p) _ e, fieldAt-lt (a .image .now) (a .p) 6) in
     absurd (omega (arith, c .before .if2 .left))
 
@@ -79,7 +79,7 @@ returns-5 : tie.Need-returns-5
 returns-5 c =
     let a = c .before .before .before .before .before .before .before .args in
     let k = c .before .before .k .given .0 .0 in
-    let e = sym (c .before .before .k .given .1) ∙ c .before .before .before .before .field-at .ensures in
+    let e = rw (c .before .before .k .given .1) at (c .before .before .before .before .field-at .ensures) in
     let low : a .least ≤ k = ⊎-elim (λ w. omega (arith, w .0 .keys1, w .1 .left)) (λ w. omega arith) (c .match2 .came) in
     let high : k < length (a .types .now) = ⊎-elim (λ w. omega (arith, w .0 .keys1)) (λ w. omega arith) (c .match2 .came) in (
       sym (read-kept (a .image .now) 6 (a .p) (must bad-number (aType (a .types .now) (a .least))) _ e (range-kept 3 (a .least) (length (a .types .now)) k low high)),

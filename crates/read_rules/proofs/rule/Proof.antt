@@ -9,7 +9,7 @@ use lib.ListN.{length, take}
 use Rattle.meaning.specs.Model.{Test, Action, Rule}
 use Rattle.meaning.specs.Read.{Got, Refused}
 use Rattle.meaning.specs.Image.{head, tests, utilityOf}
-use Rattle.laws.specs.PartsLaws.{HeadFits, head-fits}
+use Rattle.laws.specs.ImageLaws.{HeadFits, head-fits}
 use Rattle.layout.specs.Walks.{answer}
 use Rattle.layout.specs.Rows.{sizes, testsIn, actionsIn, testedMask}
 use Rattle.layout.proofs.WalkLaws.{answer-bad, answer-next, bad-within, bad-never}

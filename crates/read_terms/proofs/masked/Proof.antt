@@ -6,7 +6,7 @@ use lib.ListN.{length}
 use Rattle.meaning.specs.Read.{must}
 use Rattle.meaning.specs.Numbers.{bad-mask}
 use Rattle.meaning.specs.Image.{aMask}
-use Rattle.laws.specs.FieldLaws.{fieldAt-lt}
+use Rattle.laws.specs.BitsLaws.{fieldAt-lt}
 use Rattle.layout.proofs.WalkLaws.{answer-bad, bad-within}
 use Rattle.layout.proofs.FieldReads.{there, is, read-short, read-kept, read-broken}
 use Rattle.read_terms.proofs.TermLaws.{mask-past, mask-kept, masked-bad, masked-on}
@@ -29,7 +29,7 @@ no-terms-requires c κs = search needs
 returns : tie.Need-returns
 returns c =
     let a = c .before .before .before .before .before .args in (
-      answer-bad _ _ _ _ (c .no-terms .ensures) ∙ masked-bad (a .variables) (a .slots) (a .image .now) (a .p) _ _ (read-short (a .image .now) 8 (a .p) (must bad-mask (aMask (a .slots))) (sym (c .before .enum-told .given .1) ∙ c .before .before .before .field-at .ensures)),
+      answer-bad _ _ _ _ (c .no-terms .ensures) ∙ masked-bad (a .variables) (a .slots) (a .image .now) (a .p) _ _ (read-short (a .image .now) 8 (a .p) (must bad-mask (aMask (a .slots))) (rw (c .before .enum-told .given .1) at (c .before .before .before .field-at .ensures))),
       bad-within _ _ _ _ (c .no-terms .ensures),
     )
 
@@ -44,7 +44,7 @@ returns-2 c =
     let a = c .before .before .before .before .before .before .before .before .args in (
       answer-bad _ _ _ _ (c .no-terms2 .ensures)
           ∙ masked-bad (a .variables) (a .slots) (a .image .now) (a .p) _ _
-          (read-broken (a .image .now) 8 (a .p) (must bad-mask (aMask (a .slots))) _ 2 (sym (c .before .before .before .before .m .given .1) ∙ c .before .before .before .before .before .before .field-at .ensures) (mask-past (a .slots) _ (c .before .before .past .result) (c .before .before .past .ensures) (c .before .if1 .taken))),
+          (read-broken (a .image .now) 8 (a .p) (must bad-mask (aMask (a .slots))) _ 2 (rw (c .before .before .before .before .m .given .1) at (c .before .before .before .before .before .before .field-at .ensures)) (mask-past (a .slots) _ (c .before .before .past .result) (c .before .before .past .ensures) (c .before .if1 .taken))),
       bad-within _ _ _ _ (c .no-terms2 .ensures),
     )
 
@@ -54,14 +54,14 @@ add-terms c = search needs
 terms-requires : tie.Need-terms-requires
 terms-requires c κs =
     let a = c .before .before .before .before .before .before .before .args in
-    let e = sym (c .before .before .before .m .given .1) ∙ c .before .before .before .before .before .field-at .ensures in
+    let e = rw (c .before .before .before .m .given .1) at (c .before .before .before .before .before .field-at .ensures) in
     let h = there (a .image .now) 8 (a .p) _ e in
     (search needs, omega (arith, h), omega (arith, is (a .image .now) 8 (a .p) _ e, fieldAt-lt (a .image .now) (a .p) 8), search needs)
 
 returns-3 : tie.Need-returns-3
 returns-3 c =
     let a = c .before .before .before .before .before .before .before .before .before .args in
-    let e = sym (c .before .before .before .before .before .m .given .1) ∙ c .before .before .before .before .before .before .before .field-at .ensures in (
+    let e = rw (c .before .before .before .before .before .m .given .1) at (c .before .before .before .before .before .before .before .field-at .ensures) in (
       c .before .terms .ensures .0 ∙ masked-on (a .variables) (a .slots) (a .image .now) (a .p) _ _ (read-kept (a .image .now) 8 (a .p) (must bad-mask (aMask (a .slots))) _ e (mask-kept (a .slots) _ (c .before .before .before .past .result) (c .before .before .before .past .ensures) (c .before .before .if1 .left))),
       c .before .terms .ensures .1,
     )

@@ -10,7 +10,7 @@ use lib.ListN.{length, length-set}
 use Rattle.meaning.specs.Read.{must}
 use Rattle.meaning.specs.Numbers.{bad-variable}
 use Rattle.meaning.specs.Image.{aTerm, terms, slotsIn}
-use Rattle.laws.specs.MaskLaws.{slots-ones}
+use Rattle.laws.specs.ImageLaws.{slots-ones}
 use Rattle.layout.proofs.WalkLaws.{bad-within, next-within}
 use Rattle.layout.proofs.FieldReads.{there, read-short, read-kept, read-broken, term-kept, term-big}
 use Rattle.read_terms.proofs.MaskBits.{names-on, names-off, rest, rest-start, rest-on, rest-off, rest-some, none-left}
@@ -58,7 +58,7 @@ returns c =
     let a = c .before .before .before .before .before .before .before .args in
     let h = in-slot (c .before .before .before .before) in (
       on-bad (a .mask) (a .variables) (a .image .now) (l .xs) (l .xs) (l .b) (l .at) (l .at) h (names-on (a .mask) (l .b) (c .before .before .before .if1 .taken)) _ _
-          (read-short (a .image .now) 13 (l .at) (must bad-variable (aTerm (a .variables))) (sym (c .enum-told .given .1) ∙ c .before .before .field-at .ensures)) ∙ l .inv .4,
+          (read-short (a .image .now) 13 (l .at) (must bad-variable (aTerm (a .variables))) (rw (c .enum-told .given .1) at (c .before .before .field-at .ensures))) ∙ l .inv .4,
       bad-within _ _ _ _ refl,
     )
 
@@ -71,7 +71,7 @@ returns-2 c =
     let a = c .before .before .before .before .before .before .before .before .before .args in
     let h = in-slot (c .before .before .before .before .before .before) in (
       on-bad (a .mask) (a .variables) (a .image .now) (l .xs) (l .xs) (l .b) (l .at) (l .at) h (names-on (a .mask) (l .b) (c .before .before .before .before .before .if1 .taken)) _ _
-          (read-broken (a .image .now) 13 (l .at) (must bad-variable (aTerm (a .variables))) _ 2 (sym (c .before .before .t .given .1) ∙ c .before .before .before .before .field-at .ensures) (term-big (a .variables) _ (c .if2 .taken))) ∙ l .inv .4,
+          (read-broken (a .image .now) 13 (l .at) (must bad-variable (aTerm (a .variables))) _ 2 (rw (c .before .before .t .given .1) at (c .before .before .before .before .field-at .ensures)) (term-big (a .variables) _ (c .if2 .taken))) ∙ l .inv .4,
       bad-within _ _ _ _ refl,
     )
 
@@ -100,7 +100,7 @@ loop-again c =
     let h = in-slot (c .before) in
     ⊎-elim
     (λ w.
-    let e = sym (w .3 .given .1) ∙ w .1 .ensures in
+    let e = rw (w .3 .given .1) at (w .1 .ensures) in
     let on = names-on (a .mask) (l .b) (w .0 .taken) in
     let n : length (c .if1 .xs) ≡ 8 = ap length (w .6) ∙ length-set (l .xs) (l .b) _ ∙ l .inv .2 in
     let k : length (rest (a .mask) (l .b)) ≡ suc (length (rest (a .mask) (l .b + 1))) = ap length (rest-on (a .mask) (l .b) h on) in (

@@ -1,14 +1,25 @@
--- A field of at most 16 bits lies in three bytes: fetch those, shift and cut. Once over the position and the width.
-use Prim.Native.Nat.{ℕ, zero, suc, _+_, _*_, _-_, _/_, _%_, _^_, _≤_, _<_}
-use mathlib.Core.Path.{_≡_, refl, sym, ap, ap₂, _∙_, subst}
+-- Laws of a field, once over position and width; and that one of at most 16 bits lies in three bytes: fetch those, shift and cut.
+use mathlib.Core.Path.{_≡_, sym, ap, _∙_, ap₂, subst}
 use mathlib.Core.List.{List}
-use native.Mathlib.Omega.{arith}
+use Prim.Native.Nat.{ℕ, zero, suc, _+_, _-_, _*_, _/_, _%_, _^_, _≤_, _<_}
+use native.Mathlib.Nat.{pow-suc, mod-one}
 use native.Mathlib.Numerals.{add-one}
-use native.Mathlib.Decide.{decLt}
-use native.Mathlib.Nat.{mod-one}
+use native.Mathlib.Omega.{arith}
 use lib.ListN.{getD}
 use lib.Pow.{high, low, shr-shr, field, mod-mod-pow, mod-pow-add}
 use Rattle.meaning.specs.Bits.{bitAt, fieldAt}
+use Rattle.laws.specs.BaseLaws.{by-lt}
+
+pub bitAt-lt : (image : List ℕ) (at : ℕ) → bitAt image at < 2
+bitAt-lt image at = omega arith
+
+-- a field is below 2 to the power of its width
+pub fieldAt-lt : (image : List ℕ) (at width : ℕ) → fieldAt image at width < 2 ^ width
+unfolding fieldAt
+fieldAt-lt image at zero = omega arith
+fieldAt-lt image at (suc width) = rw (pow-suc 2 width) (omega (arith, fieldAt-lt image at width, bitAt-lt image (at + width)))
+
+-- ---- three bytes
 
 -- bit k of a number, the least first
 abbrev pub bitOf : ℕ → ℕ → ℕ
@@ -33,10 +44,6 @@ low-bit hi m k {lo} h l =
 -- the three bytes from byte i on, as one number
 abbrev pub window : List ℕ → ℕ → ℕ
 window s i = (getD s i 0 * 2 ^ 8 + getD s (i + 1) 0) * 2 ^ 8 + getD s (i + 2) 0
-
--- by whether a is below b
-pub by-lt : {C : Type 0} (a b : ℕ) → (a < b → C) → (b ≤ a → C) → C
-by-lt a b f g = elim (decLt a b) [ yes h ↦ f h | no h ↦ g (omega arith) ]
 
 module _ (s : List ℕ) (p : ℕ) (h1 : getD s (p / 8 + 1) 0 < 2 ^ 8) (h2 : getD s (p / 8 + 2) 0 < 2 ^ 8) where
   bit-in : (w : ℕ) → p % 8 + w < 24 → bitAt s (p + w) ≡ bitOf (window s (p / 8)) (23 - (p % 8 + w))

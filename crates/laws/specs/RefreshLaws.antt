@@ -1,68 +1,18 @@
--- Marks as numbers: the places of `weigh`, of a conjunction, and a number that is not 0 has one.
+-- Laws of a refresh: a rule tests a marked buffer exactly if its mask of tested buffers and the mark have a place in common.
 use mathlib.Core.Path.{_≡_, refl, sym, ap, ap₂, _∙_}
 use mathlib.Core.Bool.{Bool, true, false, _&&_, _||_, or-true}
 use mathlib.Core.List.{List, [], _∷_, map}
-use Prim.Native.Nat.{ℕ, zero, suc, _+_, _*_, _/_, _%_, _≤_, _<_, min}
-use native.Mathlib.Nat.{zero-min, min-le-left}
+use Prim.Native.Nat.{ℕ, _+_, _≤_, _<_}
 use native.Mathlib.Omega.{arith}
-use native.Mathlib.Decide.{ℕ-discrete, decLt}
-use borrow.Author.Tests.{eqb-true, eq-eqb, ne-eqb}
-use lib.Bits.{bitAnd, and-step}
+use native.Mathlib.Decide.{decLt}
+use borrow.Author.Tests.{eqb-true, eq-eqb}
+use lib.Bits.{bitAnd}
 use lib.Dec.{eqb}
-use lib.ListN.{length, getD, length-map, List·getD-eq-default}
+use lib.ListN.{length, length-map, List·getD-eq-default}
 use Rattle.meaning.specs.Base.{anyOf, upFrom, weigh, bit}
 use Rattle.meaning.specs.Model.{Test}
 use Rattle.meaning.specs.Image.{isTested}
-use Rattle.laws.specs.BoolLaws.{no-true, and-left, and-right}
-use Rattle.laws.specs.ListLaws.{getD-count}
-
-pub bit-weigh : (bs : List Bool) (b : ℕ) → bit (weigh bs) b ≡ getD bs b false
-bit-weigh [] zero = refl
-bit-weigh [] (suc b) = bit-weigh [] b
-bit-weigh (true ∷ bs) zero = eq-eqb ((1 + 2 * weigh bs) % 2) 1 (omega arith)
-bit-weigh (false ∷ bs) zero = ne-eqb ((0 + 2 * weigh bs) % 2) 1 (omega arith)
-bit-weigh (true ∷ bs) (suc b) = let e : (1 + 2 * weigh bs) / 2 ≡ weigh bs = omega arith in rw e (bit-weigh bs b)
-bit-weigh (false ∷ bs) (suc b) = let e : (0 + 2 * weigh bs) / 2 ≡ weigh bs = omega arith in rw e (bit-weigh bs b)
-
-pub bit-zero : (b : ℕ) → bit 0 b ≡ false
-bit-zero zero = refl
-bit-zero (suc b) = bit-zero b
-
--- ---- a place of a conjunction is set where it is in both
-
-min-bit : (x y : ℕ) → x < 2 → y < 2 → eqb (min x y) 1 ≡ (eqb x 1 && eqb y 1)
-min-bit zero y h g = rw (zero-min y)
-min-bit (suc zero) zero h g = refl
-min-bit (suc zero) (suc zero) h g = refl
-min-bit (suc zero) (suc (suc y)) h g = absurd (omega arith)
-min-bit (suc (suc x)) y h g = absurd (omega arith)
-
-pub bit-and : (a b k : ℕ) → bit (bitAnd a b) k ≡ (bit a k && bit b k)
-bit-and a b zero =
-    let n : ℕ = bitAnd (a / 2) (b / 2) in
-    let low : min (a % 2) (b % 2) ≤ a % 2 = min-le-left (a % 2) (b % 2) in
-    let e : bitAnd a b % 2 ≡ min (a % 2) (b % 2) = rw (and-step a b) (omega arith) in
-    rw e (min-bit (a % 2) (b % 2) (omega arith) (omega arith))
-bit-and a b (suc k) =
-    let low : min (a % 2) (b % 2) ≤ a % 2 = min-le-left (a % 2) (b % 2) in
-    let e : bitAnd a b / 2 ≡ bitAnd (a / 2) (b / 2) = rw (and-step a b) (omega arith) in
-    rw e (bit-and (a / 2) (b / 2) k)
-
--- ---- a number that is not 0 has a place that is set
-
-pub record Place (n : ℕ) : Type 0 where
-  pub at : ℕ
-  pub is-set : bit n at ≡ true
-
-pub some-place : (fuel n : ℕ) → n ≤ fuel → (n ≡ 0 → ⊥) → Place n
-some-place zero n h z = absurd (z (omega arith))
-some-place (suc fuel) n h z =
-    elim (ℕ-discrete (n % 2) 1) [
-      | yes e ↦ record { at = 0; is-set = eq-eqb (n % 2) 1 e }
-      | no e ↦ let p : Place (n / 2) = some-place fuel (n / 2) (omega arith) (λ q. z (omega arith)) in record { at = suc (p .at); is-set = p .is-set }
-    ]
-
--- ---- a mark meets the mask of tested buffers exactly if a test is on a marked buffer
+use Rattle.laws.specs.BaseLaws.{Place, and-left, and-right, bit-and, bit-weigh, bit-zero, getD-upFrom, no-true, some-place}
 
 -- every test is on one of eight buffers
 abbrev pub LowBuffers : List Test → Type 0
@@ -101,7 +51,7 @@ abbrev mask : List Test → ℕ
 mask ts = weigh (map (isTested ts) (upFrom 0 8))
 
 mask-bit : (ts : List Test) (b : ℕ) → b < 8 → bit (mask ts) b ≡ isTested ts b
-mask-bit ts b h = let z : 0 + b ≡ b = omega arith in bit-weigh (map (isTested ts) (upFrom 0 8)) b ∙ getD-count (isTested ts) 0 8 b h ∙ ap (isTested ts) z
+mask-bit ts b h = let z : 0 + b ≡ b = omega arith in bit-weigh (map (isTested ts) (upFrom 0 8)) b ∙ getD-upFrom (isTested ts) 0 8 b h ∙ ap (isTested ts) z
 
 bit-tested : (ts : List Test) (b : ℕ) → bit (mask ts) b ≡ true → isTested ts b ≡ true
 bit-tested ts b e =
