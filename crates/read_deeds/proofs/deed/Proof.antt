@@ -27,8 +27,11 @@ no-deed-requires c κs = search needs
 
 returns : tie.Need-returns
 returns c =
+    let field-at = c .before .before .before .field-at in
     let a = c .before .before .before .before .before .before .args in (
-      (λ buffers ts b t. answer-bad _ _ _ _ (c .no-deed .ensures) ∙ kind-bad (sizes buffers (a .types .now)) (a .variables) ts b (a .image .now) (a .p) _ _ (read-short (a .image .now) 2 (a .p) (kindRule ts b) (rw (c .before .enum-told .given .1) at (c .before .before .before .field-at .ensures)))),
+      (λ buffers ts b t. answer-bad _ _ _ _ (c .no-deed .ensures)
+          ∙ kind-bad (sizes buffers (a .types .now)) (a .variables) ts b (a .image .now) (a .p) _ _
+          (read-short (a .image .now) 2 (a .p) (kindRule ts b) (rw (c .before .enum-told .given .1) at (field-at .ensures)))),
       bad-within _ _ _ _ (c .no-deed .ensures),
     )
 
@@ -46,21 +49,30 @@ no-deed-requires-2 c κs = search needs
 
 returns-2 : tie.Need-returns-2
 returns-2 c =
+    let field-at = c .before .before .before .before .before .before .before .field-at in
+    let kind = c .before .before .before .before .before .kind in
+    let match2 = c .before .before .before .match2 in
     let a = c .before .before .before .before .before .before .before .before .before .before .args in
-    let e = rw (c .before .before .before .before .before .kind .given .1 ∙ ap Value (c .before .before .before .match2 .keys1)) at (c .before .before .before .before .before .before .before .field-at .ensures) in (
-      (λ buffers ts b t. answer-bad _ _ _ _ (c .no-deed2 .ensures) ∙ kind-bad (sizes buffers (a .types .now)) (a .variables) ts b (a .image .now) (a .p) _ _ (read-broken (a .image .now) 2 (a .p) (kindRule ts b) 0 2 e (modify-broken ts b (not-tested ts b (sym (c .before .enum-told2 .given .1) ∙ t))))),
+    let e = rw (kind .given .1 ∙ ap Value (match2 .keys1)) at (field-at .ensures) in (
+      (λ buffers ts b t. answer-bad _ _ _ _ (c .no-deed2 .ensures)
+          ∙ kind-bad (sizes buffers (a .types .now)) (a .variables) ts b (a .image .now) (a .p) _ _
+          (read-broken (a .image .now) 2 (a .p) (kindRule ts b) 0 2 e (modify-broken ts b (not-tested ts b (sym (c .before .enum-told2 .given .1) ∙ t))))),
       bad-within _ _ _ _ (c .no-deed2 .ensures),
     )
 
 modify-requires : tie.Need-modify-requires
 modify-requires c κs =
+    let field-at = c .before .before .before .before .before .before .before .field-at in
+    let kind = c .before .before .before .before .before .kind in
     let a = c .before .before .before .before .before .before .before .before .before .before .args in
-    (search needs, there (a .image .now) 2 (a .p) _ (rw (c .before .before .before .before .before .kind .given .1) at (c .before .before .before .before .before .before .before .field-at .ensures)), search needs)
+    (search needs, there (a .image .now) 2 (a .p) _ (rw (kind .given .1) at (field-at .ensures)), search needs)
 
 request-requires : tie.Need-request-requires
 request-requires c κs =
+    let field-at = c .before .before .before .before .field-at in
+    let kind = c .before .before .kind in
     let a = c .before .before .before .before .before .before .before .args in
-    (search needs, there (a .image .now) 2 (a .p) _ (rw (c .before .before .kind .given .1) at (c .before .before .before .before .field-at .ensures)), search needs, search needs)
+    (search needs, there (a .image .now) 2 (a .p) _ (rw (kind .given .1) at (field-at .ensures)), search needs, search needs)
 
 clear-requires : tie.Need-clear-requires
 clear-requires c κs = search needs
@@ -70,39 +82,55 @@ no-deed-requires-3 c κs = search needs
 
 returns-3 : tie.Need-returns-3
 returns-3 c =
+    let field-at = c .before .before .before .before .before .before .before .before .field-at in
+    let kind = c .before .before .before .before .before .before .kind in
+    let match2 = c .before .before .before .before .match2 in
+    let tested = c .before .before .tested in
     let a = c .before .before .before .before .before .before .before .before .before .before .before .args in
-    let e = rw (c .before .before .before .before .before .before .kind .given .1 ∙ ap Value (c .before .before .before .before .match2 .keys1)) at (c .before .before .before .before .before .before .before .before .field-at .ensures) in (
+    let e = rw (kind .given .1 ∙ ap Value (match2 .keys1)) at (field-at .ensures) in (
       (λ buffers ts b t.
-          let u = sym (c .before .before .tested .given .1) ∙ t in
-          kind-on (sizes buffers (a .types .now)) (a .variables) ts b (a .image .now) (a .p) _ 0 _ (c .modify .ensures .0 buffers ts b (tested-is ts b _ u)) (read-kept (a .image .now) 2 (a .p) (kindRule ts b) 0 e (modify-kept ts b (is-tested ts b _ u)))),
+          let u = sym (tested .given .1) ∙ t in
+          kind-on (sizes buffers (a .types .now)) (a .variables) ts b (a .image .now) (a .p) _ 0 _ (c .modify .ensures .0 buffers ts b (tested-is ts b _ u))
+          (read-kept (a .image .now) 2 (a .p) (kindRule ts b) 0 e (modify-kept ts b (is-tested ts b _ u)))),
       c .modify .ensures .1,
     )
 
 returns-4 : tie.Need-returns-4
 returns-4 c =
+    let field-at = c .before .before .before .before .before .field-at in
+    let kind = c .before .before .before .kind in
     let a = c .before .before .before .before .before .before .before .before .args in
-    let e = rw (c .before .before .before .kind .given .1 ∙ ap Value (c .before .match2 .keys2)) at (c .before .before .before .before .before .field-at .ensures) in (
-      (λ buffers ts b t. kind-on (sizes buffers (a .types .now)) (a .variables) ts b (a .image .now) (a .p) _ 1 _ (c .request .ensures .0 buffers ts b) (read-kept (a .image .now) 2 (a .p) (kindRule ts b) 1 e refl)),
+    let e = rw (kind .given .1 ∙ ap Value (c .before .match2 .keys2)) at (field-at .ensures) in (
+      (λ buffers ts b t. kind-on (sizes buffers (a .types .now)) (a .variables) ts b (a .image .now) (a .p) _ 1 _ (c .request .ensures .0 buffers ts b)
+          (read-kept (a .image .now) 2 (a .p) (kindRule ts b) 1 e refl)),
       c .request .ensures .1,
     )
 
 returns-5 : tie.Need-returns-5
 returns-5 c =
+    let field-at = c .before .before .before .before .before .field-at in
+    let kind = c .before .before .before .kind in
     let a = c .before .before .before .before .before .before .before .before .args in
-    let e = rw (c .before .before .before .kind .given .1 ∙ ap Value (c .before .match2 .keys3)) at (c .before .before .before .before .before .field-at .ensures) in (
-      (λ buffers ts b t. kind-on (sizes buffers (a .types .now)) (a .variables) ts b (a .image .now) (a .p) _ 2 _ (clear-says (sizes buffers (a .types .now)) (a .variables) ts b (a .image .now) _ (c .clear .result) (c .clear .ensures .0) (c .clear .ensures .1)) (read-kept (a .image .now) 2 (a .p) (kindRule ts b) 2 e refl)),
+    let e = rw (kind .given .1 ∙ ap Value (c .before .match2 .keys3)) at (field-at .ensures) in (
+      (λ buffers ts b t. kind-on (sizes buffers (a .types .now)) (a .variables) ts b (a .image .now) (a .p) _ 2 _
+          (clear-says (sizes buffers (a .types .now)) (a .variables) ts b (a .image .now) _ (c .clear .result) (c .clear .ensures .0) (c .clear .ensures .1))
+          (read-kept (a .image .now) 2 (a .p) (kindRule ts b) 2 e refl)),
       next-within _ _ _ (c .clear .ensures .0) (there (a .image .now) 2 (a .p) _ e),
     )
 
 returns-6 : tie.Need-returns-6
 returns-6 c =
+    let field-at = c .before .before .before .before .before .field-at in
+    let kind = c .before .before .before .kind in
     let a = c .before .before .before .before .before .before .before .before .args in
-    let k = c .before .before .before .kind .given .0 .0 in
+    let k = kind .given .0 .0 in
     let n₀ = c .before .match2 .rest .0 .0 .1 in
     let n₁ = c .before .match2 .rest .0 .1 in
     let n₂ = c .before .match2 .rest .1 in
     let big : 2 < k = omega arith in (
-      (λ buffers ts b t. answer-bad _ _ _ _ (c .no-deed3 .ensures) ∙ kind-bad (sizes buffers (a .types .now)) (a .variables) ts b (a .image .now) (a .p) _ _ (read-broken (a .image .now) 2 (a .p) (kindRule ts b) k 2 (rw (c .before .before .before .kind .given .1) at (c .before .before .before .before .before .field-at .ensures)) (kind-broken ts b k big))),
+      (λ buffers ts b t. answer-bad _ _ _ _ (c .no-deed3 .ensures)
+          ∙ kind-bad (sizes buffers (a .types .now)) (a .variables) ts b (a .image .now) (a .p) _ _
+          (read-broken (a .image .now) 2 (a .p) (kindRule ts b) k 2 (rw (kind .given .1) at (field-at .ensures)) (kind-broken ts b k big))),
       bad-within _ _ _ _ (c .no-deed3 .ensures),
     )
 

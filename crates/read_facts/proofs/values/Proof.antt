@@ -35,9 +35,12 @@ enum-told c = search needs
 
 returns : tie.Need-returns Inv-loop μ-loop
 returns c =
+    let loop-test = c .before .before .before .loop-test in
+    let field-at = c .before .before .field-at in
     let l = c .before .before .before .before .loop in
     let a = c .before .before .before .before .before .before .args in (
-      stored-bad (λ x. x) (λ l. l) (field 12 anything) (a .image .now) (l .xs) (l .i) (a .n) (l .i) (l .at) (c .before .before .before .loop-test .taken) _ _ (sym (read-short (a .image .now) 12 (l .at) anything (rw (c .enum-told .given .1) at (c .before .before .field-at .ensures)))) ∙ l .inv .2,
+      stored-bad (λ x. x) (λ l. l) (field 12 anything) (a .image .now) (l .xs) (l .i) (a .n) (l .i) (l .at) (loop-test .taken) _ _
+          (sym (read-short (a .image .now) 12 (l .at) anything (rw (c .enum-told .given .1) at (field-at .ensures)))) ∙ l .inv .2,
       bad-within _ _ _ _ refl,
     )
 
@@ -61,12 +64,15 @@ loop-less c = search needs
 
 loop-again : tie.Need-loop-again Inv-loop μ-loop
 loop-again c =
+    let loop-test = c .before .before .before .before .loop-test in
+    let field-at = c .before .before .before .field-at in
     let l = c .before .before .before .before .before .loop in
     let a = c .before .before .before .before .before .before .before .args in
-    let e = rw (c .before .x .given .1) at (c .before .before .before .field-at .ensures) in (
+    let e = rw (c .before .x .given .1) at (field-at .ensures) in (
       search needs,
       there (a .image .now) 12 (l .at) _ e,
-      stored-turn (λ x. x) (λ l. l) (field 12 anything) (a .image .now) (l .xs) (l .i) (a .n) (l .i) (l .at) (c .before .before .before .before .loop-test .taken) _ _ _ refl (sym (read-kept (a .image .now) 12 (l .at) anything _ e refl)) ∙ l .inv .2,
+      stored-turn (λ x. x) (λ l. l) (field 12 anything) (a .image .now) (l .xs) (l .i) (a .n) (l .i) (l .at) (loop-test .taken) _ _ _ refl
+          (sym (read-kept (a .image .now) 12 (l .at) anything _ e refl)) ∙ l .inv .2,
     )
 
 returns-2 : tie.Need-returns-2 Inv-loop μ-loop

@@ -14,7 +14,8 @@ enum-known-walk c = search needs
 
 field-at-requires : tie.Need-field-at-requires
 field-at-requires c κs =
-    let h = c .before .before .before .before .pre .1 _ (c .before .walk .given .1) in
+    let pre = c .before .before .before .before .pre in
+    let h = pre .1 _ (c .before .walk .given .1) in
     search needs
 
 enum-known-n : tie.Need-enum-known-n
@@ -28,14 +29,19 @@ no-number-requires c κs = search needs
 
 returns : tie.Need-returns
 returns c =
+    let walk = c .before .before .before .before .before .walk in
+    let field-at = c .before .before .before .field-at in
     let a = c .before .before .before .before .before .before .before .before .args in (
-      after-next _ _ (field (a .width) anything (a .image .now)) _ (c .before .before .before .before .before .walk .given .1) (answer-bad _ _ _ _ (c .no-number .ensures) ∙ sym (read-short (a .image .now) (a .width) _ anything (rw (c .before .enum-told .given .1) at (c .before .before .before .field-at .ensures)))),
+      after-next _ _ (field (a .width) anything (a .image .now)) _ (walk .given .1)
+          (answer-bad _ _ _ _ (c .no-number .ensures) ∙ sym (read-short (a .image .now) (a .width) _ anything (rw (c .before .enum-told .given .1) at (field-at .ensures)))),
       bad-within _ _ _ _ (c .no-number .ensures),
     )
 
 add-t10 : tie.Need-add-t10
 add-t10 c =
-    let h = c .before .before .before .before .before .before .before .before .pre .1 _ (c .before .before .before .before .before .walk .given .1) in
+    let pre = c .before .before .before .before .before .before .before .before .pre in
+    let walk = c .before .before .before .before .before .walk in
+    let h = pre .1 _ (walk .given .1) in
     search needs
 
 enum-known-walk-2 : tie.Need-enum-known-walk-2
@@ -46,16 +52,19 @@ no-number-requires-2 c κs = search needs
 
 returns-2 : tie.Need-returns-2
 returns-2 c =
+    let walk = c .before .before .before .before .before .walk in
+    let field-at = c .before .before .before .field-at in
     let a = c .before .before .before .before .before .before .before .before .args in
-    let e = rw (c .before .n .given .1) at (c .before .before .before .field-at .ensures) in (
-      after-next _ _ (field (a .width) anything (a .image .now)) _ (c .before .before .before .before .before .walk .given .1) (sym (read-kept (a .image .now) (a .width) _ anything _ e refl)),
+    let e = rw (c .before .n .given .1) at (field-at .ensures) in (
+      after-next _ _ (field (a .width) anything (a .image .now)) _ (walk .given .1) (sym (read-kept (a .image .now) (a .width) _ anything _ e refl)),
       next-within _ _ _ refl (there (a .image .now) (a .width) _ _ e),
     )
 
 returns-3 : tie.Need-returns-3
 returns-3 c =
+    let walk2 = c .before .before .walk2 in
     let a = c .before .before .before .before .before .args in (
-      after-bad _ _ _ (field (a .width) anything (a .image .now)) _ (c .before .before .walk2 .given .1) (answer-bad _ _ _ _ (c .no-number2 .ensures)),
+      after-bad _ _ _ (field (a .width) anything (a .image .now)) _ (walk2 .given .1) (answer-bad _ _ _ _ (c .no-number2 .ensures)),
       bad-within _ _ _ _ (c .no-number2 .ensures),
     )
 

@@ -28,8 +28,10 @@ no-number-requires c κs = search needs
 
 returns : tie.Need-returns
 returns c =
+    let field-at = c .before .before .before .field-at in
     let a = c .before .before .before .before .before .args in (
-      answer-bad _ _ _ _ (c .no-number .ensures) ∙ sym (read-short (a .image .now) (a .width) (a .p) (must (a .number) (inRange (a .low) (a .end))) (rw (c .before .enum-told .given .1) at (c .before .before .before .field-at .ensures))),
+      answer-bad _ _ _ _ (c .no-number .ensures)
+          ∙ sym (read-short (a .image .now) (a .width) (a .p) (must (a .number) (inRange (a .low) (a .end))) (rw (c .before .enum-told .given .1) at (field-at .ensures))),
       bad-within _ _ _ _ (c .no-number .ensures),
     )
 
@@ -38,9 +40,12 @@ no-number-requires-2 c κs = search needs
 
 returns-2 : tie.Need-returns-2
 returns-2 c =
+    let field-at = c .before .before .before .before .before .field-at in
+    let n = c .before .before .before .n in
     let a = c .before .before .before .before .before .before .before .args in (
       answer-bad _ _ _ _ (c .no-number2 .ensures)
-          ∙ sym (read-refused (a .image .now) (a .width) (a .p) (must (a .number) (inRange (a .low) (a .end))) _ (a .number) (rw (c .before .before .before .n .given .1) at (c .before .before .before .before .before .field-at .ensures)) (range-low (a .number) (a .low) (a .end) (c .before .before .before .n .given .0 .0) (c .before .if1 .taken)) (search needs)),
+          ∙ sym (read-refused (a .image .now) (a .width) (a .p) (must (a .number) (inRange (a .low) (a .end))) _ (a .number) (rw (n .given .1) at (field-at .ensures))
+          (range-low (a .number) (a .low) (a .end) (n .given .0 .0) (c .before .if1 .taken)) (search needs)),
       bad-within _ _ _ _ (c .no-number2 .ensures),
     )
 
@@ -49,9 +54,13 @@ no-number-requires-3 c κs = search needs
 
 returns-3 : tie.Need-returns-3
 returns-3 c =
+    let field-at = c .before .before .before .before .before .before .field-at in
+    let n = c .before .before .before .before .n in
+    let if1 = c .before .before .if1 in
     let a = c .before .before .before .before .before .before .before .before .args in (
       answer-bad _ _ _ _ (c .no-number3 .ensures)
-          ∙ sym (read-refused (a .image .now) (a .width) (a .p) (must (a .number) (inRange (a .low) (a .end))) _ (a .number) (rw (c .before .before .before .before .n .given .1) at (c .before .before .before .before .before .before .field-at .ensures)) (range-high (a .number) (a .low) (a .end) (c .before .before .before .before .n .given .0 .0) (c .before .before .if1 .left) (c .before .if2 .taken)) (search needs)),
+          ∙ sym (read-refused (a .image .now) (a .width) (a .p) (must (a .number) (inRange (a .low) (a .end))) _ (a .number) (rw (n .given .1) at (field-at .ensures))
+          (range-high (a .number) (a .low) (a .end) (n .given .0 .0) (if1 .left) (c .before .if2 .taken)) (search needs)),
       bad-within _ _ _ _ (c .no-number3 .ensures),
     )
 
@@ -60,9 +69,12 @@ add-t10 c = search needs
 
 returns-4 : tie.Need-returns-4
 returns-4 c =
+    let field-at = c .before .before .before .before .before .field-at in
+    let n = c .before .before .before .n in
     let a = c .before .before .before .before .before .before .before .args in
-    let e = rw (c .before .before .before .n .given .1) at (c .before .before .before .before .before .field-at .ensures) in (
-      sym (read-kept (a .image .now) (a .width) (a .p) (must (a .number) (inRange (a .low) (a .end))) _ e (range-kept (a .number) (a .low) (a .end) (c .before .before .before .n .given .0 .0) (c .before .if1 .left) (c .if2 .left))),
+    let e = rw (n .given .1) at (field-at .ensures) in (
+      sym (read-kept (a .image .now) (a .width) (a .p) (must (a .number) (inRange (a .low) (a .end))) _ e
+          (range-kept (a .number) (a .low) (a .end) (n .given .0 .0) (c .before .if1 .left) (c .if2 .left))),
       next-within _ _ _ refl (there (a .image .now) (a .width) (a .p) _ e),
     )
 

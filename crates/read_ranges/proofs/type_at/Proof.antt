@@ -30,8 +30,10 @@ no-number-requires c κs = search needs
 
 returns : tie.Need-returns
 returns c =
+    let field-at = c .before .before .before .field-at in
     let a = c .before .before .before .before .before .before .args in (
-      answer-bad _ _ _ _ (c .no-number .ensures) ∙ sym (read-short (a .image .now) 6 (a .p) (must bad-number (aType (a .types .now) (a .least))) (rw (c .before .enum-told .given .1) at (c .before .before .before .field-at .ensures))),
+      answer-bad _ _ _ _ (c .no-number .ensures)
+          ∙ sym (read-short (a .image .now) 6 (a .p) (must bad-number (aType (a .types .now) (a .least))) (rw (c .before .enum-told .given .1) at (field-at .ensures))),
       bad-within _ _ _ _ (c .no-number .ensures),
     )
 
@@ -40,10 +42,15 @@ no-number-requires-2 c κs = search needs
 
 returns-2 : tie.Need-returns-2
 returns-2 c =
+    let field-at = c .before .before .before .before .before .before .field-at in
+    let k′ = c .before .before .before .before .k in
+    let match2 = c .before .before .match2 in
     let a = c .before .before .before .before .before .before .before .before .before .args in
-    let k = c .before .before .before .before .k .given .0 .0 in
-    let z : k ≡ 0 = c .before .before .match2 .keys1 in (
-      answer-bad _ _ _ _ (c .no-number2 .ensures) ∙ sym (read-refused (a .image .now) 6 (a .p) (must bad-number (aType (a .types .now) (a .least))) _ 3 (rw (c .before .before .before .before .k .given .1) at (c .before .before .before .before .before .before .field-at .ensures)) (range-low 3 (a .least) (length (a .types .now)) k (omega arith)) (omega arith)),
+    let k = k′ .given .0 .0 in
+    let z : k ≡ 0 = match2 .keys1 in (
+      answer-bad _ _ _ _ (c .no-number2 .ensures)
+          ∙ sym (read-refused (a .image .now) 6 (a .p) (must bad-number (aType (a .types .now) (a .least))) _ 3 (rw (k′ .given .1) at (field-at .ensures))
+          (range-low 3 (a .least) (length (a .types .now)) k (omega arith)) (omega arith)),
       bad-within _ _ _ _ (c .no-number2 .ensures),
     )
 
@@ -55,9 +62,13 @@ no-number-requires-3 c κs = search needs
 
 returns-3 : tie.Need-returns-3
 returns-3 c =
+    let field-at = c .before .before .before .before .before .before .before .field-at in
+    let k′ = c .before .before .before .before .before .k in
     let a = c .before .before .before .before .before .before .before .before .before .before .args in
-    let k = c .before .before .before .before .before .k .given .0 .0 in (
-      answer-bad _ _ _ _ (c .no-number3 .ensures) ∙ sym (read-refused (a .image .now) 6 (a .p) (must bad-number (aType (a .types .now) (a .least))) _ 3 (rw (c .before .before .before .before .before .k .given .1) at (c .before .before .before .before .before .before .before .field-at .ensures)) (range-high 3 (a .least) (length (a .types .now)) k (omega arith) (omega arith)) (omega arith)),
+    let k = k′ .given .0 .0 in (
+      answer-bad _ _ _ _ (c .no-number3 .ensures)
+          ∙ sym (read-refused (a .image .now) 6 (a .p) (must bad-number (aType (a .types .now) (a .least))) _ 3 (rw (k′ .given .1) at (field-at .ensures))
+          (range-high 3 (a .least) (length (a .types .now)) k (omega arith) (omega arith)) (omega arith)),
       bad-within _ _ _ _ (c .no-number3 .ensures),
     )
 
@@ -66,9 +77,11 @@ no-number-requires-4 c κs = search needs
 
 returns-4 : tie.Need-returns-4
 returns-4 c =
+    let field-at = c .before .before .before .before .before .before .field-at in
+    let k′ = c .before .before .before .before .k in
     let a = c .before .before .before .before .before .before .before .before .before .args in
-    let k = c .before .before .before .before .k .given .0 .0 in
-    let e = rw (c .before .before .before .before .k .given .1) at (c .before .before .before .before .before .before .field-at .ensures) in
+    let k = k′ .given .0 .0 in
+    let e = rw (k′ .given .1) at (field-at .ensures) in
     let big : k < 64 = omega (arith, is (a .image .now) 6 (a .p) _ e, fieldAt-lt (a .image .now) (a .p) 6) in
     absurd (omega (arith, c .before .if2 .left))
 
@@ -77,9 +90,11 @@ add-t12 c = search needs
 
 returns-5 : tie.Need-returns-5
 returns-5 c =
+    let field-at = c .before .before .before .before .field-at in
+    let k′ = c .before .before .k in
     let a = c .before .before .before .before .before .before .before .args in
-    let k = c .before .before .k .given .0 .0 in
-    let e = rw (c .before .before .k .given .1) at (c .before .before .before .before .field-at .ensures) in
+    let k = k′ .given .0 .0 in
+    let e = rw (k′ .given .1) at (field-at .ensures) in
     let low : a .least ≤ k = ⊎-elim (λ w. omega (arith, w .0 .keys1, w .1 .left)) (λ w. omega arith) (c .match2 .came) in
     let high : k < length (a .types .now) = ⊎-elim (λ w. omega (arith, w .0 .keys1)) (λ w. omega arith) (c .match2 .came) in (
       sym (read-kept (a .image .now) 6 (a .p) (must bad-number (aType (a .types .now) (a .least))) _ e (range-kept 3 (a .least) (length (a .types .now)) k low high)),

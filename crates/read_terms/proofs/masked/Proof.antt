@@ -28,8 +28,11 @@ no-terms-requires c κs = search needs
 
 returns : tie.Need-returns
 returns c =
+    let field-at = c .before .before .before .field-at in
     let a = c .before .before .before .before .before .args in (
-      answer-bad _ _ _ _ (c .no-terms .ensures) ∙ masked-bad (a .variables) (a .slots) (a .image .now) (a .p) _ _ (read-short (a .image .now) 8 (a .p) (must bad-mask (aMask (a .slots))) (rw (c .before .enum-told .given .1) at (c .before .before .before .field-at .ensures))),
+      answer-bad _ _ _ _ (c .no-terms .ensures)
+          ∙ masked-bad (a .variables) (a .slots) (a .image .now) (a .p) _ _
+          (read-short (a .image .now) 8 (a .p) (must bad-mask (aMask (a .slots))) (rw (c .before .enum-told .given .1) at (field-at .ensures))),
       bad-within _ _ _ _ (c .no-terms .ensures),
     )
 
@@ -41,10 +44,14 @@ no-terms-requires-2 c κs = search needs
 
 returns-2 : tie.Need-returns-2
 returns-2 c =
+    let field-at = c .before .before .before .before .before .before .field-at in
+    let m = c .before .before .before .before .m in
+    let past = c .before .before .past in
     let a = c .before .before .before .before .before .before .before .before .args in (
       answer-bad _ _ _ _ (c .no-terms2 .ensures)
           ∙ masked-bad (a .variables) (a .slots) (a .image .now) (a .p) _ _
-          (read-broken (a .image .now) 8 (a .p) (must bad-mask (aMask (a .slots))) _ 2 (rw (c .before .before .before .before .m .given .1) at (c .before .before .before .before .before .before .field-at .ensures)) (mask-past (a .slots) _ (c .before .before .past .result) (c .before .before .past .ensures) (c .before .if1 .taken))),
+          (read-broken (a .image .now) 8 (a .p) (must bad-mask (aMask (a .slots))) _ 2 (rw (m .given .1) at (field-at .ensures))
+          (mask-past (a .slots) _ (past .result) (past .ensures) (c .before .if1 .taken))),
       bad-within _ _ _ _ (c .no-terms2 .ensures),
     )
 
@@ -53,16 +60,23 @@ add-terms c = search needs
 
 terms-requires : tie.Need-terms-requires
 terms-requires c κs =
+    let field-at = c .before .before .before .before .before .field-at in
+    let m = c .before .before .before .m in
     let a = c .before .before .before .before .before .before .before .args in
-    let e = rw (c .before .before .before .m .given .1) at (c .before .before .before .before .before .field-at .ensures) in
+    let e = rw (m .given .1) at (field-at .ensures) in
     let h = there (a .image .now) 8 (a .p) _ e in
     (search needs, omega (arith, h), omega (arith, is (a .image .now) 8 (a .p) _ e, fieldAt-lt (a .image .now) (a .p) 8), search needs)
 
 returns-3 : tie.Need-returns-3
 returns-3 c =
+    let field-at = c .before .before .before .before .before .before .before .field-at in
+    let m = c .before .before .before .before .before .m in
+    let past = c .before .before .before .past in
+    let if1 = c .before .before .if1 in
     let a = c .before .before .before .before .before .before .before .before .before .args in
-    let e = rw (c .before .before .before .before .before .m .given .1) at (c .before .before .before .before .before .before .before .field-at .ensures) in (
-      c .before .terms .ensures .0 ∙ masked-on (a .variables) (a .slots) (a .image .now) (a .p) _ _ (read-kept (a .image .now) 8 (a .p) (must bad-mask (aMask (a .slots))) _ e (mask-kept (a .slots) _ (c .before .before .before .past .result) (c .before .before .before .past .ensures) (c .before .before .if1 .left))),
+    let e = rw (m .given .1) at (field-at .ensures) in (
+      c .before .terms .ensures .0 ∙ masked-on (a .variables) (a .slots) (a .image .now) (a .p) _ _
+          (read-kept (a .image .now) 8 (a .p) (must bad-mask (aMask (a .slots))) _ e (mask-kept (a .slots) _ (past .result) (past .ensures) (if1 .left))),
       c .before .terms .ensures .1,
     )
 

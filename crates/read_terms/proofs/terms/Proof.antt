@@ -19,7 +19,8 @@ use Rattle.read_terms.proofs.terms.Statement.{statement}
 use Rattle.read_terms.proofs.terms.Tie as tie
 
 abbrev Inv-loop : tie.InvT-loop
-Inv-loop image p mask variables xs₀ at₀ b₀ left₀ xs at b left = (b ≤ 8) × (at ≤ 8 * length image) × (length xs ≡ 8) × (left ≡ length (rest mask b)) × (onTo mask variables image xs b at ≡ terms variables (slotsIn mask) image p)
+Inv-loop image p mask variables xs₀ at₀ b₀ left₀ xs at b left = (b ≤ 8) × (at ≤ 8 * length image) × (length xs ≡ 8) × (left ≡ length (rest mask b)) ×
+    (onTo mask variables image xs b at ≡ terms variables (slotsIn mask) image p)
 
 abbrev μ-loop : tie.MeasureT-loop
 μ-loop image p mask variables xs₀ at₀ b₀ left₀ xs at b left = 8 - b
@@ -27,12 +28,14 @@ abbrev μ-loop : tie.MeasureT-loop
 -- where a term is left, the slot is one of eight
 in-slot : (c : tie.In-loop Inv-loop μ-loop) → c .before .loop .b < 8
 in-slot c =
+    let args = c .before .before .before .args in
     let l = c .before .loop in
-    let m = c .before .before .before .args .mask in
+    let m = args .mask in
     rest-some m (l .b) (omega (arith, l .inv .3, c .loop-test .taken))
 
 loop-holds : tie.Need-loop-holds Inv-loop μ-loop
-loop-holds c = let a = c .before .args in (search needs, search needs, refl, sym (slots-ones (a .mask) (search needs)) ∙ sym (ap length (rest-start (a .mask))), on-start (a .mask) (a .variables) (a .image .now) _ (a .p))
+loop-holds c = let a = c .before .args in
+    (search needs, search needs, refl, sym (slots-ones (a .mask) (search needs)) ∙ sym (ap length (rest-start (a .mask))), on-start (a .mask) (a .variables) (a .image .now) _ (a .p))
 
 sub-if1 : tie.Need-sub-if1 Inv-loop μ-loop
 sub-if1 c = let h = in-slot c in omega arith
@@ -54,11 +57,13 @@ enum-told c = search needs
 
 returns : tie.Need-returns Inv-loop μ-loop
 returns c =
+    let if1 = c .before .before .before .if1 in
+    let field-at = c .before .before .field-at in
     let l = c .before .before .before .before .before .loop in
     let a = c .before .before .before .before .before .before .before .args in
     let h = in-slot (c .before .before .before .before) in (
-      on-bad (a .mask) (a .variables) (a .image .now) (l .xs) (l .xs) (l .b) (l .at) (l .at) h (names-on (a .mask) (l .b) (c .before .before .before .if1 .taken)) _ _
-          (read-short (a .image .now) 13 (l .at) (must bad-variable (aTerm (a .variables))) (rw (c .enum-told .given .1) at (c .before .before .field-at .ensures))) ∙ l .inv .4,
+      on-bad (a .mask) (a .variables) (a .image .now) (l .xs) (l .xs) (l .b) (l .at) (l .at) h (names-on (a .mask) (l .b) (if1 .taken)) _ _
+          (read-short (a .image .now) 13 (l .at) (must bad-variable (aTerm (a .variables))) (rw (c .enum-told .given .1) at (field-at .ensures))) ∙ l .inv .4,
       bad-within _ _ _ _ refl,
     )
 
@@ -67,11 +72,14 @@ add-if2 c = search needs
 
 returns-2 : tie.Need-returns-2 Inv-loop μ-loop
 returns-2 c =
+    let if1 = c .before .before .before .before .before .if1 in
+    let field-at = c .before .before .before .before .field-at in
+    let t = c .before .before .t in
     let l = c .before .before .before .before .before .before .before .loop in
     let a = c .before .before .before .before .before .before .before .before .before .args in
     let h = in-slot (c .before .before .before .before .before .before) in (
-      on-bad (a .mask) (a .variables) (a .image .now) (l .xs) (l .xs) (l .b) (l .at) (l .at) h (names-on (a .mask) (l .b) (c .before .before .before .before .before .if1 .taken)) _ _
-          (read-broken (a .image .now) 13 (l .at) (must bad-variable (aTerm (a .variables))) _ 2 (rw (c .before .before .t .given .1) at (c .before .before .before .before .field-at .ensures)) (term-big (a .variables) _ (c .if2 .taken))) ∙ l .inv .4,
+      on-bad (a .mask) (a .variables) (a .image .now) (l .xs) (l .xs) (l .b) (l .at) (l .at) h (names-on (a .mask) (l .b) (if1 .taken)) _ _
+          (read-broken (a .image .now) 13 (l .at) (must bad-variable (aTerm (a .variables))) _ 2 (rw (t .given .1) at (field-at .ensures)) (term-big (a .variables) _ (c .if2 .taken))) ∙ l .inv .4,
       bad-within _ _ _ _ refl,
     )
 
