@@ -1,5 +1,5 @@
--- What is promised. The words of the statements are in Words and Published; the statements in Refreshing, Keeping and Clearing (demand 3)
--- and Semantics (demand 2); their proofs stand apart, in Proofs.
+-- What is promised: Demands, a statement for each demand. The words of the statements are in Words, Sentences and Published; the statements in Numbers
+-- (demand 1), Semantics (demand 2), Refreshing, Marking, Keeping and Clearing (demand 3); their proofs stand apart, in Proofs.
 pub mod Words
 pub mod Published
 pub mod Sentences

@@ -1,4 +1,4 @@
--- What is promised of the calls for C: the statements in Holding; their proofs stand apart, in Proofs.
+-- What is promised of the calls for C: the words of the statements in Handing, the statements in Holding and Noting; their proofs stand apart, in Proofs.
 pub mod Handing
 pub mod Holding
 pub mod Noting

@@ -115,7 +115,8 @@ module _ (m : Model) (r : Rule) (s : State) (v : ℕ → ℕ) (binds : Binds r s
         unnamed = λ i h. put-unnamed ns entry (old .slots) i h;
       }
 
-  modified-once : (k : ℕ) (ns : List Named) (old new : Buffer) → goodNames (r .tests) k ns ≡ true → Modified v ns old new → new ≡ record { isa = old .isa; slots = put ns entry (old .slots); delay = 0 }
+  modified-once : (k : ℕ) (ns : List Named) (old new : Buffer) → goodNames (r .tests) k ns ≡ true → Modified v ns old new
+      → new ≡ record { isa = old .isa; slots = put ns entry (old .slots); delay = 0 }
   modified-once k ns old new g h =
       let l : length (new .slots) ≡ length (put ns entry (old .slots)) = h .as-many ∙ sym (put-length ns entry (old .slots)) in
       buffer-is new (old .isa) (put ns entry (old .slots)) 0 (h .same-type)
@@ -130,7 +131,8 @@ module _ (m : Model) (r : Rule) (s : State) (v : ℕ → ℕ) (binds : Binds r s
       (named-or-not ns i)))
       (h .at-once)
 
-  asked : (k isa : ℕ) (ns : List Named) (old : Buffer) → goodNames (r .tests) k ns ≡ true → (o : Option Fact) → retrieve (m .facts) isa ns entry ≡ o → Effect m v old (Request isa ns) (retrieved (m .failure) o)
+  asked : (k isa : ℕ) (ns : List Named) (old : Buffer) → goodNames (r .tests) k ns ≡ true → (o : Option Fact) → retrieve (m .facts) isa ns entry ≡ o
+      → Effect m v old (Request isa ns) (retrieved (m .failure) o)
   asked k isa ns old g none e = fail (none-fits v isa ns entry (same-values k ns (good-all k ns g)) (m .facts) e)
   asked k isa ns old g (some f) e = request (found v isa ns entry (same-values k ns (good-all k ns g)) (m .facts) f e .retrieved)
 

@@ -23,9 +23,8 @@ use Rattle.meaning.specs.Fire.{put, done, later, deedOn, after, change, fire}
 use Rattle.meaning.specs.Wait.{wait}
 use Rattle.meaning.specs.Step.{Event, Fired, Waited, Made, largest, stepOf}
 use Rattle.meaning.specs.Calls.{opens, openState}
-use Rattle.laws.specs.BaseLaws.{and-left, and-right}
+use Rattle.laws.specs.BaseLaws.{and-left, and-right, every-append, every-replicate, every-member, keep-member}
 use Rattle.laws.specs.BitsLaws.{fieldAt-lt}
-use Rattle.laws.specs.BaseLaws.{every-append, every-replicate, every-member, keep-member}
 use Rattle.laws.specs.ReadLaws.{FieldRead, field-got, times-all, split}
 use Rattle.laws.specs.ImageLaws.{between-got}
 use Rattle.laws.specs.HighestLaws.{Best}

@@ -18,10 +18,7 @@ use Rattle.meaning.specs.State.{bufferOf, visible}
 use Rattle.meaning.specs.Fire.{deedOn}
 use Rattle.meaning.specs.Mark.{isSome, actedOn, arrived, markOf}
 use Rattle.meaning.specs.Step.{Event, Fired, Waited, Made, step}
-use Rattle.laws.specs.BaseLaws.{no-true, and-left, and-right}
-use Rattle.laws.specs.BaseLaws.{getD-upFrom}
-use Rattle.laws.specs.BaseLaws.{bit-weigh}
-use Rattle.laws.specs.BaseLaws.{by-lt}
+use Rattle.laws.specs.BaseLaws.{no-true, and-left, and-right, getD-upFrom, bit-weigh, by-lt}
 use Rattle.promises.specs.Words.{At, Touched, acted-on, came}
 use Rattle.promises.specs.Proofs.Selection.{at-same}
 use Rattle.promises.specs.Proofs.Steps.{FiredBy, WaitedBy, step-fired, step-waited}

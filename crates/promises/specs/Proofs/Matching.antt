@@ -166,7 +166,8 @@ value-binds r s v h (Symbol x) g = refl
 value-binds r s v h (Variable w) g =
     let i : Standing (r .tests) w = standing (r .tests) w (and-right (ltb w 8) (standsIn (r .tests) w) g) in
     entry-value r s w (bind-matches r s v h) (ltb-true w 8 (and-left (ltb w 8) (standsIn (r .tests) w) g))
-    ∙ value-bound v (places (r .tests) s) (places-bound v s (r .tests) h) w (place (bufferOf s (i .test .buffer)) (i .named)) (place-in s (r .tests) (i .test) (i .named) (i .test-in) (i .named-in)) (i .is)
+    ∙ value-bound v (places (r .tests) s) (places-bound v s (r .tests) h) w (place (bufferOf s (i .test .buffer)) (i .named))
+    (place-in s (r .tests) (i .test) (i .named) (i .test-in) (i .named-in)) (i .is)
 
 -- the relation, for a test
 pub is-match : (r : Rule) (s : State) → Matches r s → matches r s ≡ true

@@ -20,8 +20,8 @@ use Rattle.meaning.specs.Refresh.{refresh, refreshCount}
 use Rattle.meaning.specs.Step.{Step, Stopped, Made, stepOf}
 use Rattle.meaning.specs.Run.{Going, going, Timed, Run, ends, goOn, runFrom}
 use Rattle.meaning.specs.Calls.{accepted, tableLength, openState, openedBy, openOf, tracedBy, traceOf, ranBy, runOf, Refreshed, refreshedBy, refreshOf}
-use Rattle.laws.specs.ReadLaws.{no-got}
 use Rattle.laws.specs.BaseLaws.{by-lt}
+use Rattle.laws.specs.ReadLaws.{no-got}
 use Rattle.promises.specs.Sentences.{Stops, missing, broken, unended, Taken, Given, over, lacking, against, trailing, unfit, taken, AfterOpen, AfterRefresh, ill, high, renewed}
 use Rattle.promises.specs.Sentences.{stale, late-fire, late-wait, quiet, Steps, none-made, then-made, EndsBy, enough, before-that, AfterRun, unwell, went, RanTo}
 use Rattle.promises.specs.Proofs.Reading.{Onward, wants, stuck, ended, model-whole}

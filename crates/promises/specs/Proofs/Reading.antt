@@ -17,8 +17,8 @@ use Rattle.meaning.specs.Read.{Read, Refused, Got, Reader, follow, andThen, nex
 use Rattle.meaning.specs.Image.{between, aType, aBuffer, aMask, aTerm, anything, header, slotCounts, chunk, fact, slotsIn, terms, masked}
 use Rattle.meaning.specs.Image.{Head, head, test, tests, standsIn, isTested, testedType, kindRule, deed, action, actions, body, rule}
 use Rattle.meaning.specs.Image.{padding, ending, beginning, contents, model}
-use Rattle.laws.specs.ReadLaws.{no-got, field-got, split}
 use Rattle.laws.specs.BaseLaws.{by-lt}
+use Rattle.laws.specs.ReadLaws.{no-got, field-got, split}
 use Rattle.promises.specs.Sentences.{Stops, missing, broken, unended}
 
 -- ---- a field of an image that goes on is the same field

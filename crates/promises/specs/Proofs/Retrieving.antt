@@ -70,7 +70,14 @@ module _ {A : Type 0} where
       let q : y ≡ b = cc in
       let k : keep p ys ≡ bs ++ (x ∷ after) = cc in
       let h : Parts p ys bs x after = ih bs k in
-      record { start = y ∷ h .start; rest = h .rest; split = ap (λ (l : List A). y ∷ l) (h .split); before-is = rw t (rw q (ap (λ (l : List A). b ∷ l) (h .before-is))); after-is = h .after-is; passes = h .passes }
+      record {
+        start = y ∷ h .start;
+        rest = h .rest;
+        split = ap (λ (l : List A). y ∷ l) (h .split);
+        before-is = rw t (rw q (ap (λ (l : List A). b ∷ l) (h .before-is)));
+        after-is = h .after-is;
+        passes = h .passes;
+      }
 
   no-middle : {C : Type 0} (before : List A) (x : A) (after : List A) → [] ≡ before ++ (x ∷ after) → C
   no-middle [] x after e = let z : _≡_ {A = ℕ} 0 1 = cc in absurd (omega arith)
@@ -104,7 +111,8 @@ module _ (v : ℕ → ℕ) (isa : ℕ) (ns : List Named) (entry : List ℕ) (sam
   is-fits : (f : Fact) → Fits v isa ns f → fits isa ns entry f ≡ true
   is-fits f h =
       and-true (eqb (f .chunk .isa) isa) (every (λ n. eqb (getD (f .chunk .slots) (n .slot) 0) (valueOf entry (n .term))) ns) (eq-eqb (f .chunk .isa) isa (h .typed))
-      (member-all (λ n. eqb (getD (f .chunk .slots) (n .slot) 0) (valueOf entry (n .term))) ns (λ n k. eq-eqb (getD (f .chunk .slots) (n .slot) 0) (valueOf entry (n .term)) (h .valued n k ∙ sym (same-value n k))))
+      (member-all (λ n. eqb (getD (f .chunk .slots) (n .slot) 0) (valueOf entry (n .term))) ns
+      (λ n k. eq-eqb (getD (f .chunk .slots) (n .slot) 0) (valueOf entry (n .term)) (h .valued n k ∙ sym (same-value n k))))
 
   module _ (facts : List Fact) where
     -- nothing is found: no fact fits
@@ -162,7 +170,9 @@ same-here entry (Variable v) = refl
 
 module _ (memory : List Fact) (isa : ℕ) (ns : List Named) (entry : List ℕ) where
   pub found-here : (f : Fact) → retrieve memory isa ns entry ≡ some f → (k : ℕ) × Retrieved memory (valuesIn entry) isa ns k f
-  found-here f e = let w : Found (valuesIn entry) isa ns entry (λ n h. same-here entry (n .term)) memory f = found (valuesIn entry) isa ns entry (λ n h. same-here entry (n .term)) memory f e in (w .place, w .retrieved)
+  found-here f e =
+      let w : Found (valuesIn entry) isa ns entry (λ n h. same-here entry (n .term)) memory f = found (valuesIn entry) isa ns entry (λ n h. same-here entry (n .term)) memory f e in
+      (w .place, w .retrieved)
 
   pub nothing-here : retrieve memory isa ns entry ≡ none → (k : ℕ) (f : Fact) → At f k memory → Fits (valuesIn entry) isa ns f → ⊥
   nothing-here e = none-fits (valuesIn entry) isa ns entry (λ n h. same-here entry (n .term)) memory e

@@ -14,9 +14,7 @@ use Rattle.meaning.specs.declared.State.{State}
 use Rattle.meaning.specs.Base.{every}
 use Rattle.meaning.specs.State.{nothing, bufferOf}
 use Rattle.meaning.specs.Step.{largest}
-use Rattle.laws.specs.BaseLaws.{and-left, and-right}
-use Rattle.laws.specs.BaseLaws.{every-append}
-use Rattle.laws.specs.BaseLaws.{by-lt}
+use Rattle.laws.specs.BaseLaws.{and-left, and-right, every-append, by-lt}
 use Rattle.layout.specs.Rows.{rowsIn}
 use Rattle.layout.specs.StateWords.{bufferIn, buffersIn}
 use Rattle.jirvuntsag.specs.Words.{stateOf, bufferWords, buffersWords, wordsOf, fits}
