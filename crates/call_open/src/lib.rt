@@ -1,14 +1,18 @@
 // Opening an image: refused by number, or the opening state and the fresh table.
 ghost use mathlib.Core.Path.{_≡_};
-ghost use Prim.Native.Nat.{_≤_};
-ghost use lib.ListN.{length};
+ghost use Prim.Native.Nat.{_*_, _≤_};
+ghost use lib.ListN.{length, drop};
 ghost use Rattle.meaning.specs.State.{zeroState};
+ghost use Rattle.meaning.specs.Match.{freshTable};
 ghost use Rattle.meaning.specs.Calls.{openOf};
+ghost use Rattle.layout.specs.StateWords.{stateIn};
+ghost use Rattle.layout.specs.Plans.{rulesOn, Planned};
 ghost use Rattle.read_image.specs.Whole.{Begun};
 ghost use Rattle.call_open.specs.Answers.{openedIn};
 use call_accept::Taken;
 use layout::LARGE_TAPE;
 use layout::OPENING_AT;
+use layout::Plan;
 use layout::PlanRead;
 use layout::SMALL_TAPE;
 use meaning::State;
@@ -31,6 +35,17 @@ fn no_opening(number: u8) -> OpenDone
     }
 }
 
+// The fresh table of the model that plan and tape mean, in its opening state.
+fn fresh_on(table: &mut [u16], plan: Plan, tape: &[u16])
+    requires { ⌜ Planned plan (now tape) × (length (now table) ≡ 9 * plan .rules) ⌝ }
+    ensures { λ _. ⌜ now (table .exit) ≡ freshTable (rulesOn plan (now (tape .entry))) (stateIn (drop 64 (now (tape .entry))) 0) ⌝ }
+{
+    let heads = plan.heads;
+    let rows = plan.rows;
+    let n = plan.rules as usize;
+    match_table::fresh(table, &tape[heads..], &tape[rows..], n, &tape[OPENING_AT..]);
+}
+
 // Opening, with the tape to lay the image out on.
 fn open_on(image: &[u8], begun: PlanRead, table: &mut [u16], tape: &mut [u16]) -> OpenDone
     requires { ⌜ Begun begun (now image) × (begun .plan .end ≤ length (now tape)) ⌝ }
@@ -41,10 +56,7 @@ fn open_on(image: &[u8], begun: PlanRead, table: &mut [u16], tape: &mut [u16]) -
         return no_opening(number);
     }
     let plan = begun.plan;
-    let heads = plan.heads;
-    let rows = plan.rows;
-    let n = plan.rules as usize;
-    match_table::fresh(table, &tape[heads..], &tape[rows..], n, &tape[OPENING_AT..]);
+    fresh_on(table, plan, tape);
     let state = layout_state::read_state(&tape[OPENING_AT..], 0);
     OpenDone {
         number: ALL_DONE,

@@ -121,6 +121,7 @@ refused-begun r x y s n p e =
       within = bad-within (r .walk) x y (8 * length s) n;
       short = bad-never (r .walk) x y n;
       in-bounds = bad-never (r .walk) x y n;
+      few-rules = let z = ap (λ (p : Plan). p .rules) p in omega arith;
       fits = let z = ap (λ (p : Plan). p .end) p in omega arith;
     }
 
@@ -138,6 +139,7 @@ header-begun r q s met h e =
       within = met .within;
       short = λ q g. h;
       in-bounds = λ q g. record { starts = met .starts; bounds = b };
+      few-rules = b .most-rules;
       fits = omega (arith, b .most-rules, b .most-facts);
     }
 

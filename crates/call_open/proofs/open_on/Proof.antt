@@ -3,7 +3,6 @@ use Prim.Native.Nat.{ℕ, _≤_}
 use mathlib.Core.List.{List}
 use native.Mathlib.Omega.{arith}
 use lib.ListN.{length, drop, length-drop}
-use Rattle.layout.specs.declared.Plan.{Plan}
 use Rattle.layout.specs.Plans.{Planned}
 use Rattle.layout.proofs.PlanLaws.{sections, to-end}
 use Rattle.call_open.proofs.OpenLaws.{open-refused, open-accepted}
@@ -19,11 +18,11 @@ start c = c .before .before .before .before .before
 abbrev taken : tie.After-enum-told → tie.After-accept
 taken c = c .before .before .before .before
 
-abbrev told : tie.After-fresh-arg → tie.After-enum-told
+abbrev told : tie.After-fresh-on-arg2 → tie.After-enum-told
 told c = c .before .before .before
 
-abbrev argued : tie.After-fresh → tie.After-fresh-arg
-argued c = c .before .before .before .before .before
+abbrev argued : tie.After-slice-known4 → tie.After-fresh-on-arg2
+argued c = c .before .before .before
 
 -- ---- the tape, and that an accepted image is laid out on it
 
@@ -60,61 +59,21 @@ returns c =
 enum-told : tie.Need-enum-told
 enum-told c = search needs
 
-cast-n : tie.Need-cast-n
-cast-n c = search needs
-
-mul-fresh : tie.Need-mul-fresh
-mul-fresh c = omega (arith, sections (planned (told c)) .heads-end)
-
-sub-fresh : tie.Need-sub-fresh
-sub-fresh c = omega (arith, sections (planned (told c)) .heads-end)
-
-part-fresh-start : tie.Need-part-fresh-start
-part-fresh-start c = omega (arith, sections (planned (told (c .before))) .heads-end)
-
-part-fresh-end : tie.Need-part-fresh-end
-part-fresh-end c = search needs
-
-mul-fresh-2 : tie.Need-mul-fresh-2
-mul-fresh-2 c = omega (arith, sections (planned (told (c .before .before))) .rows-end)
-
-sub-fresh-2 : tie.Need-sub-fresh-2
-sub-fresh-2 c = omega (arith, sections (planned (told (c .before .before))) .rows-end)
-
-part-fresh-start-2 : tie.Need-part-fresh-start-2
-part-fresh-start-2 c = omega (arith, sections (planned (told (c .before .before))) .rows-end)
-
-part-fresh-end-2 : tie.Need-part-fresh-end-2
-part-fresh-end-2 c = search needs
-
-sub-fresh-3 : tie.Need-sub-fresh-3
-sub-fresh-3 c = omega (arith, opening (told (c .before .before .before)))
-
-part-fresh-start-3 : tie.Need-part-fresh-start-3
-part-fresh-start-3 c = omega (arith, opening (told (c .before .before .before)))
-
-part-fresh-end-3 : tie.Need-part-fresh-end-3
-part-fresh-end-3 c = search needs
-
-fresh-requires : tie.Need-fresh-requires
-fresh-requires c κs =
-    let d = told (c .before .before .before .before) in
-    let w = tape (taken d) in
-    let room : 80 ≤ length (drop 64 w) = omega (arith, length-drop 64 w, opening d) in
-    simp to-end (planned d .laid, taken d .accept .ensures .right-length (d .enum-told .given .1), room)
+fresh-on-requires : tie.Need-fresh-on-requires
+fresh-on-requires c κs = let d = told c in (planned d, taken d .accept .ensures .right-length (d .enum-told .given .1))
 
 sub-read-state : tie.Need-sub-read-state
-sub-read-state c = omega (arith, opening (told (argued (c .before .before))))
+sub-read-state c = omega (arith, opening (told (argued c)))
 
 part-read-state-start : tie.Need-part-read-state-start
-part-read-state-start c = omega (arith, opening (told (argued (c .before .before .before))))
+part-read-state-start c = omega (arith, opening (told (argued (c .before))))
 
 part-read-state-end : tie.Need-part-read-state-end
 part-read-state-end c = search needs
 
 read-state-requires : tie.Need-read-state-requires
 read-state-requires c κs =
-    let d = told (argued (c .before .before .before .before)) in
+    let d = told (argued (c .before .before)) in
     let w = tape (taken d) in
     let room : 80 ≤ length (drop 64 w) = omega (arith, length-drop 64 w, opening d) in
     simp to-end room
@@ -127,12 +86,13 @@ same-length-3 c = search needs
 
 returns-2 : tie.Need-returns-2
 returns-2 c =
-    let f = c .before .before .before .before .before in
-    let d = told (argued f) in
+    let back = c .before .before .before in
+    let f = back .before .before in
+    let d = told (argued back) in
     let t = taken d in
     let a = start t .args in
-    open-accepted (t .accept .result) (a .begun .plan) (a .image .now) (a .table .now) (tape t) (t .accept .ensures) (d .enum-told .given .1)
-    (c .read-state .result) (f .fresh .last .0) (simp to-end at (c .read-state .ensures)) (simp to-end at (f .fresh .ensures 0))
+    let opened = open-accepted (t .accept .result) (a .begun .plan) (a .image .now) (a .table .now) (tape t) (t .accept .ensures) (d .enum-told .given .1) in
+    opened (c .read-state .result) _ (simp to-end at (c .read-state .ensures)) (f .fresh-on .ensures)
 
 pub open-on-spec : {M : Type 1} → statement M
 open-on-spec =
@@ -144,19 +104,7 @@ open-on-spec =
     same-length
     returns
     enum-told
-    cast-n
-    mul-fresh
-    sub-fresh
-    part-fresh-start
-    part-fresh-end
-    mul-fresh-2
-    sub-fresh-2
-    part-fresh-start-2
-    part-fresh-end-2
-    sub-fresh-3
-    part-fresh-start-3
-    part-fresh-end-3
-    fresh-requires
+    fresh-on-requires
     sub-read-state
     part-read-state-start
     part-read-state-end

@@ -1,10 +1,21 @@
--- `calls::table_length` meets its contract: an accepted image has as many rules as its header says.
+-- `calls::table_length` meets its contract: an accepted image has as many rules as its plan says.
 use mathlib.Core.Path.{_≡_, sym, _∙_}
+use native.Mathlib.Omega.{arith}
 use Rattle.layout.proofs.WalkLaws.{answer-bad, answer-next}
 use Rattle.calls.proofs.LengthLaws.{length-bad, length-next}
 use borrow.Author.Needs.{needs}
 use Rattle.calls.proofs.table_length.Statement.{statement}
 use Rattle.calls.proofs.table_length.Tie as tie
+
+-- ---- the places of the code, each named once
+
+abbrev begun : tie.After-check → tie.After-begin
+begun c = c .before .before
+
+abbrev start : tie.After-begin → tie.Start
+start c = c .before .before
+
+-- ---- what is asked
 
 begin-requires : tie.Need-begin-requires
 begin-requires c κs = search needs
@@ -16,16 +27,21 @@ enum-told : tie.Need-enum-told
 enum-told c = search needs
 
 mul-result : tie.Need-mul-result
-mul-result c = search needs
+mul-result c = omega (arith, begun (c .before .before .before) .begin .ensures .few-rules)
 
 enum-told-2 : tie.Need-enum-told-2
 enum-told-2 c = search needs
 
 returns : tie.Need-returns
-returns c = length-next (c .before .before .before .before .begin .result) (c .before .before .before .before .before .before .args .image .now) _ (c .before .before .before .before .begin .ensures) (sym (answer-next _ tt _ (c .before .enum-told .given .1)) ∙ c .before .before .before .check .ensures)
+returns c =
+    let k = c .before .before .before in
+    let b = begun k in
+    length-next (k .check .result) (b .begin .result .plan) (start b .args .image .now) _ (k .check .ensures) (sym (answer-next _ tt _ (c .before .enum-told .given .1)) ∙ k .check .ensures .reads)
 
 returns-2 : tie.Need-returns-2
-returns-2 c = length-bad (c .before .before .before .before .before .args .image .now) _ _ (sym (answer-bad _ tt _ _ (c .enum-told2 .given .1)) ∙ c .before .before .check .ensures)
+returns-2 c =
+    let k = c .before .before in
+    length-bad (start (begun k) .args .image .now) _ _ (sym (answer-bad _ tt _ _ (c .enum-told2 .given .1)) ∙ k .check .ensures .reads)
 
 pub table-length-spec : {M : Type 1} → statement M
 table-length-spec =
