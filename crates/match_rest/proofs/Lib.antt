@@ -1,0 +1,7 @@
+-- Laws of the refresh of a run.
+pub mod WalkLaws
+pub mod WakeLaws
+pub mod VisitLaws
+pub mod EntryLaws
+pub mod RoundLaws
+pub mod RenewLaws
