@@ -5,3 +5,4 @@ pub mod VisitLaws
 pub mod EntryLaws
 pub mod RoundLaws
 pub mod RenewLaws
+pub mod LayLaws

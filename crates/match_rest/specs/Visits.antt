@@ -2,7 +2,7 @@
 use Prim.Native.Nat.{ℕ, _+_, _-_, _*_, _/_, _%_, _≤_, _<_}
 use mathlib.Core.Path.{_≡_}
 use mathlib.Core.Logic.{_⊎_}
-use mathlib.Core.Bool.{Bool, true}
+use mathlib.Core.Bool.{Bool, true, false}
 use mathlib.Core.List.{List}
 use lib.Dec.{eqb}
 use lib.ListN.{length, getD}
@@ -16,7 +16,7 @@ use Rattle.match_sets.specs.Sets.{has, member}
 use Rattle.match_rule.specs.declared.Tried.{Tried}
 use Rattle.match_rule.specs.declared.Tried.the-variants.{Hit, Differs, Varies}
 use Rattle.match_rule.specs.Shut.{isHit}
-use Rattle.match_rest.specs.Rest.{isAwake, isUsed, inBed, bedOf, entryAt, Asleep, Sleeping}
+use Rattle.match_rest.specs.Rest.{isAwake, isUsed, tests, inBed, bedOf, entryAt, Asleep, Sleeping}
 
 -- a marked buffer, of the first b, that rule i of word w tests
 pub record Touch (sets : List ℕ) (w mark b i : ℕ) : Type 0 where
@@ -100,3 +100,13 @@ pub record VisitedAll (heads words order state : List ℕ) (w todo i : ℕ) (tab
   pub left : (q : ℕ) → (Among w todo i q → ⊥) → entryAt table′ q ≡ entryAt table q
   pub rests : (n : ℕ) → length table ≡ 9 * n → Ranked heads order n → ((q : ℕ) → Among w todo 64 q → (q < n) × (isAwake sets q ≡ true))
       → Hitting table order sets n × Sleeping heads words n state table sets → Hitting table′ order sets′ n × Sleeping heads words n state table′ sets′
+
+-- ---- laying out
+
+-- rule k has joined the testers of the buffers of a mask, of the first i, and nothing else has changed
+pub record Joins (k mask i : ℕ) (sets sets′ : List ℕ) : Type 0 where
+  pub size : length sets′ ≡ length sets
+  pub joined : (b : ℕ) → b < i → b < 8 → bit mask b ≡ true → tests sets′ b k ≡ true
+  pub apart : (b : ℕ) → b < 8 → bit mask b ≡ false → tests sets′ b k ≡ tests sets b k
+  pub others : (b q : ℕ) → b < 8 → q < 256 → (q ≡ k → ⊥) → tests sets′ b q ≡ tests sets b q
+  pub words : (j i : ℕ) → (8 ≤ j → j < 40 → ⊥) → has sets′ j i ≡ has sets j i

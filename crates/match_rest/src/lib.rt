@@ -9,11 +9,12 @@ ghost use Rattle.meaning.specs.Match.{entryOf};
 ghost use Rattle.meaning.specs.Refresh.{refresh};
 ghost use Rattle.layout.specs.Rows.{ruleIn, rulesIn, Laid};
 ghost use Rattle.layout.specs.StateWords.{stateIn};
-ghost use Rattle.match_rest.specs.Rest.{bedOf, Roomy, Resting, Stepped};
+ghost use Rattle.match_rest.specs.Rest.{bedOf, Roomy, Testing, Resting, Stepped};
 ghost use Rattle.match_rest.specs.Woken.{Woke, Called, CalledBy};
-ghost use Rattle.match_rest.specs.Visits.{Touches, Lain, LowPlace, Settled, Visitable, Visited, VisitedAll};
+ghost use Rattle.match_rest.specs.Visits.{Touches, Lain, LowPlace, Settled, Visitable, Visited, VisitedAll, Joins};
+ghost use Rattle.match_sets.specs.Sets.{has};
 ghost use Rattle.meaning.specs.Base.{bit};
-ghost use Rattle.match_order.specs.Order.{placeOf};
+ghost use Rattle.match_order.specs.Order.{Ranked, placeOf};
 use match_rule::Tried;
 
 // The bed for a word of the state and the value wanted there.
@@ -179,4 +180,55 @@ pub fn renew(
         visit_all(table, sets, order, heads, words, state, w, todo);
         w += 1;
     }
+}
+
+// All rules are awake.
+fn lay_awake(sets: &mut [u64])
+    requires { ⌜ 304 ≤ length (now sets) ⌝ }
+    ensures { λ _. ⌜ ((j i : ℕ) → j < 4 → i < 64 → has (now (sets .exit)) j i ≡ true) × ((j i : ℕ) → 4 ≤ j → has (now (sets .exit)) j i ≡ has (now (sets .entry)) j i) ⌝ }
+{
+    let mut w = 0;
+    while w < 4 {
+        sets[w] = 18446744073709551615;
+        w += 1;
+    }
+}
+
+// Rule k tests the buffers of a mask.
+fn lay_tester(sets: &mut [u64], k: usize, mask: u16)
+    requires { ⌜ (k < 256) × (304 ≤ length (now sets)) ⌝ }
+    ensures { λ _. ⌜ Joins k mask 8 (now (sets .entry)) (now (sets .exit)) ⌝ }
+{
+    let mut rest = mask as u64 % 256;
+    let mut b = 0;
+    while rest != 0 {
+        let z = match_sets::lowest(rest);
+        match_sets::put(sets, 8 + 7 * (k / 64) + (b + z), k);
+        rest = rest >> z >> 1;
+        b = b + z + 1;
+    }
+}
+
+// The testers of n rules.
+fn lay_testers(sets: &mut [u64], heads: &[u16], n: usize)
+    requires { ⌜ (n ≤ 256) × (304 ≤ length (now sets)) × (4 * n ≤ length (now heads)) × ((j i : ℕ) → 8 ≤ j → j < 40 → has (now sets) j i ≡ false) ⌝ }
+    ensures { λ _. ⌜ Testing (now (heads .entry)) n (now (sets .exit)) × ((j i : ℕ) → (8 ≤ j → j < 40 → ⊥) → has (now (sets .exit)) j i ≡ has (now (sets .entry)) j i) ⌝ }
+{
+    let mut k = 0;
+    while k < n {
+        lay_tester(sets, k, heads[4 * k + 3]);
+        k += 1;
+    }
+}
+
+// What a run keeps, as it begins with a table that is right or wrong: the order of n rules, all of them awake, and no bed used.
+pub fn lay_rest(sets: &mut [u64], order: &mut [u16], heads: &[u16], table: &[u16], n: usize)
+    requires { ⌜ Roomy n (now sets) × (512 ≤ length (now order)) × (4 * n ≤ length (now heads)) × (9 * n ≤ length (now table)) × ((j i : ℕ) → has (now sets) j i ≡ false) ⌝ }
+    ensures { λ _. ⌜ Ranked (now (heads .entry)) (now (order .exit)) n ⌝ }
+    ensures rests { λ _. ⌜ ((words state : List ℕ) → Resting (now (heads .entry)) words (now (order .exit)) n state (now (table .entry)) (now (sets .exit))) ⌝ }
+{
+    match_order::lay_order(order, heads, n);
+    match_order::lay_hits(sets, order, table, n);
+    lay_testers(sets, heads, n);
+    lay_awake(sets);
 }
