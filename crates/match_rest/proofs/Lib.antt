@@ -6,3 +6,4 @@ pub mod EntryLaws
 pub mod RoundLaws
 pub mod RenewLaws
 pub mod LayLaws
+pub mod KeptLaws
