@@ -9,12 +9,13 @@ use native.Mathlib.Nat.{pow-suc}
 use native.Mathlib.Decide.{ℕ-discrete}
 use lib.Dec.{eqb}
 use lib.Pow.{pow-pos}
-use lib.ListN.{length, getD, set}
+use lib.ListN.{length, getD, set, replicate, length-replicate}
 use lib.Seq.{getD-set-same, getD-set-other}
 use borrow.Author.Tests.{eq-eqb}
 use Rattle.meaning.specs.Base.{bit}
 use Rattle.laws.specs.BoolLaws.{no-true}
 use Rattle.laws.specs.WindowLaws.{by-lt}
+use Rattle.laws.specs.MarkLaws.{bit-zero}
 use Rattle.match_sets.specs.Sets.{has, member}
 use Rattle.match_sets.proofs.SetLaws.{put-in, put-kept, put-word, put-other}
 use Rattle.match_order.specs.Order.{Ranked, Hitting, placeOf}
@@ -154,3 +155,21 @@ module _ (heads words order : List ℕ) (n : ℕ) (state table s s₁ s₂ s₃ 
         };
         sleeping = λ k h. inl (awake (k / 64) (k % 64) (omega (arith, roomy .few)) (omega arith));
       }
+
+-- ---- words that are cleared
+
+zero-word : (n j : ℕ) → getD {A = ℕ} (replicate n 0) j 0 ≡ 0
+zero-word zero zero = refl
+zero-word zero (suc j) = refl
+zero-word (suc n) zero = refl
+zero-word (suc n) (suc j) = zero-word n j
+
+pub no-bit : (n j i : ℕ) → has (replicate n 0) j i ≡ false
+no-bit n j i = ap (λ (x : ℕ). bit x i) (zero-word n j) ∙ bit-zero i
+
+-- room for any number of rules, and for at most 64
+pub roomy-large : (n : ℕ) → n ≤ 256 → Roomy n (replicate 1072 0)
+roomy-large n h = let e : length {A = ℕ} (replicate 1072 0) ≡ 1072 = length-replicate {A = ℕ} 1072 0 in record { few = h; least = omega arith; beds = λ k l. omega arith }
+
+pub roomy-small : (n : ℕ) → n ≤ 64 → Roomy n (replicate 304 0)
+roomy-small n h = let e : length {A = ℕ} (replicate 304 0) ≡ 304 = length-replicate {A = ℕ} 304 0 in record { few = omega arith; least = omega arith; beds = λ k l. omega arith }
