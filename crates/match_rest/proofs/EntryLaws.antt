@@ -53,10 +53,12 @@ module _ (table : List ℕ) (k : ℕ) (nine : List ℕ) (l : length nine ≡ 9) 
   pub entry-other : (j : ℕ) → (j ≡ k → ⊥) → entryAt (withEntry table k nine) j ≡ entryAt table j
   entry-other j d =
       ext-getD 0 (entryAt (withEntry table k nine) j) (entryAt table j)
-      (length-take 9 (drop (9 * j) (withEntry table k nine)) ∙ ap (min 9) (length-drop (9 * j) (withEntry table k nine) ∙ ap (λ (n : ℕ). n - 9 * j) with-length ∙ sym (length-drop (9 * j) table)) ∙ sym (length-take 9 (drop (9 * j) table)))
+      (length-take 9 (drop (9 * j) (withEntry table k nine)) ∙ ap (min 9) (length-drop (9 * j) (withEntry table k nine) ∙ ap (λ (n : ℕ). n - 9 * j) with-length ∙ sym (length-drop (9 * j) table))
+      ∙ sym (length-take 9 (drop (9 * j) table)))
       (λ i h.
       let low : i < 9 = omega (arith, length-take 9 (drop (9 * j) (withEntry table k nine)), min-le-left 9 (length (drop (9 * j) (withEntry table k nine)))) in
-      getD-take 9 (drop (9 * j) (withEntry table k nine)) i 0 low ∙ getD-drop (9 * j) (withEntry table k nine) i 0 ∙ other-word j i d low ∙ sym (getD-drop (9 * j) table i 0) ∙ sym (getD-take 9 (drop (9 * j) table) i 0 low))
+      getD-take 9 (drop (9 * j) (withEntry table k nine)) i 0 low ∙ getD-drop (9 * j) (withEntry table k nine) i 0 ∙ other-word j i d low ∙ sym (getD-drop (9 * j) table i 0)
+      ∙ sym (getD-take 9 (drop (9 * j) table) i 0 low))
 
   pub first-own : getD (withEntry table k nine) (9 * k) 0 ≡ getD nine 0 0
   first-own = sym (first-of (withEntry table k nine)) ∙ ap (λ (m : List ℕ). getD m 0 0) entry-own

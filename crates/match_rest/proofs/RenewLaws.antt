@@ -222,7 +222,8 @@ module _ (heads words order : List ℕ) (n : ℕ) (state : List ℕ) (mark w r :
           by-test (testsMarked mark (ruleIn heads words k))
           (λ m.
           let t : Touch sets w mark 8 (k - 64 * w) = rw at-bit at (marked-touch heads words n sets laid (rests .testing) w mark k h at-word m) in
-          let off : isAwake sets k ≡ false = rw (at-word, at-bit) (sym (ap (λ (x : Bool). x && has sets w (k - 64 * w)) (touches .all (k - 64 * w) t)) ∙ sym (bit-and r (getD sets w 0) (k - 64 * w)) ∙ b) in
+          let off : isAwake sets k ≡ false = rw (at-word, at-bit)
+          (sym (ap (λ (x : Bool). x && has sets w (k - 64 * w)) (touches .all (k - 64 * w) t)) ∙ sym (bit-and r (getD sets w 0) (k - 64 * w)) ∙ b) in
           rw m
           (⊎-elim (λ (s : isAwake sets k ≡ true). absurd (no-true (sym s ∙ off)))
           (λ (a : Asleep heads words state table sets k). same ∙ a .zeros ∙ sym (a .shuts state clock (a .differs))) (rests .sleeping k h)))

@@ -182,7 +182,8 @@ module _ (heads words order state : List ℕ) (w todo : ℕ) (table sets : List 
           rests = so-far .rests;
         }
 
-    module _ (low : m < 64) (word : w < 4) (here : bit todo m ≡ true) (room : 9 * (64 * w + m) + 9 ≤ length table) (table″ sets″ : List ℕ) (v : Visited heads words order state (64 * w + m) table′ table″ sets′ sets″) where
+    module _ (low : m < 64) (word : w < 4) (here : bit todo m ≡ true) (room : 9 * (64 * w + m) + 9 ≤ length table) (table″ sets″ : List ℕ)
+        (v : Visited heads words order state (64 * w + m) table′ table″ sets′ sets″) where
       abbrev k : ℕ
       k = 64 * w + m
 

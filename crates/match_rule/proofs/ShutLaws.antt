@@ -35,7 +35,8 @@ module _ (w xs : List ℕ) (q m b : ℕ) (h : b < 8) (named : bitAnd (m / 2 ^ (7
   given-up (suc d) i e v k =
       elim (ℕ-discrete (bitAnd (m / 2 ^ (7 - i)) 1) 1) [
         | yes z ↦ (
-            elim (termRun (getD xs i 0) (wordTerm (getD w (q + 3 + i) 0)) v) as (λ (r : Run). r ≡ termRun (getD xs i 0) (wordTerm (getD w (q + 3 + i) 0)) v → thenOn (termsRun xs (left w q m i) v) k ≡ stop) [
+            elim (termRun (getD xs i 0) (wordTerm (getD w (q + 3 + i) 0)) v) as
+            (λ (r : Run). r ≡ termRun (getD xs i 0) (wordTerm (getD w (q + 3 + i) 0)) v → thenOn (termsRun xs (left w q m i) v) k ≡ stop) [
               | stop ↦ λ s. sym (slot-over w xs q m i v k (omega arith) z false v s refl)
               | on u ↦ λ s. sym (slot-on w xs q m i v k (omega arith) z true u s u refl refl) ∙ given-up d (i + 1) (omega arith) u k
             ]) refl
@@ -62,7 +63,8 @@ module _ (w st : List ℕ) (o n i q : ℕ) (at : q ≡ o + 11 * i) (h : i < n) w
         | no d ↦ still-pending d v
       ]
 
-  pub other-symbol : (b : ℕ) → b < 8 → bitAnd (getD w (q + 2) 0 / 2 ^ (7 - b)) 1 ≡ 1 → getD w (q + 3 + b) 0 < 4096 → (getD st (10 * buffer + 1 + b) 0 ≡ getD w (q + 3 + b) 0 → ⊥) → (v : Vars) → come v ≡ stop
+  pub other-symbol : (b : ℕ) → b < 8 → bitAnd (getD w (q + 2) 0 / 2 ^ (7 - b)) 1 ≡ 1 → getD w (q + 3 + b) 0 < 4096 → (getD st (10 * buffer + 1 + b) 0 ≡ getD w (q + 3 + b) 0 → ⊥) → (v : Vars)
+      → come v ≡ stop
   other-symbol b l named symbol z v =
       let xs : List ℕ = getD (buffersIn st) buffer nothing .slots in
       let differs : getD (getD (buffersIn st) buffer nothing .slots) b 0 ≡ getD w (q + 3 + b) 0 → ⊥ = λ e. z (sym (slot-is st buffer b (omega arith) l) ∙ e) in
@@ -82,7 +84,8 @@ module _ (w : List ℕ) (bs : List Buffer) (o n : ℕ) where
   unfolding testsRun
   over-first i h after v =
       rw (first w bs o n i (o + 11 * i) v refl h)
-      (elim (testRun (getD bs (getD w (o + 11 * i) 0 % 8) nothing) (testIn w (o + 11 * i)) v) as (λ (r : Run). thenOn r (λ u. testsRun bs (testsFrom w o (i + 1) (n - (i + 1))) u) ≡ stop) [ stop ↦ refl | on u ↦ after u ])
+      (elim (testRun (getD bs (getD w (o + 11 * i) 0 % 8) nothing) (testIn w (o + 11 * i)) v) as
+      (λ (r : Run). thenOn r (λ u. testsRun bs (testsFrom w o (i + 1) (n - (i + 1))) u) ≡ stop) [ stop ↦ refl | on u ↦ after u ])
 
   back : (i : ℕ) → i ≤ n → ((v : Vars) → testsRun bs (testsFrom w o i (n - i)) v ≡ stop) → (v : Vars) → testsRun bs (testsFrom w o 0 (n - 0)) v ≡ stop
   back zero h all = all

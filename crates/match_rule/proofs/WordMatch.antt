@@ -87,7 +87,8 @@ module _ (w st : List ℕ) (o n i q : ℕ) (v : Vars) (at : q ≡ o + 11 * i) (h
     flat-other z = test-other w (buffersIn st) o n i q v at h d′ (λ e. z (sym (ap (λ (b : Buffer). b .isa) (buffer-is st kb small)) ∙ e))
 
     pub flat-on : getD st (10 * kb) 0 ≡ getD w (q + 1) 0
-        → thenOn (termsRun (getD (buffersIn st) kb nothing .slots) (left w q (getD w (q + 2) 0) 0) v) (λ u. testsRun (buffersIn st) (testsFrom w o (i + 1) (n - (i + 1))) u) ≡ testsRun (buffersIn st) (testsFrom w o i (n - i)) v
+        → thenOn (termsRun (getD (buffersIn st) kb nothing .slots) (left w q (getD w (q + 2) 0) 0) v) (λ u. testsRun (buffersIn st) (testsFrom w o (i + 1) (n - (i + 1))) u) ≡ testsRun
+        (buffersIn st) (testsFrom w o i (n - i)) v
     flat-on z = test-on w (buffersIn st) o n i q v at h d′ (ap (λ (b : Buffer). b .isa) (buffer-is st kb small) ∙ z)
 
 module _ (w st : List ℕ) (q m b : ℕ) (v : Vars) (k : Vars → Run) (h : b < 8) where

@@ -25,10 +25,15 @@ add-put-3 : tie.Need-add-put-3
 add-put-3 c = search needs
 
 put-requires-2 : tie.Need-put-requires-2
-put-requires-2 c κs = omega (arith, c .before .before .before .before .before .before .before .pre .2, c .before .before .before .put .kept .0)
+put-requires-2 c κs =
+    let pre = c .before .before .before .before .before .before .before .pre in
+    omega (arith, pre .2, c .before .before .before .put .kept .0)
 
 remove-requires : tie.Need-remove-requires
-remove-requires c κs = omega (arith, c .before .before .before .before .before .before .before .before .before .before .before .pre .2, c .before .before .before .before .before .before .before .put .kept .0, c .before .before .before .put2 .kept .0)
+remove-requires c κs =
+    let pre = c .before .before .before .before .before .before .before .before .before .before .before .pre in
+    let put = c .before .before .before .before .before .before .before .put in
+    omega (arith, pre .2, put .kept .0, c .before .before .before .put2 .kept .0)
 
 same-length : tie.Need-same-length
 same-length c = search needs

@@ -32,8 +32,9 @@ lay-testers-requires c κs =
 
 lay-awake-requires : tie.Need-lay-awake-requires
 lay-awake-requires c κs =
+    let lay-hits = c .before .before .before .before .before .before .before .lay-hits in
     let pre = c .before .before .before .before .before .before .before .before .before .before .before .before .before .before .before .before .before .before .pre in
-    omega (arith, pre .0 .least, c .before .before .before .before .before .before .before .lay-hits .kept .0, c .before .before .before .lay-testers .kept .0)
+    omega (arith, pre .0 .least, lay-hits .kept .0, c .before .before .before .lay-testers .kept .0)
 
 same-length : tie.Need-same-length
 same-length c = search needs

@@ -14,7 +14,8 @@ use Rattle.match_rest.proofs.renew.Statement.{statement}
 use Rattle.match_rest.proofs.renew.Tie as tie
 
 abbrev Inv-loop : tie.InvT-loop
-Inv-loop table₀ sets₀ order heads words n state mark w₀ table sets w = (64 * w ≤ n + 63) × (length table ≡ length table₀) × (length sets ≡ length sets₀) × Resting heads words order n state table sets × Renewed heads words n state mark w table₀ table
+Inv-loop table₀ sets₀ order heads words n state mark w₀ table sets w = (64 * w ≤ n + 63) × (length table ≡ length table₀) × (length sets ≡ length sets₀)
+    × Resting heads words order n state table sets × Renewed heads words n state mark w table₀ table
 
 abbrev μ-loop : tie.MeasureT-loop
 μ-loop table₀ sets₀ order heads words n state mark w₀ table sets w = 4 - w
@@ -64,7 +65,8 @@ visit-all-requires c κs =
     let touched = c .before .before .before .touched in (
       pre .buffers,
       omega (arith, l .inv .3 .roomy .few, word),
-      visitable (args .heads .now) (args .words .now) (args .order .now) (args .n) (args .state .now) (args .mark) (l .w) (touched .result) (l .table) (l .sets) (pre .laid) (pre .ranked) (l .inv .1 ∙ pre .entries)
+      visitable (args .heads .now) (args .words .now) (args .order .now) (args .n) (args .state .now) (args .mark) (l .w) (touched .result) (l .table) (l .sets) (pre .laid) (pre .ranked)
+          (l .inv .1 ∙ pre .entries)
           (l .inv .3) (touched .ensures) word (omega (arith, c .before .before .slice-known4 .given (l .w), and-le-r (touched .result) (getD (l .sets) (l .w) 0))),
     )
 
@@ -72,10 +74,14 @@ add-w : tie.Need-add-w Inv-loop μ-loop
 add-w c = search needs
 
 loop-less : tie.Need-loop-less Inv-loop μ-loop
-loop-less c = omega (arith, c .before .before .before .before .before .before .before .before .before .before .loop-test .taken, c .before .before .before .before .before .before .before .before .before .before .before .loop .inv .3 .roomy .few)
+loop-less c =
+    let loop-test = c .before .before .before .before .before .before .before .before .before .before .loop-test in
+    let loop = c .before .before .before .before .before .before .before .before .before .before .before .loop in
+    omega (arith, loop-test .taken, loop .inv .3 .roomy .few)
 
 loop-again : tie.Need-loop-again Inv-loop μ-loop
 loop-again c =
+    let slice-known4 = c .before .before .before .before .before .before .before .slice-known4 in
     let l = c .before .before .before .before .before .before .before .before .before .before .before .loop in
     let start = c .before .before .before .before .before .before .before .before .before .before .before .before .before .before .before .before .before .before .before .before .before .before in
     let args = start .args in
@@ -83,13 +89,16 @@ loop-again c =
     let word = c .before .before .before .before .before .before .before .before .before .before .loop-test .taken in
     let touched = c .before .before .before .before .before .before .before .before .touched in
     let v = c .before .before .before .before .visit-all in
-    let small : bitAnd (touched .result) (getD (l .sets) (l .w) 0) < 2 ^ 64 = omega (arith, c .before .before .before .before .before .before .before .slice-known4 .given (l .w), and-le-r (touched .result) (getD (l .sets) (l .w) 0)) in (
+    let small : bitAnd (touched .result) (getD (l .sets) (l .w) 0) < 2 ^ 64 = omega
+    (arith, slice-known4 .given (l .w), and-le-r (touched .result) (getD (l .sets) (l .w) 0)) in (
       omega (arith, word),
       v .ensures .entries ∙ l .inv .1,
       v .ensures .size ∙ l .inv .2,
-      rests-on (args .heads .now) (args .words .now) (args .order .now) (args .n) (args .state .now) (args .mark) (l .w) (touched .result) (l .table) (l .sets) (pre .laid) (pre .ranked) (l .inv .1 ∙ pre .entries)
+      rests-on (args .heads .now) (args .words .now) (args .order .now) (args .n) (args .state .now) (args .mark) (l .w) (touched .result) (l .table) (l .sets) (pre .laid) (pre .ranked)
+          (l .inv .1 ∙ pre .entries)
           (l .inv .3) (touched .ensures) word small (args .table .now) (l .inv .4) (v .last .0) (v .last .1 .0) (v .ensures),
-      renewed-turn (args .heads .now) (args .words .now) (args .order .now) (args .n) (args .state .now) (args .mark) (l .w) (touched .result) (l .table) (l .sets) (pre .laid) (pre .ranked) (l .inv .1 ∙ pre .entries)
+      renewed-turn (args .heads .now) (args .words .now) (args .order .now) (args .n) (args .state .now) (args .mark) (l .w) (touched .result) (l .table) (l .sets) (pre .laid) (pre .ranked)
+          (l .inv .1 ∙ pre .entries)
           (l .inv .3) (touched .ensures) word small (args .table .now) (l .inv .4) (v .last .0) (v .last .1 .0) (v .ensures),
     )
 

@@ -25,19 +25,25 @@ enum-told : tie.Need-enum-told
 enum-told c = search needs
 
 put-requires : tie.Need-put-requires
-put-requires c κs = omega (arith, c .before .before .before .before .before .before .pre .2, c .before .before .before .before .before .before .pre .3)
+put-requires c κs =
+    let pre = c .before .before .before .before .before .before .pre in
+    omega (arith, pre .2, pre .3)
 
 enum-told-2 : tie.Need-enum-told-2
 enum-told-2 c = search needs
 
 remove-requires : tie.Need-remove-requires
-remove-requires c κs = omega (arith, c .before .before .before .before .before .before .pre .2, c .before .before .before .before .before .before .pre .3)
+remove-requires c κs =
+    let pre = c .before .before .before .before .before .before .pre in
+    omega (arith, pre .2, pre .3)
 
 enum-known-tried : tie.Need-enum-known-tried
 enum-known-tried c = search needs
 
 remove-requires-2 : tie.Need-remove-requires-2
-remove-requires-2 c κs = omega (arith, c .before .before .before .before .before .before .before .pre .2, c .before .before .before .before .before .before .before .pre .3)
+remove-requires-2 c κs =
+    let pre = c .before .before .before .before .before .before .before .pre in
+    omega (arith, pre .2, pre .3)
 
 cast-lay-down : tie.Need-cast-lay-down
 cast-lay-down c = search needs
@@ -81,7 +87,8 @@ returns-3 c =
     let down = c .before .before .lay-down in
     let is = c .before .before .before .before .before .before .before .before .before .tried .given .1 in
     rw is
-    (settled-differs (args .k) (placeOf (args .order .now) (args .k)) (args .sets .now) (out .last .0) (start .pre .0) (start .pre .2) (out .kept .0) _ _ (down .last .0) (out .ensures) (down .ensures))
+    (settled-differs (args .k) (placeOf (args .order .now) (args .k)) (args .sets .now) (out .last .0) (start .pre .0) (start .pre .2) (out .kept .0) _ _ (down .last .0) (out .ensures)
+    (down .ensures))
 
 pub settle-spec : {M : Type 1} → statement M
 settle-spec =

@@ -11,16 +11,24 @@ use Rattle.match_rest.proofs.visit.Statement.{statement}
 use Rattle.match_rest.proofs.visit.Tie as tie
 
 mul-tests : tie.Need-mul-tests
-mul-tests c = record { fits = omega (arith, c .before .before .before .before .before .before .pre .0 .few) }
+mul-tests c = record {
+  fits =
+      let pre = c .before .before .before .before .before .before .pre in
+      omega (arith, pre .0 .few);
+}
 
 mul-tests-2 : tie.Need-mul-tests-2
 mul-tests-2 c = search needs
 
 shared-slice-read-tests : tie.Need-shared-slice-read-tests
-shared-slice-read-tests c = omega (arith, c .before .before .before .before .before .before .before .pre .0 .head)
+shared-slice-read-tests c =
+    let pre = c .before .before .before .before .before .before .before .pre in
+    omega (arith, pre .0 .head)
 
 cast-tests : tie.Need-cast-tests
-cast-tests c = omega (arith, c .before .before .before .before .before .before .before .pre .0 .tests)
+cast-tests c =
+    let pre = c .before .before .before .before .before .before .before .pre in
+    omega (arith, pre .0 .tests)
 
 mul-a : tie.Need-mul-a
 mul-a c = search needs
@@ -38,7 +46,9 @@ part-try-into-start : tie.Need-part-try-into-start
 part-try-into-start c = search needs
 
 part-try-into-end : tie.Need-part-try-into-end
-part-try-into-end c = omega (arith, c .before .before .before .before .before .before .before .pre .0 .entry)
+part-try-into-end c =
+    let pre = c .before .before .before .before .before .before .before .pre in
+    omega (arith, pre .0 .entry)
 
 mul-try-into-2 : tie.Need-mul-try-into-2
 mul-try-into-2 c = search needs

@@ -25,7 +25,11 @@ lowest-requires : tie.Need-lowest-requires Inv-loop μ-loop
 lowest-requires c κs = search needs
 
 mul-visit : tie.Need-mul-visit Inv-loop μ-loop
-mul-visit c = record { fits = omega (arith, c .before .before .before .before .before .before .before .before .before .before .before .pre .1) }
+mul-visit c = record {
+  fits =
+      let pre = c .before .before .before .before .before .before .before .before .before .before .before .pre in
+      omega (arith, pre .1);
+}
 
 add-visit : tie.Need-add-visit Inv-loop μ-loop
 add-visit c = search needs
@@ -52,7 +56,12 @@ add-i-2 : tie.Need-add-i-2 Inv-loop μ-loop
 add-i-2 c = search needs
 
 loop-less : tie.Need-loop-less Inv-loop μ-loop
-loop-less c = walk-less (c .before .before .before .before .before .before .before .before .before .loop .rest) (c .before .before .before .before .before .before .before .lowest .result) (c .before .before .before .before .before .before .before .before .loop-test .taken)
+loop-less c =
+    let loop = c .before .before .before .before .before .before .before .before .before .loop in
+    let lowest = c .before .before .before .before .before .before .before .lowest in
+    let loop-test = c .before .before .before .before .before .before .before .before .loop-test in
+    walk-less (loop .rest) (lowest .result)
+    (loop-test .taken)
 
 loop-again : tie.Need-loop-again Inv-loop μ-loop
 loop-again c =
@@ -67,7 +76,8 @@ loop-again c =
     let v = c .before .before .before .before .visit in (
       omega (arith, low),
       walk-next x (l .rest) (l .i) (l .inv .1) (z .result),
-      visited-turn (args .heads .now) (args .words .now) (args .order .now) (args .state .now) (args .w) x (args .table .now) (args .sets .now) (l .i) (l .i + z .result) (omega arith) none (l .table) (l .sets)
+      visited-turn (args .heads .now) (args .words .now) (args .order .now) (args .state .now) (args .w) x (args .table .now) (args .sets .now) (l .i) (l .i + z .result) (omega arith) none
+          (l .table) (l .sets)
           (l .inv .2) low (start .pre .1) here (start .pre .2 (l .i + z .result) here .entry) (v .last .0) (v .last .1 .0) (v .ensures),
     )
 

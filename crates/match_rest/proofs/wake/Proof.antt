@@ -37,13 +37,21 @@ lowest-requires : tie.Need-lowest-requires Inv-loop μ-loop
 lowest-requires c κs = search needs
 
 mul-p : tie.Need-mul-p Inv-loop μ-loop
-mul-p c = record { fits = omega (arith, c .before .before .before .before .before .before .pre .2) }
+mul-p c = record {
+  fits =
+      let pre = c .before .before .before .before .before .before .pre in
+      omega (arith, pre .2);
+}
 
 add-p : tie.Need-add-p Inv-loop μ-loop
 add-p c = record { fits = omega (arith, c .lowest .ensures .0, c .before .before .loop .inv .0) }
 
 add-p-2 : tie.Need-add-p-2 Inv-loop μ-loop
-add-p-2 c = record { fits = omega (arith, c .lowest .ensures .0, c .before .before .loop .inv .0, c .before .before .before .before .before .before .pre .2) }
+add-p-2 c = record {
+  fits =
+      let pre = c .before .before .before .before .before .before .pre in
+      omega (arith, c .lowest .ensures .0, c .before .before .loop .inv .0, pre .2);
+}
 
 mul-bed : tie.Need-mul-bed Inv-loop μ-loop
 mul-bed c = search needs
@@ -76,13 +84,28 @@ shr-rest : tie.Need-shr-rest Inv-loop μ-loop
 shr-rest c = search needs
 
 add-i : tie.Need-add-i Inv-loop μ-loop
-add-i c = record { fits = omega (arith, c .before .before .before .before .before .before .lowest .ensures .0, c .before .before .before .before .before .before .before .before .loop .inv .0) }
+add-i c = record {
+  fits =
+      let lowest = c .before .before .before .before .before .before .lowest in
+      let loop = c .before .before .before .before .before .before .before .before .loop in
+      omega (arith, lowest .ensures .0, loop .inv .0);
+}
 
 add-i-2 : tie.Need-add-i-2 Inv-loop μ-loop
-add-i-2 c = record { fits = omega (arith, c .before .before .before .before .before .before .lowest .ensures .0, c .before .before .before .before .before .before .before .before .loop .inv .0) }
+add-i-2 c = record {
+  fits =
+      let lowest = c .before .before .before .before .before .before .lowest in
+      let loop = c .before .before .before .before .before .before .before .before .loop in
+      omega (arith, lowest .ensures .0, loop .inv .0);
+}
 
 loop-less : tie.Need-loop-less Inv-loop μ-loop
-loop-less c = walk-less (c .before .before .before .before .before .before .before .before .loop .rest) (c .before .before .before .before .before .before .lowest .result) (c .before .before .before .before .before .before .before .loop-test .taken)
+loop-less c =
+    let loop = c .before .before .before .before .before .before .before .before .loop in
+    let lowest = c .before .before .before .before .before .before .lowest in
+    let loop-test = c .before .before .before .before .before .before .before .loop-test in
+    walk-less (loop .rest) (lowest .result)
+    (loop-test .taken)
 
 loop-again : tie.Need-loop-again Inv-loop μ-loop
 loop-again c =

@@ -45,7 +45,11 @@ add-b-2 : tie.Need-add-b-2 Inv-loop μ-loop
 add-b-2 c = search needs
 
 loop-less : tie.Need-loop-less Inv-loop μ-loop
-loop-less c = walk-less (c .before .before .before .before .before .before .loop .rest) (c .before .before .before .before .lowest .result) (c .before .before .before .before .before .loop-test .taken)
+loop-less c =
+    let loop = c .before .before .before .before .before .before .loop in
+    let loop-test = c .before .before .before .before .before .loop-test in
+    walk-less (loop .rest) (c .before .before .before .before .lowest .result)
+    (loop-test .taken)
 
 loop-again : tie.Need-loop-again Inv-loop μ-loop
 loop-again c =

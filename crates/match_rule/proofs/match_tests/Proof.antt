@@ -25,13 +25,16 @@ use Rattle.match_rule.proofs.match_tests.Statement.{statement}
 use Rattle.match_rule.proofs.match_tests.Tie as tie
 
 abbrev Inv-loop : tie.InvT-loop
-Inv-loop words o n state vars₀ q i tried₀ p k mask b₀ vars tried b = (tried ≡ Hit) × (b ≤ 8) × (length vars ≡ 16) × (thenOn (termsRun (getD (buffersIn state) (getD words q 0 % 8) nothing .slots) (left words q mask b) (varsIn vars)) (λ u. testsRun (buffersIn state) (testsFrom words o (i + 1) (n - (i + 1))) u) ≡ testsRun (buffersIn state) (testsIn words o n) noVars)
+Inv-loop words o n state vars₀ q i tried₀ p k mask b₀ vars tried b = (tried ≡ Hit) × (b ≤ 8) × (length vars ≡ 16)
+    × (thenOn (termsRun (getD (buffersIn state) (getD words q 0 % 8) nothing .slots) (left words q mask b) (varsIn vars))
+    (λ u. testsRun (buffersIn state) (testsFrom words o (i + 1) (n - (i + 1))) u) ≡ testsRun (buffersIn state) (testsIn words o n) noVars)
 
 abbrev μ-loop : tie.MeasureT-loop
 μ-loop words o n state vars₀ q i tried₀ p k mask b₀ vars tried b = 8 - b
 
 abbrev Inv-tests : tie.InvT-tests
-Inv-tests words o n state vars₀ q₀ i₀ tried₀ vars q i tried = (tried ≡ Hit) × (i ≤ n) × (q ≡ o + 11 * i) × (length vars ≡ 16) × (testsRun (buffersIn state) (testsFrom words o i (n - i)) (varsIn vars) ≡ testsRun (buffersIn state) (testsIn words o n) noVars)
+Inv-tests words o n state vars₀ q₀ i₀ tried₀ vars q i tried = (tried ≡ Hit) × (i ≤ n) × (q ≡ o + 11 * i) × (length vars ≡ 16)
+    × (testsRun (buffersIn state) (testsFrom words o i (n - i)) (varsIn vars) ≡ testsRun (buffersIn state) (testsIn words o n) noVars)
 
 abbrev μ-tests : tie.MeasureT-tests
 μ-tests words o n state vars₀ q₀ i₀ tried₀ vars q i tried = n - i
