@@ -2,15 +2,9 @@
 use Prim.Native.Nat.{ℕ, _+_, _*_, _≤_, _<_}
 use mathlib.Core.Path.{_≡_}
 use mathlib.Core.List.{List}
-use lib.ListN.{length, getD, replicate}
-use Rattle.meaning.specs.Model.{Rule}
-use Rattle.meaning.specs.Match.{entryOf}
+use lib.ListN.{length, getD}
 use Rattle.layout.specs.Rows.{ruleIn}
-use Rattle.layout.specs.StateWords.{stateIn}
-
--- where the word at `place` is another than `value`, the rule does not match
-abbrev pub Shuts : Rule → ℕ → ℕ → Type 0
-Shuts r place value = (state : List ℕ) (clock : ℕ) → (getD state place 0 ≡ value → ⊥) → entryOf r (stateIn state clock) ≡ replicate 9 0
+use Rattle.match_rule.specs.Shut.{Shuts}
 
 -- words 2 k and 2 k + 1 are the gate of rule k, if it has a test
 pub record Gated (gates heads words : List ℕ) (n : ℕ) : Type 0 where

@@ -5,7 +5,8 @@ ghost use Prim.Native.Nat.{ℕ, _+_, _*_, _≤_, _<_};
 ghost use lib.ListN.{length};
 ghost use Rattle.meaning.specs.Model.{Rule};
 ghost use Rattle.layout.specs.Rows.{testsIn};
-ghost use Rattle.match_gates.specs.Gates.{Shuts, Gated};
+ghost use Rattle.match_rule.specs.Shut.{Shuts};
+ghost use Rattle.match_gates.specs.Gates.{Gated};
 
 // A word of the state in words, by its number, and the value that it must have.
 pub struct Gate {

@@ -2,4 +2,6 @@
 pub mod TestLaws
 pub mod WordMatch
 pub mod Link
+pub mod MadeLaws
+pub mod ShutLaws
 pub mod Agree

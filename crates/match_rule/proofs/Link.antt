@@ -191,7 +191,8 @@ tests-come s (t ∷ ts) v before l k =
 
     go : ((w : Vars) → Keeps w (before ++ ps) → Comes (testsRun (s .buffers) ts w) (shown s ts && agreedFrom (before ++ ps) (places ts s)) (before ++ ps ++ places ts s))
         → (x y : Bool)
-        → Comes (thenOn (if x then (if y then termsRun (b .slots) (t .named) v else stop) else stop) (λ w. testsRun (s .buffers) ts w)) (((x && y) && shown s ts) && agreedFrom before (ps ++ places ts s)) (before ++ (ps ++ places ts s))
+        → Comes (thenOn (if x then (if y then termsRun (b .slots) (t .named) v else stop) else stop) (λ w. testsRun (s .buffers) ts w))
+        (((x && y) && shown s ts) && agreedFrom before (ps ++ places ts s)) (before ++ (ps ++ places ts s))
     go ih true true = on-it ih (termsRun (b .slots) (t .named) v) (terms-come b (t .named) v before (l .0) k)
     go ih true false = refl
     go ih false y = refl
@@ -226,7 +227,8 @@ entry-run r s l = go (testsRun (s .buffers) (r .tests) noVars) (tests-come s (r 
     go stop c = rw (agreed-walk (places (r .tests) s), c)
     go (on w) c =
         rw (agreed-walk (places (r .tests) s), c .0)
-        (ap (λ (m : List ℕ). 1 ∷ m) (eight-of (w .values) (valueIn (places (r .tests) s)) 0 8 (c .1 .eight-v) (λ k h. let q : 0 + k ≡ k = omega arith in c .1 .what k h ∙ ap (valueIn (places (r .tests) s)) (sym q))))
+        (ap (λ (m : List ℕ). 1 ∷ m) (eight-of (w .values) (valueIn (places (r .tests) s)) 0 8 (c .1 .eight-v)
+        (λ k h. let q : 0 + k ≡ k = omega arith in c .1 .what k h ∙ ap (valueIn (places (r .tests) s)) (sym q))))
 
 -- ---- what stands in words has variables below 8
 

@@ -68,7 +68,7 @@ module _ (w : List ℕ) (bs : List Buffer) (o n i q : ℕ) (v : Vars) where
   tests-end h = let e : n - i ≡ 0 = omega arith in rw e
 
   module _ (at : q ≡ o + 11 * i) (h : i < n) where
-    first : testsFrom w o i (n - i) ≡ testIn w q ∷ testsFrom w o (i + 1) (n - (i + 1))
+    pub first : testsFrom w o i (n - i) ≡ testIn w q ∷ testsFrom w o (i + 1) (n - (i + 1))
     first = let e : n - i + i ≡ n = omega arith in rows-left (λ k. testIn w (o + 11 * k)) i n h (n - i) e ∙ ap (λ (p : ℕ). testIn w p ∷ testsFrom w o (i + 1) (n - (i + 1))) (sym at)
 
     abbrev buf : Buffer

@@ -7,8 +7,8 @@ use native.Mathlib.Omega.{arith}
 use lib.ListN.{length, getD, take, drop, set, length-drop}
 use lib.Seq.{getD-take, getD-drop, take-set-le, take-set-lt, drop-set-lt, drop-set-add}
 use lib.Bits.{bitAnd}
-use lib.Dec.{eqb}
-use borrow.Author.Tests.{lt-ltb, le-ltb, ne-eqb}
+use lib.Dec.{eqb, ltb}
+use borrow.Author.Tests.{lt-ltb, le-ltb, eq-eqb, ne-eqb}
 use Rattle.meaning.specs.declared.Buffer.{Buffer}
 use Rattle.meaning.specs.Base.{if_then_else_}
 use Rattle.meaning.specs.State.{nothing}
@@ -18,6 +18,8 @@ use Rattle.layout.proofs.StateLaws.{buffer-is, slot-is}
 use Rattle.layout.proofs.WordLaws.{tab, listed}
 use Rattle.match_rule.specs.Run.{Vars, Run, on, stop, thenOn, termRun, termsRun, testsRun}
 use Rattle.match_rule.specs.Words.{varsIn}
+use Rattle.match_rule.specs.declared.Tried.the-variants.{Differs, Varies}
+use Rattle.match_rule.specs.Shut.{isHit, whyOf}
 use Rattle.match_rule.proofs.TestLaws.{left, testsFrom, slot-skip, slot-on, slot-over, test-pending, test-other, test-on}
 
 -- ---- a term
@@ -53,6 +55,18 @@ module _ (l : List ℕ) (x t : ℕ) where
     unfolding termRun
     term-seen z r e = rw (le-ltb t 4096 h, bound-is, ne-eqb (getD l (t % 8) 0) 0 z, value-is, e)
 
+-- a symbol that was missed is another than the value
+pub term-missed : (x t : ℕ) (v : Vars) (r : Bool) (u : Vars) → (if r then on u else stop) ≡ termRun x (wordTerm t) v → r ≡ false → t < 4096 → x ≡ t → ⊥
+unfolding termRun
+term-missed x t v r u e f h q =
+    let gone : stop ≡ on v = sym (ap (λ (b : Bool). if b then on u else stop) f) ∙ e ∙ (rw (lt-ltb t 4096 h, eq-eqb x t q)) in
+    let z : _≡_ {A = ℕ} 0 1 = cc in
+    omega arith
+
+-- whatever the reason is, the match was given up
+pub why-stops : (place term : ℕ) (v : Vars) → (if isHit (whyOf place term) then on v else stop) ≡ stop
+why-stops place term v = elim (ltb term 4096) as (λ b. (if isHit (if b then Differs place term else Varies) then on v else stop) ≡ stop) [ true ↦ refl | false ↦ refl ]
+
 -- ---- the laws of rows, with the state and the variables in words
 
 module _ (w st : List ℕ) (o n i q : ℕ) (v : Vars) (at : q ≡ o + 11 * i) (h : i < n) where
@@ -73,7 +87,8 @@ module _ (w st : List ℕ) (o n i q : ℕ) (v : Vars) (at : q ≡ o + 11 * i) (h
     flat-other z = test-other w (buffersIn st) o n i q v at h d′ (λ e. z (sym (ap (λ (b : Buffer). b .isa) (buffer-is st kb small)) ∙ e))
 
     pub flat-on : getD st (10 * kb) 0 ≡ getD w (q + 1) 0
-        → thenOn (termsRun (getD (buffersIn st) kb nothing .slots) (left w q (getD w (q + 2) 0) 0) v) (λ u. testsRun (buffersIn st) (testsFrom w o (i + 1) (n - (i + 1))) u) ≡ testsRun (buffersIn st) (testsFrom w o i (n - i)) v
+        → thenOn (termsRun (getD (buffersIn st) kb nothing .slots) (left w q (getD w (q + 2) 0) 0) v) (λ u. testsRun (buffersIn st) (testsFrom w o (i + 1) (n - (i + 1))) u) ≡ testsRun
+        (buffersIn st) (testsFrom w o i (n - i)) v
     flat-on z = test-on w (buffersIn st) o n i q v at h d′ (ap (λ (b : Buffer). b .isa) (buffer-is st kb small) ∙ z)
 
 module _ (w st : List ℕ) (q m b : ℕ) (v : Vars) (k : Vars → Run) (h : b < 8) where

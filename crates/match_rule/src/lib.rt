@@ -1,7 +1,8 @@
 // The match of one rule: from its rows of words, with the state in words too and the variables lent, so that nothing is copied.
 ghost use mathlib.Core.Path.{_≡_};
+ghost use mathlib.Core.List.{_∷_};
 ghost use Prim.Native.Nat.{ℕ, _+_, _*_, _≤_};
-ghost use lib.ListN.{length, replicate};
+ghost use lib.ListN.{length, replicate, drop};
 ghost use Rattle.meaning.specs.Base.{if_then_else_, same};
 ghost use Rattle.meaning.specs.Model.{Rule};
 ghost use Rattle.meaning.specs.Match.{entryOf};
@@ -9,6 +10,15 @@ ghost use Rattle.layout.specs.Rows.{wordTerm, testsIn};
 ghost use Rattle.match_rule.specs.Run.{termRun, testsRun, noVars, on, stop};
 ghost use Rattle.layout.specs.StateWords.{buffersIn, stateIn};
 ghost use Rattle.match_rule.specs.Words.{varsIn};
+ghost use Rattle.match_rule.specs.Shut.{isHit, whyOf, Because, Made};
+
+// What trying to match a rule gives: it matches; a word of the state, by its number, has another value than the one wanted;
+// or a variable has two values.
+pub enum Tried {
+    Hit,
+    Differs(u16, u16),
+    Varies,
+}
 
 // One term against a slot's value: a symbol is compared; a variable is bound at its first place and compared at every later one.
 // vars: which of the eight variables are bound, and then their values.
@@ -28,23 +38,35 @@ fn match_term(vars: &mut [u16], value: u16, term: u16) -> bool
     vars[8 + k] == value
 }
 
-// Whether the n tests that stand in words from o on hold in a state, with the variables in vars;
+// Why a slot's value is not what a term wants: it is another symbol than the one wanted at that place of the state, or a variable has two values.
+fn why(place: u16, term: u16) -> Tried
+    ensures { λ t. ⌜ t ≡ whyOf place term ⌝ }
+{
+    if 4096 <= term {
+        return Tried::Varies;
+    }
+    Tried::Differs(place, term)
+}
+
+// Whether the n tests that stand in words from o on hold in a state, with the variables in vars, and why not;
 // at the first slot that differs the whole rule is given up.
-fn match_tests(words: &[u16], o: usize, n: usize, state: &[u16], vars: &mut [u16]) -> bool
+fn match_tests(words: &[u16], o: usize, n: usize, state: &[u16], vars: &mut [u16]) -> Tried
     requires { ⌜ (o + 11 * n ≤ length (now words)) × (80 ≤ length (now state)) × (length (now vars) ≡ 16) × (varsIn (now vars) ≡ noVars) ⌝ }
-    ensures { λ r. ⌜ (if r then on (varsIn (now (vars .exit))) else stop) ≡ testsRun (buffersIn (now (state .entry))) (testsIn (now (words .entry)) o n) noVars ⌝ }
+    ensures { λ t. ⌜ (if isHit t then on (varsIn (now (vars .exit))) else stop) ≡ testsRun (buffersIn (now (state .entry))) (testsIn (now (words .entry)) o n) noVars ⌝ }
+    ensures because { λ t. ⌜ Because t (now (words .entry)) o n (now (state .entry)) ⌝ }
 {
     let mut q = o;
     let mut i = 0;
-    let mut hit = true;
+    let mut tried = Tried::Hit;
     'tests: while i < n {
-        let k = 10 * ((words[q] % 8) as usize);
+        let p = 10 * (words[q] % 8);
+        let k = p as usize;
         if state[k + 9] != 0 {
-            hit = false;
+            tried = Tried::Differs(p + 9, 0);
             break;
         }
         if state[k] != words[q + 1] {
-            hit = false;
+            tried = Tried::Differs(p, words[q + 1]);
             break;
         }
         let mask = words[q + 2];
@@ -52,7 +74,7 @@ fn match_tests(words: &[u16], o: usize, n: usize, state: &[u16], vars: &mut [u16
         while b < 8 {
             if (mask >> (7 - b)) & 1 == 1 {
                 if !match_term(vars, state[k + 1 + b], words[q + 3 + b]) {
-                    hit = false;
+                    tried = why(p + 1 + b as u16, words[q + 3 + b]);
                     break 'tests;
                 }
             }
@@ -61,19 +83,7 @@ fn match_tests(words: &[u16], o: usize, n: usize, state: &[u16], vars: &mut [u16
         q += 11;
         i += 1;
     }
-    hit
-}
-
-// Nine words into nine words.
-fn copy_nine(nine: &mut [u16], from: &[u16])
-    requires { ⌜ (length (now nine) ≡ 9) × (length (now from) ≡ 9) ⌝ }
-    ensures { λ _. ⌜ now (nine .exit) ≡ now (from .entry) ⌝ }
-{
-    let mut i = 0;
-    while i < 9 {
-        nine[i] = from[i];
-        i += 1;
-    }
+    tried
 }
 
 // The entry of a rule that does not match, into nine words.
@@ -81,31 +91,39 @@ pub fn no_entry(nine: &mut [u16])
     requires { ⌜ length (now nine) ≡ 9 ⌝ }
     ensures { λ _. ⌜ now (nine .exit) ≡ replicate 9 0 ⌝ }
 {
-    copy_nine(nine, &[0u16; 9]);
+    layout::copy_into(nine, 0, &[0u16; 9]);
 }
 
-// The fresh entry of the rule whose n tests stand in words from o on, into nine words.
+// The entry of a rule that matches, with its variables, into nine words.
+fn hit_entry(nine: &mut [u16], vars: &[u16])
+    requires { ⌜ (length (now nine) ≡ 9) × (length (now vars) ≡ 16) ⌝ }
+    ensures { λ _. ⌜ now (nine .exit) ≡ 1 ∷ drop 8 (now (vars .entry)) ⌝ }
+{
+    nine[0] = 1;
+    layout::copy_into(nine, 1, &vars[8..]);
+}
+
+// The fresh entry of the rule whose n tests stand in words from o on, into nine words; and why it does not match.
+pub fn try_into(nine: &mut [u16], words: &[u16], o: usize, n: usize, state: &[u16]) -> Tried
+    requires { ⌜ (length (now nine) ≡ 9) × (o + 11 * n ≤ length (now words)) × (80 ≤ length (now state)) ⌝ }
+    ensures { λ t. ⌜ Made t (now (nine .exit)) (now (words .entry)) o n (now (state .entry)) ⌝ }
+{
+    let mut vars = [0u16; 16];
+    let tried = match_tests(words, o, n, state, &mut vars);
+    if let Tried::Hit = tried {
+        hit_entry(nine, &vars);
+    } else {
+        no_entry(nine);
+    }
+    tried
+}
+
+// The same, for whoever does not ask why.
 pub fn entry_into(nine: &mut [u16], words: &[u16], o: usize, n: usize, state: &[u16])
     requires { ⌜ (length (now nine) ≡ 9) × (o + 11 * n ≤ length (now words)) × (80 ≤ length (now state)) ⌝ }
     ensures { λ _. ⌜ ((r : Rule) (clock : ℕ) → r .tests ≡ testsIn (now (words .entry)) o n → now (nine .exit) ≡ entryOf r (stateIn (now (state .entry)) clock)) ⌝ }
 {
-    let mut vars = [0u16; 16];
-    if match_tests(words, o, n, state, &mut vars) {
-        let matched = [
-            1,
-            vars[8],
-            vars[9],
-            vars[10],
-            vars[11],
-            vars[12],
-            vars[13],
-            vars[14],
-            vars[15],
-        ];
-        copy_nine(nine, &matched);
-    } else {
-        no_entry(nine);
-    }
+    try_into(nine, words, o, n, state);
 }
 
 // Whether two entries are the same, word for word.

@@ -2,7 +2,7 @@
 use Prim.Native.Nat.{_≤_, _-_}
 use native.Mathlib.Omega.{arith}
 use borrow.Author.Needs.{needs}
-use Rattle.match_gates.proofs.GateLaws.{type-shuts, symbol-shuts}
+use Rattle.match_rule.proofs.ShutLaws.{type-shuts, symbol-shuts}
 use Rattle.match_gates.proofs.gate_of.Statement.{statement}
 use Rattle.match_gates.proofs.gate_of.Tie as tie
 
@@ -67,7 +67,7 @@ returns : tie.Need-returns Inv-loop μ-loop
 returns c =
     let a = c .before .before .before .before .before .before .before .args in
     let l = c .before .before .before .before .loop in
-    (omega arith, λ n r h e. symbol-shuts (a .words .now) (a .o) n r h e (l .b) (c .before .before .before .loop-test .taken) (c .before .before .if1 .taken) (c .if2 .taken))
+    (omega arith, λ n r h e. symbol-shuts (a .words .now) (a .o) n 0 (a .o) (omega arith) h r e (l .b) (c .before .before .before .loop-test .taken) (c .before .before .if1 .taken) (c .if2 .taken))
 
 add-b : tie.Need-add-b Inv-loop μ-loop
 add-b c = search needs
@@ -90,7 +90,7 @@ shared-slice-read-isa c = search needs
 returns-2 : tie.Need-returns-2 Inv-loop μ-loop
 returns-2 c =
     let a = c .before .before .before .before .before .args in
-    (omega arith, λ n r h e. type-shuts (a .words .now) (a .o) n r h e)
+    (omega arith, λ n r h e. type-shuts (a .words .now) (a .o) n 0 (a .o) (omega arith) h r e)
 
 pub gate-of-spec : {M : Type 1} → statement M
 gate-of-spec =

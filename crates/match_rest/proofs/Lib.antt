@@ -1,0 +1,9 @@
+-- Laws of the refresh of a run.
+pub mod WalkLaws
+pub mod WakeLaws
+pub mod VisitLaws
+pub mod EntryLaws
+pub mod RoundLaws
+pub mod RenewLaws
+pub mod LayLaws
+pub mod KeptLaws

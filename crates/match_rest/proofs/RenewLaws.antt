@@ -1,0 +1,239 @@
+-- The refresh of a run: who still sleeps after waking does not match, and who is awake and tests a marked buffer is matched again.
+use Prim.Native.Nat.{ℕ, _+_, _-_, _*_, _/_, _%_, _^_, _≤_, _<_}
+use mathlib.Core.Path.{_≡_, refl, sym, ap, ap₂, _∙_}
+use mathlib.Core.Logic.{_⊎_, inl, inr, ⊎-elim}
+use mathlib.Core.Bool.{Bool, true, false, _&&_}
+use mathlib.Core.List.{List, map}
+use native.Mathlib.Omega.{arith}
+use native.Mathlib.Decide.{ℕ-discrete}
+use lib.Bits.{bitAnd}
+use lib.ListN.{length, getD, replicate, List·getD-eq-default}
+use Rattle.meaning.specs.Base.{bit, if_then_else_, weigh, upFrom}
+use Rattle.meaning.specs.Image.{isTested}
+use Rattle.meaning.specs.Match.{entryOf}
+use Rattle.meaning.specs.Refresh.{testsMarked}
+use Rattle.laws.specs.BaseLaws.{no-true, and-left, and-right}
+use Rattle.laws.specs.BaseLaws.{by-lt}
+use Rattle.laws.specs.BaseLaws.{bit-zero, bit-and, bit-weigh, Place, some-place}
+use Rattle.layout.specs.Rows.{ruleIn, Laid}
+use Rattle.layout.specs.StateWords.{stateIn}
+use Rattle.match_sets.specs.Sets.{has, member}
+use Rattle.match_order.specs.Order.{Ranked, Hitting, HitAt, placeOf}
+use Rattle.match_table.proofs.TableLaws.{mark-meets, mark-misses}
+use Rattle.match_rest.specs.Rest.{isAwake, isUsed, inBed, bedOf, tests, entryAt, Asleep, Sleeping, Testing, Roomy, Resting, Kept, Stepped}
+use Rattle.match_rest.specs.Woken.{Woke, Called, CalledBy}
+use Rattle.match_rest.specs.Visits.{Touch, Touches, Visitable, Among, VisitedAll}
+use Rattle.match_rest.proofs.WakeLaws.{roomy-kept}
+use Rattle.match_rest.proofs.WalkLaws.{bit-below}
+
+-- by whether a test passes
+by-test : {C : Type 0} (t : Bool) → (t ≡ true → C) → (t ≡ false → C) → C
+by-test true f g = f refl
+by-test false f g = g refl
+
+-- ---- what waking keeps
+
+module _ (heads words order : List ℕ) (n mark : ℕ) (before state table sets sets′ : List ℕ) (kept : Kept before state mark) (few : n ≤ 256)
+    (woke : Woke n (λ h k. CalledBy state sets mark 8 h) sets sets′) where
+  -- STILL SHUT, OR WOKEN: the word of a rule that still sleeps is still another
+  still : (k : ℕ) → k < n → isAwake sets′ k ≡ false → (a : Asleep heads words before table sets k) → getD state (a .place) 0 ≡ a .value → ⊥
+  still k h no-one a e =
+      by-test (bit mark (a .place / 10))
+      (λ m.
+      let p : 10 * (a .place / 10) + a .place % 10 ≡ a .place = omega arith in
+      let called : CalledBy state sets mark 8 (bedOf (a .place) (a .value)) =
+      record {
+        buffer = a .place / 10;
+        below = omega (arith, a .low);
+        low = omega (arith, a .low);
+        marked = m;
+        called = record {
+          at = a .place % 10;
+          below = omega arith;
+          low = omega arith;
+          used = rw p (a .used);
+          is = rw (p, e) refl;
+        };
+      } in
+      no-true (sym (woke .wakes (bedOf (a .place) (a .value)) k (omega arith) h called (a .bed)) ∙ no-one))
+      (λ m. elim (ℕ-discrete (a .place % 10) 9) [
+        | yes d ↦ let z : a .value ≡ 0 = a .delay d in kept .delays (a .place) (a .low) m d (λ q. a .differs (q ∙ sym z)) (e ∙ z)
+        | no d ↦ a .differs (sym (kept .words (a .place) (a .low) m d) ∙ e)
+      ])
+
+  asleep-still : (k : ℕ) → k < n → isAwake sets′ k ≡ false → Asleep heads words before table sets k → Asleep heads words state table sets′ k
+  asleep-still k h no-one a =
+      record {
+        place = a .place;
+        value = a .value;
+        low = a .low;
+        shuts = a .shuts;
+        differs = still k h no-one a;
+        delay = a .delay;
+        bed = ⊎-elim (λ (b : inBed sets′ (bedOf (a .place) (a .value)) k ≡ true). b) (λ (w : isAwake sets′ k ≡ true). absurd (no-true (sym w ∙ no-one)))
+            (woke .stays (bedOf (a .place) (a .value)) k (omega arith) h (a .bed));
+        used = woke .kept (40 + a .place / 10) (a .place % 10) (omega arith) (omega (arith, a .low)) ∙ a .used;
+        zeros = a .zeros;
+      }
+
+  sleeping-still : Sleeping heads words n before table sets → Sleeping heads words n state table sets′
+  sleeping-still x k h =
+      by-test (isAwake sets′ k) (λ w. inl w)
+      (λ no-one. ⊎-elim (λ (w : isAwake sets k ≡ true). inl (woke .grows k h w)) (λ (a : Asleep heads words before table sets k). inr (asleep-still k h no-one a)) (x k h))
+
+  hitting-still : Ranked heads order n → Hitting table order sets n → Hitting table order sets′ n
+  hitting-still ranked x =
+      record {
+        all = λ k h m. woke .kept (4 + placeOf order k / 64) (placeOf order k % 64) (omega arith) (omega (arith, ranked .low k h)) ∙ x .all k h m;
+        only = λ p h m. x .only p h (sym (woke .kept (4 + p / 64) (p % 64) (omega arith) (omega arith)) ∙ m);
+      }
+
+  testing-still : Testing heads n sets → Testing heads n sets′
+  testing-still x =
+      record {
+        all = λ b k l h. woke .kept (8 + 8 * (k / 64) + b) (k % 64) (omega arith) (omega arith) ∙ x .all b k l h;
+        only = λ b k l h t. x .only b k l h (sym (woke .kept (8 + 8 * (k / 64) + b) (k % 64) (omega arith) (omega arith)) ∙ t);
+      }
+
+  pub woken-rests : Ranked heads order n → Resting heads words order n before table sets → Resting heads words order n state table sets′
+  woken-rests ranked x =
+      record {
+        roomy = roomy-kept n sets sets′ (woke .size) (x .roomy);
+        testing = testing-still (x .testing);
+        hitting = hitting-still ranked (x .hitting);
+        sleeping = sleeping-still (x .sleeping);
+      }
+
+-- ---- the testers of a marked buffer are the rules that test one
+
+module _ (heads words : List ℕ) (n : ℕ) (sets : List ℕ) (laid : Laid heads words n) (testing : Testing heads n sets) (w mark : ℕ) (k : ℕ) (h : k < n) (here : k / 64 ≡ w) where
+  -- a mask has no bit from 8 on
+  mask-low : (b : ℕ) → bit (getD heads (4 * k + 3) 0) b ≡ true → b < 8
+  mask-low b e =
+      let flags : List Bool = map (isTested (ruleIn heads words k .tests)) (upFrom 0 8) in
+      let bits : bit (weigh flags) b ≡ true = ap (λ (x : ℕ). bit x b) (sym (laid .masks k h)) ∙ e in
+      by-lt b 8 (λ l. l) (λ l. absurd (no-true (sym bits ∙ bit-weigh flags b ∙ List·getD-eq-default flags false l)))
+
+  pub touch-marked : Touch sets w mark 8 (k % 64) → testsMarked mark (ruleIn heads words k) ≡ true
+  touch-marked t =
+      let tested : bit (getD heads (4 * k + 3) 0) (t .buffer) ≡ true = sym (testing .all (t .buffer) k (t .low) h) ∙ (rw here (t .tested)) in
+      mark-meets heads words n k mark laid h
+      (λ z. no-true (sym (bit-and (getD heads (4 * k + 3) 0) mark (t .buffer) ∙ ap₂ (λ (a b : Bool). a && b) tested (t .marked)) ∙ ap (λ (x : ℕ). bit x (t .buffer)) z ∙ bit-zero (t .buffer)))
+
+  pub marked-touch : testsMarked mark (ruleIn heads words k) ≡ true → Touch sets w mark 8 (k % 64)
+  marked-touch m =
+      let both : ℕ = bitAnd (getD heads (4 * k + 3) 0) mark in
+      let p : Place (bitAnd (getD heads (4 * k + 3) 0) mark) = some-place both both (omega arith) (λ z. no-true (sym m ∙ mark-misses heads words n k mark laid h z)) in
+      let two : (bit (getD heads (4 * k + 3) 0) (p .at) && bit mark (p .at)) ≡ true = sym (bit-and (getD heads (4 * k + 3) 0) mark (p .at)) ∙ p .is-set in
+      let tested : bit (getD heads (4 * k + 3) 0) (p .at) ≡ true = and-left (bit (getD heads (4 * k + 3) 0) (p .at)) (bit mark (p .at)) two in
+      let low : p .at < 8 = mask-low (p .at) tested in
+      let set : tests sets (p .at) k ≡ true = testing .all (p .at) k low h ∙ tested in
+      record { buffer = p .at; below = low; low = low; marked = and-right (bit (getD heads (4 * k + 3) 0) (p .at)) (bit mark (p .at)) two; tested = rw here at set }
+
+-- ---- the rules of a word
+
+-- the entries below 64 w are as the refresh makes them, the others as they were
+pub record Renewed (heads words : List ℕ) (n : ℕ) (state : List ℕ) (mark w : ℕ) (table table′ : List ℕ) : Type 0 where
+  pub made : (k : ℕ) → k < n → k < 64 * w → (clock : ℕ)
+      → entryAt table′ k ≡ (if testsMarked mark (ruleIn heads words k) then entryOf (ruleIn heads words k) (stateIn state clock) else entryAt table k)
+  pub left : (k : ℕ) → 64 * w ≤ k → entryAt table′ k ≡ entryAt table k
+
+pub renewed-none : (heads words : List ℕ) (n : ℕ) (state : List ℕ) (mark : ℕ) (table : List ℕ) → Renewed heads words n state mark 0 table table
+renewed-none heads words n state mark table = record { made = λ k h l clock. absurd (omega arith); left = λ k l. refl }
+
+module _ (heads words order : List ℕ) (n : ℕ) (state : List ℕ) (mark w r : ℕ) (table sets : List ℕ) (laid : Laid heads words n) (ranked : Ranked heads order n) (fits : length table ≡ 9 * n)
+    (rests : Resting heads words order n state table sets) (touches : Touches sets w mark 8 r) (word : 64 * w < n) (small : bitAnd r (getD sets w 0) < 2 ^ 64) where
+  abbrev todo : ℕ
+  todo = bitAnd r (getD sets w 0)
+
+  both : (i : ℕ) → bit todo i ≡ true → (bit r i && has sets w i) ≡ true
+  both i b = sym (bit-and r (getD sets w 0) i) ∙ b
+
+  number : (i : ℕ) → i < 64 → ((64 * w + i) / 64 ≡ w) × ((64 * w + i) % 64 ≡ i)
+  number i l = (omega arith, omega arith)
+
+  -- who is in the set tests a marked buffer, so it is one of the rules
+  one-of : (i : ℕ) → bit todo i ≡ true → 64 * w + i < n
+  one-of i b =
+      let low : i < 64 = bit-below 64 todo i small b in
+      let t : Touch sets w mark 8 i = touches .some i (and-left (bit r i) (has sets w i) (both i b)) in
+      let e : (64 * w + i) / 64 ≡ w = number i low .0 in
+      let f : (64 * w + i) % 64 ≡ i = number i low .1 in
+      rests .testing .only (t .buffer) (64 * w + i) (t .low) (omega (arith, rests .roomy .few)) (rw (e, f) (t .tested))
+
+  pub visitable : (i : ℕ) → bit todo i ≡ true → Visitable heads words order (length table) (length sets) (64 * w + i)
+  visitable i b =
+      let l : 64 * w + i < n = one-of i b in
+      record {
+        few = omega (arith, rests .roomy .few);
+        head = omega (arith, laid .heads-room);
+        tests = laid .tests-few (64 * w + i) l;
+        rows = omega (arith, laid .words-room);
+        entry = omega arith;
+        bed = rests .roomy .beds (64 * w + i) l;
+        ordered = ranked .room;
+        place = omega (arith, ranked .low (64 * w + i) l, ranked .few);
+      }
+
+  module _ (table₀ : List ℕ) (so-far : Renewed heads words n state mark w table₀ table) (table′ sets′ : List ℕ) (v : VisitedAll heads words order state w todo 64 table table′ sets sets′) where
+    chosen : (q : ℕ) → Among w todo 64 q → (q < n) × (isAwake sets q ≡ true)
+    chosen q a =
+        let i : ℕ = q - 64 * w in
+        let e : 64 * w + (q - 64 * w) ≡ q = omega (arith, a .from) in
+        let f : q / 64 ≡ w = omega (arith, a .from, a .below) in
+        let g : q % 64 ≡ q - 64 * w = omega (arith, a .from, a .below) in
+        (rw e at (one-of (q - 64 * w) (a .chosen)), rw (f, g) (and-right (bit r (q - 64 * w)) (has sets w (q - 64 * w)) (both (q - 64 * w) (a .chosen))))
+
+    pub rests-on : Resting heads words order n state table′ sets′
+    rests-on =
+        let good : Hitting table′ order sets′ n × Sleeping heads words n state table′ sets′ = v .rests n fits ranked chosen (rests .hitting, rests .sleeping) in
+        record {
+          roomy = roomy-kept n sets sets′ (v .size) (rests .roomy);
+          testing = record {
+            all = λ b k l h. v .testers (8 + 8 * (k / 64) + b) (k % 64) (omega arith) (omega (arith, rests .roomy .few)) ∙ rests .testing .all b k l h;
+            only = λ b k l h t. rests .testing .only b k l h (sym (v .testers (8 + 8 * (k / 64) + b) (k % 64) (omega arith) (omega arith)) ∙ t);
+          };
+          hitting = good .0;
+          sleeping = good .1;
+        }
+
+    -- a rule of the word
+    module _ (k : ℕ) (h : k < n) (from : 64 * w ≤ k) (below : k < 64 * w + 64) (clock : ℕ) where
+      abbrev fresh : List ℕ
+      fresh = entryOf (ruleIn heads words k) (stateIn state clock)
+
+      at-word : k / 64 ≡ w
+      at-word = omega arith
+
+      at-bit : k % 64 ≡ k - 64 * w
+      at-bit = omega arith
+
+      -- it was visited
+      seen : bit todo (k - 64 * w) ≡ true → entryAt table′ k ≡ (if testsMarked mark (ruleIn heads words k) then fresh else entryAt table₀ k)
+      seen b =
+          let t : Touch sets w mark 8 (k - 64 * w) = touches .some (k - 64 * w) (and-left (bit r (k - 64 * w)) (has sets w (k - 64 * w)) (both (k - 64 * w) b)) in
+          let m : testsMarked mark (ruleIn heads words k) ≡ true = touch-marked heads words n sets laid (rests .testing) w mark k h at-word (rw at-bit t) in
+          rw m (v .made k (record { from = from; below = below; chosen = b }) clock)
+
+      -- it was not: it tests no marked buffer, or it sleeps, and does not match
+      unseen : bit todo (k - 64 * w) ≡ false → entryAt table′ k ≡ (if testsMarked mark (ruleIn heads words k) then fresh else entryAt table₀ k)
+      unseen b =
+          let same : entryAt table′ k ≡ entryAt table k = v .left k (λ a. no-true (sym (a .chosen) ∙ b)) in
+          by-test (testsMarked mark (ruleIn heads words k))
+          (λ m.
+          let t : Touch sets w mark 8 (k - 64 * w) = rw at-bit at (marked-touch heads words n sets laid (rests .testing) w mark k h at-word m) in
+          let off : isAwake sets k ≡ false = rw (at-word, at-bit)
+          (sym (ap (λ (x : Bool). x && has sets w (k - 64 * w)) (touches .all (k - 64 * w) t)) ∙ sym (bit-and r (getD sets w 0) (k - 64 * w)) ∙ b) in
+          rw m
+          (⊎-elim (λ (s : isAwake sets k ≡ true). absurd (no-true (sym s ∙ off)))
+          (λ (a : Asleep heads words state table sets k). same ∙ a .zeros ∙ sym (a .shuts state clock (a .differs))) (rests .sleeping k h)))
+          (λ m. rw m (same ∙ so-far .left k from))
+
+    pub renewed-turn : Renewed heads words n state mark (w + 1) table₀ table′
+    renewed-turn =
+        record {
+          made = λ k h l clock. by-lt k (64 * w)
+              (λ g. v .left k (λ a. omega (arith, a .from)) ∙ so-far .made k h g clock)
+              (λ g. by-test (bit todo (k - 64 * w)) (seen k h g (omega arith) clock) (unseen k h g (omega arith) clock));
+          left = λ k l. v .left k (λ a. omega (arith, a .below)) ∙ so-far .left k (omega arith);
+        }

@@ -1,0 +1,89 @@
+-- What a run keeps of its rules between two steps, in words of 64 bits: which are awake, which match, which test a buffer,
+-- and the beds in which rules sleep that were given up at a word of the state.
+use Prim.Native.Nat.{ℕ, _+_, _*_, _/_, _%_, _≤_, _<_}
+use mathlib.Core.Path.{_≡_}
+use mathlib.Core.Logic.{_⊎_}
+use mathlib.Core.Bool.{Bool, true, false}
+use mathlib.Core.List.{List}
+use lib.ListN.{length, getD, take, drop, replicate}
+use Rattle.meaning.specs.Base.{bit}
+use Rattle.layout.specs.Rows.{ruleIn, Laid}
+use Rattle.match_sets.specs.Sets.{has}
+use Rattle.match_rule.specs.Shut.{Shuts}
+use Rattle.match_order.specs.Order.{Ranked, Hitting}
+
+-- ---- the words: 0 to 3 the awake rules, 4 to 7 the matching ones, 8 to 39 the testers, 40 to 47 the used places, from 48 on the beds
+
+abbrev pub isAwake : List ℕ → ℕ → Bool
+isAwake sets k = has sets (k / 64) (k % 64)
+
+-- rule k tests buffer b
+abbrev pub tests : List ℕ → ℕ → ℕ → Bool
+tests sets b k = has sets (8 + 8 * (k / 64) + b) (k % 64)
+
+-- some rule has slept by that word of the state
+abbrev pub isUsed : List ℕ → ℕ → Bool
+isUsed sets place = has sets (40 + place / 10) (place % 10)
+
+-- rule k sleeps in bed h
+abbrev pub inBed : List ℕ → ℕ → ℕ → Bool
+inBed sets h k = has sets (48 + 256 * (k / 64) + h) (k % 64)
+
+-- the bed for a word of the state and the value wanted there; any number below 256 would do
+abbrev pub bedOf : ℕ → ℕ → ℕ
+bedOf place value = (value + 23 * place) % 256
+
+-- ---- what holds of a rule
+
+-- the nine words of rule k
+abbrev pub entryAt : List ℕ → ℕ → List ℕ
+entryAt table k = take 9 (drop (9 * k) table)
+
+-- rule k does not match, as its entry says, and it sleeps in the bed of a word that is another than the one it wants; of a delay only 0 is wanted
+pub record Asleep (heads words state table sets : List ℕ) (k : ℕ) : Type 0 where
+  pub place : ℕ
+  pub value : ℕ
+  pub low : place < 80
+  pub shuts : Shuts (ruleIn heads words k) place value
+  pub differs : getD state place 0 ≡ value → ⊥
+  pub delay : place % 10 ≡ 9 → value ≡ 0
+  pub bed : inBed sets (bedOf place value) k ≡ true
+  pub used : isUsed sets place ≡ true
+  pub zeros : entryAt table k ≡ replicate 9 0
+
+-- each rule is awake, of which nothing is said, or asleep
+abbrev pub Sleeping : List ℕ → List ℕ → ℕ → List ℕ → List ℕ → List ℕ → Type 0
+Sleeping heads words n state table sets = (k : ℕ) → k < n → (isAwake sets k ≡ true) ⊎ Asleep heads words state table sets k
+
+-- the testers are those that the masks of the rules say
+pub record Testing (heads : List ℕ) (n : ℕ) (sets : List ℕ) : Type 0 where
+  pub all : (b k : ℕ) → b < 8 → k < n → tests sets b k ≡ bit (getD heads (4 * k + 3) 0) b
+  pub only : (b k : ℕ) → b < 8 → k < 256 → tests sets b k ≡ true → k < n
+
+-- there are words for all of it
+pub record Roomy (n : ℕ) (sets : List ℕ) : Type 0 where
+  pub few : n ≤ 256
+  pub least : 304 ≤ length sets
+  pub beds : (k : ℕ) → k < n → 304 + 256 * (k / 64) ≤ length sets
+
+-- WHAT HOLDS BETWEEN TWO STEPS
+pub record Resting (heads words order : List ℕ) (n : ℕ) (state table sets : List ℕ) : Type 0 where
+  pub roomy : Roomy n sets
+  pub testing : Testing heads n sets
+  pub hitting : Hitting table order sets n
+  pub sleeping : Sleeping heads words n state table sets
+
+-- ---- what a step leaves of the buffers that it does not mark: their words but the delay, and a delay above 0 stays above 0
+pub record Kept (before after : List ℕ) (mark : ℕ) : Type 0 where
+  pub words : (p : ℕ) → p < 80 → bit mark (p / 10) ≡ false → (p % 10 ≡ 9 → ⊥) → getD after p 0 ≡ getD before p 0
+  pub delays : (p : ℕ) → p < 80 → bit mark (p / 10) ≡ false → p % 10 ≡ 9 → (getD before p 0 ≡ 0 → ⊥) → getD after p 0 ≡ 0 → ⊥
+
+-- after a step with that mark, before the refresh
+pub record Stepped (heads words order : List ℕ) (n : ℕ) (state : List ℕ) (mark : ℕ) (table sets : List ℕ) : Type 0 where
+  pub laid : Laid heads words n
+  pub ranked : Ranked heads order n
+  pub entries : length table ≡ 9 * n
+  pub buffers : 80 ≤ length state
+  pub before : List ℕ
+  pub kept : Kept before state mark
+  pub resting : Resting heads words order n before table sets

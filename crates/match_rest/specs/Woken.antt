@@ -1,0 +1,34 @@
+-- What waking leaves: beds are emptied, and those who slept there are awake.
+use Prim.Native.Nat.{ℕ, _+_, _*_, _/_, _≤_, _<_}
+use mathlib.Core.Path.{_≡_}
+use mathlib.Core.Logic.{_⊎_}
+use mathlib.Core.Bool.{true}
+use mathlib.Core.List.{List}
+use lib.ListN.{length, getD}
+use Rattle.meaning.specs.Base.{bit}
+use Rattle.match_sets.specs.Sets.{has}
+use Rattle.match_rest.specs.Rest.{isAwake, isUsed, inBed, bedOf}
+
+-- the rules of the beds that `which` names are awake; all others stay in their beds, or are awake; nobody falls asleep
+pub record Woke (n : ℕ) (which : ℕ → ℕ → Type 0) (sets sets′ : List ℕ) : Type 0 where
+  pub size : length sets′ ≡ length sets
+  pub kept : (j i : ℕ) → 4 ≤ j → j < 48 → has sets′ j i ≡ has sets j i
+  pub grows : (k : ℕ) → k < n → isAwake sets k ≡ true → isAwake sets′ k ≡ true
+  pub stays : (h k : ℕ) → h < 256 → k < n → inBed sets h k ≡ true → (inBed sets′ h k ≡ true) ⊎ (isAwake sets′ k ≡ true)
+  pub wakes : (h k : ℕ) → h < 256 → k < n → which h k → inBed sets h k ≡ true → isAwake sets′ k ≡ true
+
+-- bed h is the one of a used place of buffer b, of the first i, for the value that stands there
+pub record Called (state sets : List ℕ) (b i h : ℕ) : Type 0 where
+  pub at : ℕ
+  pub below : at < i
+  pub low : at < 10
+  pub used : isUsed sets (10 * b + at) ≡ true
+  pub is : h ≡ bedOf (10 * b + at) (getD state (10 * b + at) 0)
+
+-- the same of a marked buffer, of the first b
+pub record CalledBy (state sets : List ℕ) (mark b h : ℕ) : Type 0 where
+  pub buffer : ℕ
+  pub below : buffer < b
+  pub low : buffer < 8
+  pub marked : bit mark buffer ≡ true
+  pub called : Called state sets buffer 10 h

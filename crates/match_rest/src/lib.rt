@@ -1,0 +1,234 @@
+// The refresh of a run: a rule that fails at a constant sleeps in a bed for that word of the state and that value, and is looked at again
+// only after a step has marked that word's buffer and the word has a value of the same bed.
+ghost use mathlib.Core.Path.{_≡_};
+ghost use mathlib.Core.Bool.{true, false};
+ghost use mathlib.Core.List.{List};
+ghost use Prim.Native.Nat.{ℕ, _+_, _*_, _/_, _≤_, _<_};
+ghost use lib.ListN.{length, getD};
+ghost use Rattle.meaning.specs.Match.{entryOf};
+ghost use Rattle.meaning.specs.Refresh.{refresh};
+ghost use Rattle.layout.specs.Rows.{ruleIn, rulesIn, Laid};
+ghost use Rattle.layout.specs.StateWords.{stateIn};
+ghost use Rattle.match_rest.specs.Rest.{bedOf, Roomy, Testing, Resting, Stepped};
+ghost use Rattle.match_rest.specs.Woken.{Woke, Called, CalledBy};
+ghost use Rattle.match_rest.specs.Visits.{Touches, Lain, LowPlace, Settled, Visitable, Visited, VisitedAll, Joins};
+ghost use Rattle.match_sets.specs.Sets.{has};
+ghost use Rattle.meaning.specs.Base.{bit};
+ghost use Rattle.match_order.specs.Order.{Ranked, placeOf};
+use match_rule::Tried;
+
+// The bed for a word of the state and the value wanted there.
+fn bed(place: usize, value: u16) -> usize
+    requires { ⌜ place < 80 ⌝ }
+    ensures { λ h. ⌜ h ≡ bedOf place value ⌝ }
+{
+    (value as usize + 23 * place) % 256
+}
+
+// Those who sleep in bed h are awake.
+fn wake_bed(sets: &mut [u64], n: usize, h: usize)
+    requires { ⌜ Roomy n (now sets) × (h < 256) ⌝ }
+    ensures { λ _. ⌜ Woke n (λ (g k : ℕ). g ≡ h) (now (sets .entry)) (now (sets .exit)) ⌝ }
+{
+    let mut w = 0;
+    while 64 * w < n {
+        let at = 48 + 256 * w + h;
+        sets[w] = sets[w] | sets[at];
+        sets[at] = 0;
+        w += 1;
+    }
+}
+
+// Those who sleep by a word of buffer b that has a value of their bed are awake.
+fn wake(sets: &mut [u64], n: usize, state: &[u16], b: usize)
+    requires { ⌜ Roomy n (now sets) × (80 ≤ length (now state)) × (b < 8) ⌝ }
+    ensures { λ _. ⌜ Woke n (λ (g k : ℕ). Called (now (state .entry)) (now (sets .entry)) b 10 g) (now (sets .entry)) (now (sets .exit)) ⌝ }
+{
+    let mut rest = sets[40 + b] % 1024;
+    let mut i = 0;
+    while rest != 0 {
+        let z = match_sets::lowest(rest);
+        let p = 10 * b + (i + z);
+        wake_bed(sets, n, bed(p, state[p]));
+        rest = rest >> z >> 1;
+        i = i + z + 1;
+    }
+}
+
+// Those who sleep by a word of a marked buffer that has a value of their bed are awake.
+fn wake_all(sets: &mut [u64], n: usize, state: &[u16], mark: u16)
+    requires { ⌜ Roomy n (now sets) × (80 ≤ length (now state)) ⌝ }
+    ensures { λ _. ⌜ Woke n (λ (g k : ℕ). CalledBy (now (state .entry)) (now (sets .entry)) mark 8 g) (now (sets .entry)) (now (sets .exit)) ⌝ }
+{
+    let mut rest = mark as u64 % 256;
+    let mut b = 0;
+    while rest != 0 {
+        let z = match_sets::lowest(rest);
+        wake(sets, n, state, b + z);
+        rest = rest >> z >> 1;
+        b = b + z + 1;
+    }
+}
+
+// Of rules 64 w to 64 w + 63, those that test a marked buffer.
+fn touched(sets: &[u64], w: usize, mark: u16) -> u64
+    requires { ⌜ (w < 4) × (304 ≤ length (now sets)) ⌝ }
+    ensures { λ r. ⌜ Touches (now (sets .entry)) w mark 8 r ⌝ }
+{
+    let mut all = 0;
+    let mut rest = mark as u64 % 256;
+    let mut b = 0;
+    while rest != 0 {
+        let z = match_sets::lowest(rest);
+        all = all | sets[8 + 8 * w + (b + z)];
+        rest = rest >> z >> 1;
+        b = b + z + 1;
+    }
+    all
+}
+
+// Rule k goes to sleep in the bed for a word of the state and the value wanted there.
+fn lay_down(sets: &mut [u64], k: usize, place: usize, value: u16)
+    requires { ⌜ (k < 256) × (place < 80) × (304 + 256 * (k / 64) ≤ length (now sets)) ⌝ }
+    ensures { λ _. ⌜ Lain k place value (now (sets .entry)) (now (sets .exit)) ⌝ }
+{
+    let h = bed(place, value);
+    match_sets::put(sets, 48 + 255 * (k / 64) + h, k);
+    match_sets::put(sets, 40 + place / 10, place % 10);
+    match_sets::remove(sets, 0, k);
+}
+
+// What a match of rule k gave is noted: whether it matches, by its place in the order; and it sleeps if one word of the state told that it does not.
+fn settle(sets: &mut [u64], order: &[u16], k: usize, tried: Tried)
+    requires { ⌜ (k < 256) × (512 ≤ length (now order)) × (placeOf (now order) k < 256) × (304 + 256 * (k / 64) ≤ length (now sets)) × LowPlace tried ⌝ }
+    ensures { λ _. ⌜ Settled tried k (placeOf (now (order .entry)) k) (now (sets .entry)) (now (sets .exit)) ⌝ }
+{
+    let at = order[256 + k] as usize;
+    match tried {
+        Tried::Hit => match_sets::put(sets, 4, at),
+        Tried::Varies => match_sets::remove(sets, 4, at),
+        Tried::Differs(place, value) => {
+            match_sets::remove(sets, 4, at);
+            lay_down(sets, k, place as usize, value);
+        }
+    }
+}
+
+// Rule k is matched again: its entry is made afresh, and what it gave is noted.
+fn visit(
+    table: &mut [u16],
+    sets: &mut [u64],
+    order: &[u16],
+    heads: &[u16],
+    words: &[u16],
+    state: &[u16],
+    k: usize,
+)
+    requires { ⌜ Visitable (now heads) (now words) (now order) (length (now table)) (length (now sets)) k × (80 ≤ length (now state)) ⌝ }
+    ensures { λ _. ⌜ Visited (now (heads .entry)) (now (words .entry)) (now (order .entry)) (now (state .entry)) k (now (table .entry)) (now (table .exit)) (now (sets .entry)) (now (sets .exit)) ⌝ }
+{
+    let tests = heads[4 * k] as usize;
+    let a = 9 * k;
+    let e = a + 9;
+    let tried = match_rule::try_into(&mut table[a..e], words, 176 * k, tests, state);
+    settle(sets, order, k, tried);
+}
+
+// Those of rules 64 w to 64 w + 63 that are in a set are matched again.
+fn visit_all(
+    table: &mut [u16],
+    sets: &mut [u64],
+    order: &[u16],
+    heads: &[u16],
+    words: &[u16],
+    state: &[u16],
+    w: usize,
+    todo: u64,
+)
+    requires { ⌜ (80 ≤ length (now state)) × (w < 4) × ((i : ℕ) → bit todo i ≡ true → Visitable (now heads) (now words) (now order) (length (now table)) (length (now sets)) (64 * w + i)) ⌝ }
+    ensures { λ _. ⌜ VisitedAll (now (heads .entry)) (now (words .entry)) (now (order .entry)) (now (state .entry)) w todo 64 (now (table .entry)) (now (table .exit)) (now (sets .entry)) (now (sets .exit)) ⌝ }
+{
+    let mut rest = todo;
+    let mut i = 0;
+    while rest != 0 {
+        let z = match_sets::lowest(rest);
+        visit(table, sets, order, heads, words, state, 64 * w + (i + z));
+        rest = rest >> z >> 1;
+        i = i + z + 1;
+    }
+}
+
+// The refresh of n rules after a step with that mark: of the rules that test a marked buffer, those that are awake are matched again.
+pub fn renew(
+    table: &mut [u16],
+    sets: &mut [u64],
+    order: &[u16],
+    heads: &[u16],
+    words: &[u16],
+    n: usize,
+    state: &[u16],
+    mark: u16,
+)
+    requires { ⌜ Stepped (now heads) (now words) (now order) n (now state) mark (now table) (now sets) ⌝ }
+    ensures { λ _. ⌜ ((clock : ℕ) → now (table .exit) ≡ refresh (rulesIn (now (heads .entry)) (now (words .entry)) n) (stateIn (now (state .entry)) clock) mark (now (table .entry))) ⌝ }
+    ensures rests { λ _. ⌜ Resting (now (heads .entry)) (now (words .entry)) (now (order .entry)) n (now (state .entry)) (now (table .exit)) (now (sets .exit)) ⌝ }
+{
+    wake_all(sets, n, state, mark);
+    let mut w = 0;
+    while 64 * w < n {
+        let todo = touched(sets, w, mark) & sets[w];
+        visit_all(table, sets, order, heads, words, state, w, todo);
+        w += 1;
+    }
+}
+
+// All rules are awake.
+fn lay_awake(sets: &mut [u64])
+    requires { ⌜ 304 ≤ length (now sets) ⌝ }
+    ensures { λ _. ⌜ ((j i : ℕ) → j < 4 → i < 64 → has (now (sets .exit)) j i ≡ true) × ((j i : ℕ) → 4 ≤ j → has (now (sets .exit)) j i ≡ has (now (sets .entry)) j i) ⌝ }
+{
+    let mut w = 0;
+    while w < 4 {
+        sets[w] = 18446744073709551615;
+        w += 1;
+    }
+}
+
+// Rule k tests the buffers of a mask.
+fn lay_tester(sets: &mut [u64], k: usize, mask: u16)
+    requires { ⌜ (k < 256) × (304 ≤ length (now sets)) ⌝ }
+    ensures { λ _. ⌜ Joins k mask 8 (now (sets .entry)) (now (sets .exit)) ⌝ }
+{
+    let mut rest = mask as u64 % 256;
+    let mut b = 0;
+    while rest != 0 {
+        let z = match_sets::lowest(rest);
+        match_sets::put(sets, 8 + 7 * (k / 64) + (b + z), k);
+        rest = rest >> z >> 1;
+        b = b + z + 1;
+    }
+}
+
+// The testers of n rules.
+fn lay_testers(sets: &mut [u64], heads: &[u16], n: usize)
+    requires { ⌜ (n ≤ 256) × (304 ≤ length (now sets)) × (4 * n ≤ length (now heads)) × ((j i : ℕ) → 8 ≤ j → j < 40 → has (now sets) j i ≡ false) ⌝ }
+    ensures { λ _. ⌜ Testing (now (heads .entry)) n (now (sets .exit)) × ((j i : ℕ) → (8 ≤ j → j < 40 → ⊥) → has (now (sets .exit)) j i ≡ has (now (sets .entry)) j i) ⌝ }
+{
+    let mut k = 0;
+    while k < n {
+        lay_tester(sets, k, heads[4 * k + 3]);
+        k += 1;
+    }
+}
+
+// What a run keeps, as it begins with a table that is right or wrong: the order of n rules, all of them awake, and no bed used.
+pub fn lay_rest(sets: &mut [u64], order: &mut [u16], heads: &[u16], table: &[u16], n: usize)
+    requires { ⌜ Roomy n (now sets) × (512 ≤ length (now order)) × (4 * n ≤ length (now heads)) × (9 * n ≤ length (now table)) × ((j i : ℕ) → has (now sets) j i ≡ false) ⌝ }
+    ensures { λ _. ⌜ Ranked (now (heads .entry)) (now (order .exit)) n ⌝ }
+    ensures rests { λ _. ⌜ ((words state : List ℕ) → Resting (now (heads .entry)) words (now (order .exit)) n state (now (table .entry)) (now (sets .exit))) ⌝ }
+{
+    match_order::lay_order(order, heads, n);
+    match_order::lay_hits(sets, order, table, n);
+    lay_testers(sets, heads, n);
+    lay_awake(sets);
+}

@@ -1,0 +1,3 @@
+-- Laws of bits.
+pub mod BitLaws
+pub mod SetLaws

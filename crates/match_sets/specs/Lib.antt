@@ -1,0 +1,2 @@
+-- Sets of numbers in words of 64 bits.
+pub mod Sets
