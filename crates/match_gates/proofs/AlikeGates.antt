@@ -7,7 +7,8 @@ use lib.ListN.{length, getD}
 use Rattle.meaning.specs.Model.{Rule}
 use Rattle.layout.specs.Rows.{ruleIn, Laid}
 use Rattle.layout.proofs.KeptLaws.{SameTo, rule-kept}
-use Rattle.match_gates.specs.Gates.{Shuts, Gated}
+use Rattle.match_rule.specs.Shut.{Shuts}
+use Rattle.match_gates.specs.Gates.{Gated}
 
 shuts-same : (r r′ : Rule) (place place′ value value′ : ℕ) → r′ ≡ r → place′ ≡ place → value′ ≡ value → Shuts r place value → Shuts r′ place′ value′
 shuts-same r r′ place place′ value value′ er ep ev shut =
