@@ -25,7 +25,7 @@ extern "C" {
 
 /* The version of this header, and by a function that of the library that is linked. */
 #define JIRVUNTSAG_VERSION_MAJOR 0
-#define JIRVUNTSAG_VERSION_MINOR 1
+#define JIRVUNTSAG_VERSION_MINOR 2
 #define JIRVUNTSAG_VERSION_PATCH 0
 #define JIRVUNTSAG_VERSION "0.2.0"
 const char *jirvuntsag_version(void);
