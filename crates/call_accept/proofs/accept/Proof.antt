@@ -48,7 +48,8 @@ returns-2 c =
     let told = judged (c .before) in
     let l = laid told in
     let a = start l .args in
-    taken-other (a .begun .plan) (a .image .now) (l .lay-out .last .1 .1 .0) (l .lay-out .result) (l .lay-out .ensures) (a .lent) _ (told .enum-told .given .1) (right .result) (right .ensures) (not-true _ (c .if1 .taken))
+    taken-other (a .begun .plan) (a .image .now) (l .lay-out .last .1 .1 .0) (l .lay-out .result) (l .lay-out .ensures) (a .lent) _ (told .enum-told .given .1)
+    (right .result) (right .ensures) (not-true _ (c .if1 .taken))
 
 same-length-3 : tie.Need-same-length-3
 same-length-3 c = search needs
@@ -59,7 +60,8 @@ returns-3 c =
     let told = judged (c .before) in
     let l = laid told in
     let a = start l .args in
-    taken-right (a .begun .plan) (a .image .now) (l .lay-out .last .1 .1 .0) (l .lay-out .result) (l .lay-out .ensures) (a .lent) _ (told .enum-told .given .1) (right .result) (right .ensures) (not-false _ (c .if1 .left))
+    taken-right (a .begun .plan) (a .image .now) (l .lay-out .last .1 .1 .0) (l .lay-out .result) (l .lay-out .ensures) (a .lent) _ (told .enum-told .given .1)
+    (right .result) (right .ensures) (not-false _ (c .if1 .left))
 
 pub accept-spec : {M : Type 1} → statement M
 accept-spec =

@@ -54,7 +54,8 @@ returns : tie.Need-returns
 returns c =
     let t = c .before .before .before .before .before .before in
     let a = start t .args in
-    open-refused (t .accept .result) (a .begun .plan) (a .image .now) (a .table .now) (tape t) (t .accept .ensures) _ _ (c .before .before .taken .given .1) (c .no-opening .result) (c .no-opening .ensures)
+    open-refused (t .accept .result) (a .begun .plan) (a .image .now) (a .table .now) (tape t) (t .accept .ensures) _ _ (c .before .before .taken .given .1)
+    (c .no-opening .result) (c .no-opening .ensures)
 
 enum-told : tie.Need-enum-told
 enum-told c = search needs

@@ -35,7 +35,8 @@ returns : tie.Need-returns
 returns c =
     let t = c .before .before .before .before .before .before in
     let a = start t .args in
-    refresh-refused (a .state) (a .mark) (t .accept .result) (a .begun .plan) (a .image .now) (a .table .now) (tape t) (t .accept .ensures) _ _ (c .before .before .taken .given .1) (c .no-refresh .result) (c .no-refresh .ensures)
+    refresh-refused (a .state) (a .mark) (t .accept .result) (a .begun .plan) (a .image .now) (a .table .now) (tape t) (t .accept .ensures) _ _
+    (c .before .before .taken .given .1) (c .no-refresh .result) (c .no-refresh .ensures)
 
 enum-told : tie.Need-enum-told
 enum-told c = search needs

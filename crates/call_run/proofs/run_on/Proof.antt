@@ -38,7 +38,8 @@ returns : tie.Need-returns
 returns c =
     let t = c .before .before .before .before .before .before in
     let a = start t .args in
-    run-refused (a .state) (a .steps) (t .accept .result) (a .begun .plan) (a .image .now) (a .table .now) (tape t) (t .accept .ensures) _ _ (c .before .before .taken .given .1) (c .no-run .result) (c .no-run .ensures) (a .events .now)
+    run-refused (a .state) (a .steps) (t .accept .result) (a .begun .plan) (a .image .now) (a .table .now) (tape t) (t .accept .ensures) _ _
+    (c .before .before .taken .given .1) (c .no-run .result) (c .no-run .ensures) (a .events .now)
 
 enum-told : tie.Need-enum-told
 enum-told c = search needs

@@ -41,7 +41,8 @@ ruled c = c .before .before .before .before .before
 
 -- ---- where the plan's sections begin and end
 
-ends : (c : tie.Start) → (c .args .plan .heads ≡ 144 + 11 * c .args .plan .facts) × (c .args .plan .rows ≡ c .args .plan .heads + 4 * c .args .plan .rules) × (c .args .plan .rows + 176 * c .args .plan .rules ≤ length (c .args .tape .now))
+ends : (c : tie.Start)
+    → let p = c .args .plan in (p .heads ≡ 144 + 11 * p .facts) × (p .rows ≡ p .heads + 4 * p .rules) × (p .rows + 176 * p .rules ≤ length (c .args .tape .now))
 ends c =
     let e = c .pre .4 .starts in
     let heads = ap (λ (p : Plan). p .heads) e in

@@ -89,8 +89,9 @@ returns c =
     let a = start head′ .args in
     let h = headIn (head′ .head .result) in
     let refused = c .no-rule .ensures in
+    let bad = sym (answer-bad _ h _ _ (c .before .before .after-head2 .given .1)) ∙ head′ .head .ensures .0 in
     record {
-      reads = answer-bad _ _ _ _ refused ∙ rule-first (a .buffers) (a .types .now) (a .image .now) (a .p) _ _ (sym (answer-bad _ h _ _ (c .before .before .after-head2 .given .1)) ∙ head′ .head .ensures .0);
+      reads = answer-bad _ _ _ _ refused ∙ rule-first (a .buffers) (a .types .now) (a .image .now) (a .p) _ _ bad;
       within = bad-within _ _ _ _ refused;
       fits = bad-never _ _ _ refused;
     }
@@ -123,9 +124,9 @@ returns-2 c =
     let d = counted t in
     let a = start (headed d) .args in
     let refused = c .no-rule2 .ensures in
+    let bad = sym (answer-bad _ (own-tests t) _ _ (c .before .before .after-tests2 .given .1)) ∙ t .tests .ensures .0 in
     record {
-      reads = answer-bad _ _ _ _ refused
-          ∙ rule-second (a .buffers) (a .types .now) (a .image .now) (a .p) _ _ (read-head d) _ _ (sym (answer-bad _ (own-tests t) _ _ (c .before .before .after-tests2 .given .1)) ∙ t .tests .ensures .0);
+      reads = answer-bad _ _ _ _ refused ∙ rule-second (a .buffers) (a .types .now) (a .image .now) (a .p) _ _ (read-head d) _ _ bad;
       within = bad-within _ _ _ _ refused;
       fits = bad-never _ _ _ refused;
     }
