@@ -3,7 +3,7 @@
 use mathlib.Core.Path.{_≡_}
 use mathlib.Core.Logic.{_↔_}
 use mathlib.Core.Bool.{true}
-use mathlib.Core.List.{List, _++_}
+use mathlib.Core.List.{List, [], _++_}
 use Prim.Native.Nat.{ℕ, _*_, _^_, _≤_, _<_}
 use lib.ListN.{length}
 use Rattle.meaning.specs.declared.State.{State}
@@ -25,15 +25,15 @@ use Rattle.promises.specs.Proofs.Numbers as numbers
 pub reading-stops : (image : List ℕ) (n at : ℕ) → model image 0 ≡ Refused n at → Stops image at n
 reading-stops image n at e = numbers.reading-stops image n at e
 
--- "the earlier in reading order": what comes after the field that breaks its rule changes neither the number nor the place.
+-- "the earlier in reading order": an image that is refused by 3 is refused by 3 at the same place with any bytes put after it, as far as the length allows.
 pub stays-broken : (image rest : List ℕ) → 0 < length rest → length (image ++ rest) ≤ 65536 → (at : ℕ) → decode image ≡ Refused bad-number at → decode (image ++ rest) ≡ Refused bad-number at
 stays-broken image rest l h at e = numbers.broken-longer image rest l h at e
 
--- Every beginning of an accepted image is refused by 2.
+-- Every beginning of an accepted image, short of the whole, is refused by 2.
 pub cut-short : (image rest : List ℕ) → 0 < length rest → (m : Model) (end : ℕ) → decode (image ++ rest) ≡ Got m end → (at : ℕ) × (decode image ≡ Refused not-there at)
 cut-short image rest l m end e = numbers.cut-short image rest l m end e
 
--- An accepted image that anything follows is refused by 4.
+-- An accepted image with any bytes put after it, as far as the length allows, is refused by 4.
 pub bytes-follow : (image rest : List ℕ) → 0 < length rest → length (image ++ rest) ≤ 65536 → (m : Model) (end : ℕ) → decode image ≡ Got m end → decode (image ++ rest) ≡ Refused bad-end 0
 bytes-follow image rest l h m end e = numbers.accepted-longer image rest l h m end e
 
@@ -90,7 +90,11 @@ module _ (image table : List ℕ) (s : State) (asked : ℕ) where
   pub run-exactly : (n : ℕ) → (runOf image s table asked .number ≡ n) ↔ Given image table (AfterRun s table asked) n
   run-exactly n = numbers.run-number image table s asked n
 
-  -- Refused by 1 to 6, it gives the state back, counts nothing and leaves the table.
+  -- Refused by 1 to 6, it gives the state back, counts nothing and leaves the table,
   pub run-refused : 0 < runOf image s table asked .number → runOf image s table asked .number < 7
       → runOf image s table asked ≡ record { number = runOf image s table asked .number; state = s; table = table; made = 0 }
   run-refused a b = numbers.run-refused image table s asked a b
+
+  -- and tells no event.
+  pub trace-refused : 0 < runOf image s table asked .number → runOf image s table asked .number < 7 → traceOf image s table asked .events ≡ []
+  trace-refused a b = numbers.trace-refused image table s asked a b

@@ -7,6 +7,7 @@ pub mod Runs
 pub mod Decoded
 pub mod Matching
 pub mod Selection
+pub mod Entries
 pub mod Firing
 pub mod Marked
 pub mod WellFormed

@@ -1,15 +1,16 @@
 -- The published semantics as relations, close to its own text (D. Gall, T. Frühwirth, A Refined Operational Semantics for ACT-R), with the points
--- that document 01 decides. Nothing here computes; that the steps of `meaning` are these transitions is said in Semantics.
+-- that document 01 decides. No step, match or choice is computed here; that the steps of `meaning` are these transitions is said in Semantics.
 use mathlib.Core.Path.{_≡_}
-use mathlib.Core.Bool.{false}
+use mathlib.Core.Bool.{true, false}
 use mathlib.Core.List.{List, [], _∷_, List·Memᴰ}
 use Prim.Native.Nat.{ℕ, _+_, _-_, _≤_, _<_}
-use lib.ListN.{length, getD}
+use lib.ListN.{length, getD, replicate}
 use lib.Signed.{ltZ}
 use Rattle.meaning.specs.declared.Buffer.{Buffer}
 use Rattle.meaning.specs.declared.State.{State}
 use Rattle.meaning.specs.Model.{Model, Rule, Test, Action, Deed, Modify, Request, Clear, Named, Term, Symbol, Variable, Fact}
 use Rattle.meaning.specs.State.{nilAfter, bufferOf}
+use Rattle.meaning.specs.Image.{standsIn}
 use Rattle.meaning.specs.Step.{Event, Fired, Waited, largest}
 use Rattle.meaning.specs.Match.{freshTable}
 use Rattle.meaning.specs.Run.{Timed}
@@ -38,6 +39,18 @@ pub record Matches (r : Rule) (s : State) : Type 0 where
   pub binding : ℕ → ℕ
   pub binds : Binds r s binding
 
+-- the binding that an entry holds: after its first word, the values of variables 0 to 7
+abbrev pub valuesIn : List ℕ → ℕ → ℕ
+valuesIn entry v = getD entry (v + 1) 0
+
+-- "An entry is 1 and then the values of variables 0 to 7 (0 where unused) if the rule matches, nine zeros if it does not."
+pub record Entered (r : Rule) (s : State) (entry : List ℕ) : Type 0 where
+  pub nine : length entry ≡ 9
+  pub one : Matches r s → getD entry 0 0 ≡ 1
+  pub values : (v : ℕ → ℕ) → Binds r s v → (w : ℕ) → w < 8 → standsIn (r .tests) w ≡ true → valuesIn entry w ≡ v w
+  pub unused : (w : ℕ) → w < 8 → standsIn (r .tests) w ≡ false → valuesIn entry w ≡ 0
+  pub zeros : (Matches r s → ⊥) → entry ≡ replicate 9 0
+
 -- ---- selection (S_ref of section 5.1, with conflict resolution as document 01 decides it)
 
 -- rule r, number k, matches; no matching rule has a higher utility, and none of the same utility has a lower number
@@ -63,10 +76,6 @@ pub record Modified (v : ℕ → ℕ) (ns : List Named) (old new : Buffer) : Typ
   pub as-many : length (new .slots) ≡ length (old .slots)
   pub named : (n : Named) → List·Memᴰ n ns → n .slot < length (old .slots) → getD (new .slots) (n .slot) 0 ≡ standsFor v (n .term)
   pub unnamed : (i : ℕ) → ((n : Named) → List·Memᴰ n ns → n .slot ≡ i → ⊥) → getD (new .slots) i 0 ≡ getD (old .slots) i 0
-
--- the binding that an entry holds: after its first word, the values of variables 0 to 7
-abbrev pub valuesIn : List ℕ → ℕ → ℕ
-valuesIn entry v = getD entry (v + 1) 0
 
 -- request_b: a fact of the type asked for, whose named slots have the values asked for
 pub record Fits (v : ℕ → ℕ) (isa : ℕ) (ns : List Named) (f : Fact) : Type 0 where

@@ -18,11 +18,12 @@ use Rattle.meaning.specs.Retrieval.{retrieve}
 use Rattle.meaning.specs.Step.{Event, Stopped, Made, largest, stepOf}
 use Rattle.meaning.specs.Run.{Timed}
 use Rattle.meaning.specs.Calls.{traceOf, runOf}
-use Rattle.promises.specs.Words.{At, Reached}
-use Rattle.promises.specs.Published.{Matches, Selected, NoneSelected, valuesIn, Fits, Retrieved, Transition, Transitions, Final, Passes, RanOn}
+use Rattle.promises.specs.Words.{At, entryAt, Reached}
+use Rattle.promises.specs.Published.{Matches, Entered, Selected, NoneSelected, valuesIn, Fits, Retrieved, Transition, Transitions, Final, Passes, RanOn}
 use Rattle.promises.specs.Proofs.Decoded.{decoded}
 use Rattle.promises.specs.Proofs.Matching as matching
 use Rattle.promises.specs.Proofs.Selection as selection
+use Rattle.promises.specs.Proofs.Entries as entries
 use Rattle.promises.specs.Proofs.Retrieving as retrieving
 use Rattle.promises.specs.Proofs.Transitions as transitions
 use Rattle.promises.specs.Proofs.Outcomes as outcomes
@@ -32,6 +33,10 @@ use Rattle.promises.specs.Proofs.Outcomes as outcomes
 -- A rule matches exactly if the variables can be bound so that all its tests hold.
 pub matches-exactly : (r : Rule) (s : State) → (matches r s ≡ true) ↔ Matches r s
 matches-exactly r s = (matching.matches-bind r s, matching.is-match r s)
+
+-- The words of rule k in the fresh table, all nine of them: 1 and the values of every binding, 0 for a variable that stands in no test; nine zeros if there is no match.
+pub entry-exactly : (rules : List Rule) (s : State) (k : ℕ) (r : Rule) → At r k rules → Entered r s (entryAt k (freshTable rules s))
+entry-exactly rules s k r h = entries.fresh-entered rules s k r h
 
 -- ---- the choice
 

@@ -7,7 +7,9 @@ use lib.ListN.{length, getD}
 use Rattle.meaning.specs.Base.{bit}
 use Rattle.meaning.specs.Step.{largest}
 use Rattle.meaning.specs.Run.{Timed}
+use Rattle.meaning.specs.Calls.{Ran}
 use Rattle.step_run.specs.Events.{eventWords}
+use Rattle.jirvuntsag.specs.Words.{stateOf}
 use Rattle.jirvuntsag.specs.Told.{Told, openIn, runIn, refreshIn}
 
 -- an answer is the number and 65,536 times a count (JIRVUNTSAG_NUMBER and JIRVUNTSAG_COUNT of the header)
@@ -16,6 +18,10 @@ numberIn answer = answer % 65536
 
 abbrev pub countIn : ℕ → ℕ
 countIn answer = answer / 65536
+
+-- what a run answered and left over words, read as an answer over states
+abbrev pub ranIn : Told → Ran
+ranIn a = record { number = numberIn (a .answered); state = stateOf (a .words); table = a .table; made = countIn (a .answered) }
 
 -- two states have the same ten words for buffer b
 abbrev pub SameBuffer : List ℕ → List ℕ → ℕ → Type 0

@@ -154,7 +154,7 @@ getD-values f i zero b h = absurd (omega arith)
 getD-values f i (suc n) zero h = rw add-zero
 getD-values f i (suc n) (suc b) h = getD-values f (i + 1) n b (omega arith) ∙ ap f (omega arith)
 
-entry-value : (r : Rule) (s : State) (w : ℕ) → matches r s ≡ true → w < 8 → getD (entryOf r s) (w + 1) 0 ≡ valueIn (places (r .tests) s) w
+pub entry-value : (r : Rule) (s : State) (w : ℕ) → matches r s ≡ true → w < 8 → getD (entryOf r s) (w + 1) 0 ≡ valueIn (places (r .tests) s) w
 unfolding entryOf
 entry-value r s w e h =
     let z : w + 1 ≡ suc w = omega arith in

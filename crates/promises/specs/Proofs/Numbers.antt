@@ -259,6 +259,10 @@ module _ (image table : List ℕ) (s : State) (asked : ℕ) where
   unfolding runOf traceOf
   run-refused a b = ap ranBy (refused-left (accepted image table) a b)
 
+  pub trace-refused : 0 < runOf image s table asked .number → runOf image s table asked .number < 7 → traceOf image s table asked .events ≡ []
+  unfolding runOf traceOf
+  trace-refused a b = ap (λ (r : Run). r .events) (refused-left (accepted image table) a b)
+
 -- ---- no number is larger than 10
 
 given-small : (image table : List ℕ) (after : Model → ℕ → Type 0) → ((m : Model) (n : ℕ) → after m n → n < 11) → (n : ℕ) → Given image table after n → n < 11

@@ -23,10 +23,10 @@ use Rattle.promises.specs.Words as words
 use Rattle.promises.specs.Published.{RanOn}
 use Rattle.promises.specs.Semantics.{reached-run}
 use Rattle.promises.specs.Sentences.{Taken}
-use Rattle.promises.specs.Numbers.{accepted-taken, open-refused, run-refused, refresh-refused}
+use Rattle.promises.specs.Numbers.{accepted-taken, open-refused, run-refused, trace-refused, refresh-refused}
 use Rattle.promises.specs.Keeping.{reached-fresh, reached-machine}
 use Rattle.promises.specs.Proofs.Numbers.{taken-accepted, open-small, refresh-small, run-small}
-use Rattle.promises_c.specs.Handing.{numberIn, countIn, SameBuffer, Leaves, Held, opened, ran, refreshed, changed}
+use Rattle.promises_c.specs.Handing.{numberIn, countIn, ranIn, SameBuffer, Leaves, Held, opened, ran, refreshed, changed, layEvents}
 use Rattle.promises_c.specs.Proofs.Back.{state-back, same-buffer, words-back, eighty-one, words-fit, state-fits}
 
 -- ---- an answer taken apart
@@ -143,6 +143,27 @@ open-leaves image table h =
       none-counted = count-of (openOf image table .number) 0 (open-small image table);
     }
 
+-- ---- the events of a refused run
+
+fit-events : (image w table : List ℕ) (steps : ℕ) → fits w ≡ true → eventsIn image w table steps ≡ traceOf image (stateOf w) table steps .events
+unfolding eventsIn
+fit-events image w table steps f = rw f refl
+
+unfit-events : (image w table : List ℕ) (steps : ℕ) → fits w ≡ false → eventsIn image w table steps ≡ []
+unfolding eventsIn
+unfit-events image w table steps f = rw f refl
+
+pub trace-leaves : (image w table lent : List ℕ) (steps : ℕ)
+    → let a : Told = runIn image w table steps in 0 < numberIn (a .answered) → numberIn (a .answered) < 7 → layEvents lent (eventsIn image w table steps) ≡ lent
+trace-leaves image w table lent steps a b = by-fits w (λ f. ap (layEvents lent) (fit-events image w table steps f ∙ none f)) (λ f. ap (layEvents lent) (unfit-events image w table steps f))
+  where
+    none : fits w ≡ true → traceOf image (stateOf w) table steps .events ≡ []
+    none f =
+        let r : Ran = runOf image (stateOf w) table steps in
+        let e : numberIn (runIn image w table steps .answered) ≡ r .number =
+        ap (λ (x : Told). numberIn (x .answered)) (fit-run image w table steps f) ∙ number-of (r .number) (r .made) (run-small image table (stateOf w) steps) in
+        trace-refused image table (stateOf w) steps (omega arith) (omega arith)
+
 -- ---- the chain
 
 -- what a caller in C holds is what a chain of calls over states has reached
@@ -190,11 +211,14 @@ module _ (image : List ℕ) (m : Model) (end : ℕ) (d : decode image ≡ Got m 
   held-stands (refreshed {w} {table} h mark) = refreshed-stands w table (held-stands h) mark
   held-stands (changed {w} {table} h w′ mark l c same e) = changed-stands w table (held-stands h) w′ mark l c same e
 
-  fit-events : (w table : List ℕ) (steps : ℕ) → fits w ≡ true → eventsIn image w table steps ≡ traceOf image (stateOf w) table steps .events
-  unfolding eventsIn
-  fit-events w table steps f = rw f refl
+  -- a run over words that fit answers as the run over their state
+  run-back : (w table : List ℕ) → Stands image w table → (steps : ℕ) → ranIn (runIn image w table steps) ≡ runOf image (stateOf w) table steps
+  run-back w table h steps =
+      let r : Ran = runOf image (stateOf w) table steps in
+      let small : r .number < 11 = run-small image table (stateOf w) steps in
+      rw (fit-run image w table steps (h .fit), number-of (r .number) (r .made) small, count-of (r .number) (r .made) small, state-back (r .state) (reached-machine image m end d (words.ran (h .reached) steps))) refl
 
-  pub held-run : (w table : List ℕ) → Held image w table → (steps : ℕ) → RanOn m (stateOf w) steps (eventsIn image w table steps) (runOf image (stateOf w) table steps)
+  pub held-run : (w table : List ℕ) → Held image w table → (steps : ℕ) → RanOn m (stateOf w) steps (eventsIn image w table steps) (ranIn (runIn image w table steps))
   held-run w table h steps =
       let s : Stands image w table = held-stands h in
-      rw (fit-events w table steps (s .fit)) (reached-run image m end d (stateOf w) table (s .reached) steps)
+      rw (fit-events image w table steps (s .fit), run-back w table s steps) (reached-run image m end d (stateOf w) table (s .reached) steps)
