@@ -3,7 +3,7 @@
 use mathlib.Core.Path.{_≡_, refl, _∙_}
 use mathlib.Core.Logic.{_↔_}
 use mathlib.Core.Bool.{true, false}
-use mathlib.Core.List.{List}
+use mathlib.Core.List.{List, []}
 use Prim.Native.Nat.{ℕ, _*_, _^_, _<_}
 use lib.ListN.{length}
 use Rattle.meaning.specs.declared.State.{State}
@@ -44,6 +44,8 @@ pub record Demand-1 (image table : List ℕ) : Type 0 where
   pub open-leaves : (openOf image table .number ≡ 0 → ⊥) → (openOf image table .state ≡ zeroState) × (openOf image table .table ≡ table)
   pub run-leaves : (s : State) (asked : ℕ) → 0 < runOf image s table asked .number → runOf image s table asked .number < 7
       → runOf image s table asked ≡ record { number = runOf image s table asked .number; state = s; table = table; made = 0 }
+  pub trace-leaves : (s : State) (asked : ℕ) → 0 < runOf image s table asked .number → runOf image s table asked .number < 7 → traceOf image s table asked .events ≡ []
+  -- (a refresh gives no state back)
   pub refresh-leaves : (s : State) (mark : ℕ) → (refreshOf image s mark table .number ≡ 0 → ⊥) → (refreshOf image s mark table .count ≡ 0) × (refreshOf image s mark table .table ≡ table)
 
 -- For every image and every table, whatever bytes and words they are.
@@ -60,6 +62,7 @@ demand-1 image table =
       refresh-works = λ s mark. numbers.refresh-taken image table s mark;
       open-leaves = numbers.open-refused image table;
       run-leaves = λ s asked. numbers.run-refused image table s asked;
+      trace-leaves = λ s asked. numbers.trace-refused image table s asked;
       refresh-leaves = λ s mark. numbers.refresh-refused image table s mark;
     }
 

@@ -13,9 +13,10 @@ use Rattle.meaning.specs.State.{nilAfter, bufferOf}
 use Rattle.meaning.specs.Image.{standsIn}
 use Rattle.meaning.specs.Step.{Event, Fired, Waited, largest}
 use Rattle.meaning.specs.Match.{freshTable}
+use Rattle.meaning.specs.Choice.{Candidate}
 use Rattle.meaning.specs.Run.{Timed}
 use Rattle.meaning.specs.Calls.{Ran}
-use Rattle.promises.specs.Words.{At}
+use Rattle.promises.specs.Words.{At, entryAt}
 
 -- ---- matching (definition 11)
 
@@ -50,6 +51,20 @@ pub record Entered (r : Rule) (s : State) (entry : List ℕ) : Type 0 where
   pub values : (v : ℕ → ℕ) → Binds r s v → (w : ℕ) → w < 8 → standsIn (r .tests) w ≡ true → valuesIn entry w ≡ v w
   pub unused : (w : ℕ) → w < 8 → standsIn (r .tests) w ≡ false → valuesIn entry w ≡ 0
   pub zeros : (Matches r s → ⊥) → entry ≡ replicate 9 0
+
+-- ---- the choice in a table, whatever it holds
+
+-- "Entries whose first word is 1 count as matching, all others as not."
+abbrev pub CountsIn : List ℕ → ℕ → Type 0
+CountsIn table k = getD (entryAt k table) 0 0 ≡ 1
+
+-- "Among those, the highest utility is chosen, then the lowest number."
+pub record Picked (rules : List Rule) (table : List ℕ) (c : Candidate) : Type 0 where
+  pub numbered : At (c .rule) (c .number) rules
+  pub entry-is : c .entry ≡ entryAt (c .number) table
+  pub counting : CountsIn table (c .number)
+  pub none-higher : (j : ℕ) (q : Rule) → At q j rules → CountsIn table j → ltZ (c .rule .utility) (q .utility) ≡ false
+  pub first-of-equals : (j : ℕ) (q : Rule) → At q j rules → CountsIn table j → q .utility ≡ c .rule .utility → c .number ≤ j
 
 -- ---- selection (S_ref of section 5.1, with conflict resolution as document 01 decides it)
 

@@ -19,7 +19,7 @@ use Rattle.meaning.specs.Step.{Event, Stopped, Made, largest, stepOf}
 use Rattle.meaning.specs.Run.{Timed}
 use Rattle.meaning.specs.Calls.{traceOf, runOf}
 use Rattle.promises.specs.Words.{At, entryAt, Reached}
-use Rattle.promises.specs.Published.{Matches, Entered, Selected, NoneSelected, valuesIn, Fits, Retrieved, Transition, Transitions, Final, Passes, RanOn}
+use Rattle.promises.specs.Published.{Matches, Entered, CountsIn, Picked, Selected, NoneSelected, valuesIn, Fits, Retrieved, Transition, Transitions, Final, Passes, RanOn}
 use Rattle.promises.specs.Proofs.Decoded.{decoded}
 use Rattle.promises.specs.Proofs.Matching as matching
 use Rattle.promises.specs.Proofs.Selection as selection
@@ -40,13 +40,21 @@ entry-exactly rules s k r h = entries.fresh-entered rules s k r h
 
 -- ---- the choice
 
--- The rule that is chosen matches, none that matches has a higher utility, and none of the same utility a lower number.
+-- Whatever the table holds, right or wrong: the entry that is chosen has 1 for its first word, no entry that has has a higher utility, and none of the same
+-- utility a lower number; nothing is chosen exactly if no entry has.
+pub chosen-picked : (rules : List Rule) (table : List ℕ) (c : Candidate) → choose rules (utilities rules) table ≡ some c → Picked rules table c
+chosen-picked rules table c e = selection.chosen-picked rules table c e
+
+pub none-picked : (rules : List Rule) (table : List ℕ) → (choose rules (utilities rules) table ≡ none) ↔ ((k : ℕ) (r : Rule) → At r k rules → CountsIn table k → ⊥)
+none-picked rules table = (selection.none-counts rules table, selection.none-picked rules table)
+
+-- With the fresh table the rule that is chosen matches, none that matches has a higher utility, and none of the same utility a lower number.
 pub chosen-selected : (m : Model) (s : State) (c : Candidate) → choose (m .rules) (utilities (m .rules)) (freshTable (m .rules) s) ≡ some c → Selected m s (c .number) (c .rule)
 chosen-selected m s c e = selection.chosen-selected m s c e
 
 -- Nothing is chosen exactly if no rule matches.
 pub none-selected : (m : Model) (s : State) → (choose (m .rules) (utilities (m .rules)) (freshTable (m .rules) s) ≡ none) ↔ NoneSelected m s
-none-selected m s = (selection.chosen-none m s, outcomes.none-chosen m s)
+none-selected m s = (selection.chosen-none m s, selection.none-chosen m s)
 
 -- There is no second rule that could be selected.
 pub selected-once : (m : Model) (s : State) (j k : ℕ) (q r : Rule) → Selected m s j q → Selected m s k r → (j ≡ k) × (q ≡ r)

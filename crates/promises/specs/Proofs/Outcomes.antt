@@ -3,7 +3,6 @@ use mathlib.Core.Path.{_≡_, refl, sym, ap, ap₂, subst, _∙_}
 use mathlib.Core.Logic.{_⊎_, inl, inr, ⊎-elim}
 use mathlib.Core.Bool.{true}
 use mathlib.Core.List.{List, _∷_}
-use mathlib.Core.Option.{Option, none, some}
 use Prim.Native.Nat.{ℕ, zero, suc, _*_, _≤_, _<_}
 use native.Mathlib.Omega.{arith}
 use borrow.Author.Tests.{eq-eqb}
@@ -14,31 +13,21 @@ use Rattle.meaning.specs.State.{bufferOf, wellFormed}
 use Rattle.meaning.specs.Read.{Got}
 use Rattle.meaning.specs.Image.{decode}
 use Rattle.meaning.specs.Match.{freshTable}
-use Rattle.meaning.specs.Choice.{Candidate, choose, utilities}
 use Rattle.meaning.specs.Step.{Event, Step, Stopped, Made, largest, unlessPast, stepOf}
 use Rattle.meaning.specs.Run.{Going, going, Timed, Run, before, runFrom}
 use Rattle.meaning.specs.Calls.{accepted, traceOf, ranBy, runOf}
 use Rattle.laws.specs.BaseLaws.{by-lt}
 use Rattle.laws.specs.MatchLaws.{fresh-length}
 use Rattle.promises.specs.Words.{Reached}
-use Rattle.promises.specs.Published.{Selected, NoneSelected, Transition, Final, Transitions, no-step, one-step, Passes, Ended, done, full, over, RanOn}
+use Rattle.promises.specs.Published.{NoneSelected, Transition, Final, Transitions, no-step, one-step, Passes, Ended, done, full, over, RanOn}
 use Rattle.promises.specs.Proofs.Decoded.{Decoded, decoded}
 use Rattle.promises.specs.Proofs.Runs.{step-fresh, chain-fresh}
 use Rattle.promises.specs.Proofs.Machines.{chain-well}
-use Rattle.promises.specs.Proofs.Selection.{chosen-selected}
 use Rattle.promises.specs.Proofs.Steps.{no-made, InTime, unless-made, unless-stopped, unless-full, unless-on}
 use Rattle.promises.specs.Proofs.Transitions.{transition-once, Outcome, goes, stays, outcome, stays-final}
 
 same-number : (a b : ℕ) → Stopped a ≡ Stopped b → a ≡ b
 same-number a b e = cc
-
--- nothing is chosen where nothing is selected
-pub none-chosen : (m : Model) (s : State) → NoneSelected m s → choose (m .rules) (utilities (m .rules)) (freshTable (m .rules) s) ≡ none
-none-chosen m s n = by (choose (m .rules) (utilities (m .rules)) (freshTable (m .rules) s)) refl
-  where
-    by : (o : Option Candidate) → choose (m .rules) (utilities (m .rules)) (freshTable (m .rules) s) ≡ o → o ≡ none
-    by none e = refl
-    by (some c) e = let a : Selected m s (c .number) (c .rule) = chosen-selected m s c e in absurd (n (c .number) (c .rule) (a .numbered) (a .matching))
 
 module _ (m : Model) (d : Decoded m) (s : State) where
   abbrev fresh-step : Step

@@ -1,13 +1,13 @@
--- With the fresh table the chosen rule is the selected one.
+-- The chosen rule is the one that the table's first words pick; with the fresh table that is the selected one.
 use mathlib.Core.Path.{_≡_, refl, sym, ap, _∙_}
 use mathlib.Core.Logic.{⊎-elim}
 use mathlib.Core.Bool.{true, false, not}
 use mathlib.Core.List.{List, [], _∷_, map, List·Memᴰ, List·Memᴰ·head, List·Memᴰ·tail, List·Memᴰ·not-nil, List·Memᴰ·cases-cons}
-use mathlib.Core.Option.{none, some}
+use mathlib.Core.Option.{Option, none, some}
 use Prim.Native.Nat.{ℕ, suc, _+_, _≤_}
 use native.Mathlib.Nat.{add-zero, zero-add}
 use native.Mathlib.Omega.{arith}
-use borrow.Author.Tests.{ltb-true, ltb-false, le-ltb, not-true}
+use borrow.Author.Tests.{ltb-true, ltb-false, le-ltb, eqb-true, eq-eqb, not-true}
 use lib.Dec.{eqb}
 use lib.IntN.{ℤ, pos, negsuc}
 use lib.Signed.{ltZ}
@@ -21,7 +21,7 @@ use Rattle.laws.specs.BaseLaws.{no-true, every-member}
 use Rattle.laws.specs.MatchLaws.{entry-length}
 use Rattle.laws.specs.ChoiceLaws.{Chosen, choose-best, choose-none}
 use Rattle.promises.specs.Words.{At, first, next, entryAt}
-use Rattle.promises.specs.Published.{Selected, NoneSelected}
+use Rattle.promises.specs.Published.{Matches, CountsIn, Picked, Selected, NoneSelected}
 use Rattle.promises.specs.Proofs.Tables.{entry-first, entry-next, entry-later}
 use Rattle.promises.specs.Proofs.Matching.{matches-bind, is-match}
 
@@ -132,48 +132,87 @@ pub at-same : {A : Type 0} {x y : A} {j : ℕ} {xs : List A} → At x j xs → A
 at-same first first = refl
 at-same (next h) (next g) = at-same h g
 
+module _ (rules : List Rule) (table : List ℕ) where
+  abbrev us : List ℤ
+  us = utilities rules
+
+  -- a candidate counts exactly if the first word of its entry is 1
+  counts-in : (q : Rule) (j : ℕ) (d : HasCandidate 0 rules us table q j) → CountsIn table j → counts (d .candidate) ≡ true
+  counts-in q j d e = eq-eqb (getD (d .candidate .entry) 0 0) 1 (ap (λ (x : List ℕ). getD x 0 0) (d .entry-is) ∙ e)
+
+  -- against any other that counts, the chosen one is not lower, and comes first if they are equal
+  by-either : (c : Candidate) → Chosen (candidates 0 rules us table) c → c .utility ≡ c .rule .utility → (j : ℕ) (q : Rule) → At q j rules → CountsIn table j
+      → (ltZ (c .rule .utility) (q .utility) ≡ false) × (q .utility ≡ c .rule .utility → c .number ≤ j)
+  by-either c b u j q at t =
+      let d : HasCandidate 0 rules us table q j = rule-candidate q at 0 us table in
+      let v : d .candidate .utility ≡ q .utility = d .utility-is ∙ utility-at q at in
+      ⊎-elim
+      (λ (l : lower (d .candidate) c ≡ true).
+      let w : ltZ (q .utility) (c .rule .utility) ≡ true = rw (← u, ← v) l in
+      let x : ltZ (c .rule .utility) (q .utility) ≡ false = ltZ-turn (q .utility) (c .rule .utility) w in
+      (x, λ z. absurd (no-true (sym w ∙ ap (λ (y : ℤ). ltZ y (c .rule .utility)) z ∙ sym (ap (λ (y : ℤ). ltZ (c .rule .utility) y) z) ∙ x))))
+      (λ (l : (lower c (d .candidate) ≡ false) × (c .number ≤ d .candidate .number)). (rw (← u, ← v) (l .0), λ z. omega (arith, l .1, d .number-is)))
+      (b .best (d .candidate) (d .member) (counts-in q j d t))
+
+  pub chosen-picked : (c : Candidate) → choose rules us table ≡ some c → Picked rules table c
+  chosen-picked c e =
+      let b : Chosen (candidates 0 rules us table) c = choose-best rules us table c e in
+      let h : Stands 0 rules us table c = candidate-stands 0 rules us table (b .candidate) in
+      let n : c .number ≡ h .place = h .number-is ∙ zero-add (h .place) in
+      let u : c .utility ≡ c .rule .utility = h .utility-is ∙ utility-at (c .rule) (h .rule-at) in
+      let entry : c .entry ≡ entryAt (c .number) table = h .entry-is ∙ ap (λ (k : ℕ). entryAt k table) (sym n) in
+      record {
+        numbered = rw n (h .rule-at);
+        entry-is = entry;
+        counting = ap (λ (x : List ℕ). getD x 0 0) (sym entry) ∙ eqb-true (getD (c .entry) 0 0) 1 (b .matching);
+        none-higher = λ j q at t. by-either c b u j q at t .0;
+        first-of-equals = λ j q at t. by-either c b u j q at t .1;
+      }
+
+  pub none-counts : choose rules us table ≡ none → (k : ℕ) (r : Rule) → At r k rules → CountsIn table k → ⊥
+  none-counts e k r at t =
+      let d : HasCandidate 0 rules us table r k = rule-candidate r at 0 us table in
+      let n : counts (d .candidate) ≡ false = not-true _ (every-member (λ c. not (counts c)) (candidates 0 rules us table) (choose-none rules us table .0 e) (d .member)) in
+      no-true (sym (counts-in r k d t) ∙ n)
+
+  pub none-picked : ((k : ℕ) (r : Rule) → At r k rules → CountsIn table k → ⊥) → choose rules us table ≡ none
+  none-picked h = by (choose rules us table) refl
+    where
+      by : (o : Option Candidate) → choose rules us table ≡ o → o ≡ none
+      by none e = refl
+      by (some c) e = let p : Picked rules table c = chosen-picked c e in absurd (h (c .number) (c .rule) (p .numbered) (p .counting))
+
+-- ---- with the fresh table
+
 module _ (m : Model) (s : State) where
   abbrev pub fresh : List ℕ
   fresh = freshTable (m .rules) s
 
-  abbrev us : List ℤ
-  us = utilities (m .rules)
+  -- an entry of the fresh table counts exactly if its rule matches
+  counts-matches : (r : Rule) (k : ℕ) → At r k (m .rules) → eqb (getD (entryAt k fresh) 0 0) 1 ≡ matches r s
+  counts-matches r k at = ap (λ (e : List ℕ). eqb (getD e 0 0) 1) (fresh-entry-at r at s) ∙ first-word r s
 
-  -- a candidate counts exactly if its rule matches
-  pub counts-matches : (c : Candidate) → Stands 0 (m .rules) us fresh c → counts c ≡ matches (c .rule) s
-  counts-matches c h = ap (λ (e : List ℕ). eqb (getD e 0 0) 1) (h .entry-is ∙ fresh-entry-at (c .rule) (h .rule-at) s) ∙ first-word (c .rule) s
+  matching-counts : (r : Rule) (k : ℕ) → At r k (m .rules) → Matches r s → CountsIn fresh k
+  matching-counts r k at t = eqb-true (getD (entryAt k fresh) 0 0) 1 (counts-matches r k at ∙ is-match r s t)
 
-  pub chosen-selected : (c : Candidate) → choose (m .rules) us fresh ≡ some c → Selected m s (c .number) (c .rule)
+  counting-matches : (r : Rule) (k : ℕ) → At r k (m .rules) → CountsIn fresh k → Matches r s
+  counting-matches r k at t = matches-bind r s (sym (counts-matches r k at) ∙ eq-eqb (getD (entryAt k fresh) 0 0) 1 t)
+
+  pub chosen-selected : (c : Candidate) → choose (m .rules) (utilities (m .rules)) fresh ≡ some c → Selected m s (c .number) (c .rule)
   chosen-selected c e =
-      let b : Chosen (candidates 0 (m .rules) us fresh) c = choose-best (m .rules) us fresh c e in
-      let h : Stands 0 (m .rules) us fresh c = candidate-stands 0 (m .rules) us fresh (b .candidate) in
-      let n : c .number ≡ h .place = h .number-is ∙ zero-add (h .place) in
-      let u : c .utility ≡ c .rule .utility = h .utility-is ∙ utility-at (c .rule) (h .rule-at) in
+      let p : Picked (m .rules) fresh c = chosen-picked (m .rules) fresh c e in
       record {
-        numbered = rw n (h .rule-at);
-        matching = matches-bind (c .rule) s (sym (counts-matches c h) ∙ b .matching);
-        none-higher = λ j q at t. by-either c b u j q (rule-candidate q at 0 us fresh) at (is-match q s t) .0;
-        first-of-equals = λ j q at t. by-either c b u j q (rule-candidate q at 0 us fresh) at (is-match q s t) .1;
+        numbered = p .numbered;
+        matching = counting-matches (c .rule) (c .number) (p .numbered) (p .counting);
+        none-higher = λ j q at t. p .none-higher j q at (matching-counts q j at t);
+        first-of-equals = λ j q at t. p .first-of-equals j q at (matching-counts q j at t);
       }
-    where
-      by-either : (c : Candidate) → Chosen (candidates 0 (m .rules) us fresh) c → c .utility ≡ c .rule .utility → (j : ℕ) (q : Rule) → HasCandidate 0 (m .rules) us fresh q j → At q j (m .rules)
-          → matches q s ≡ true → (ltZ (c .rule .utility) (q .utility) ≡ false) × (q .utility ≡ c .rule .utility → c .number ≤ j)
-      by-either c b u j q d at t =
-          let v : d .candidate .utility ≡ q .utility = d .utility-is ∙ utility-at q at in
-          let k : counts (d .candidate) ≡ true = ap (λ (e : List ℕ). eqb (getD e 0 0) 1) (d .entry-is ∙ fresh-entry-at q at s) ∙ first-word q s ∙ t in
-          ⊎-elim
-          (λ (l : lower (d .candidate) c ≡ true).
-          let w : ltZ (q .utility) (c .rule .utility) ≡ true = rw (← u, ← v) l in
-          let x : ltZ (c .rule .utility) (q .utility) ≡ false = ltZ-turn (q .utility) (c .rule .utility) w in
-          (x, λ z. absurd (no-true (sym w ∙ ap (λ (y : ℤ). ltZ y (c .rule .utility)) z ∙ sym (ap (λ (y : ℤ). ltZ (c .rule .utility) y) z) ∙ x))))
-          (λ (l : (lower c (d .candidate) ≡ false) × (c .number ≤ d .candidate .number)). (rw (← u, ← v) (l .0), λ z. omega (arith, l .1, d .number-is)))
-          (b .best (d .candidate) (d .member) k)
 
-  pub chosen-none : choose (m .rules) us fresh ≡ none → NoneSelected m s
-  chosen-none e k r at t =
-      let d : HasCandidate 0 (m .rules) us fresh r k = rule-candidate r at 0 us fresh in
-      let n : counts (d .candidate) ≡ false = not-true _ (every-member (λ c. not (counts c)) (candidates 0 (m .rules) us fresh) (choose-none (m .rules) us fresh .0 e) (d .member)) in
-      absurd (no-true (sym (ap (λ (e : List ℕ). eqb (getD e 0 0) 1) (d .entry-is ∙ fresh-entry-at r at s) ∙ first-word r s ∙ is-match r s t) ∙ n))
+  pub chosen-none : choose (m .rules) (utilities (m .rules)) fresh ≡ none → NoneSelected m s
+  chosen-none e k r at t = none-counts (m .rules) fresh e k r at (matching-counts r k at t)
+
+  pub none-chosen : NoneSelected m s → choose (m .rules) (utilities (m .rules)) fresh ≡ none
+  none-chosen n = none-picked (m .rules) fresh (λ k r at t. n k r at (counting-matches r k at t))
 
   -- two that are selected are one
   pub selected-once : (j k : ℕ) (q r : Rule) → Selected m s j q → Selected m s k r → (j ≡ k) × (q ≡ r)
