@@ -216,7 +216,8 @@ module _ (image : List ℕ) (m : Model) (end : ℕ) (d : decode image ≡ Got m 
   run-back w table h steps =
       let r : Ran = runOf image (stateOf w) table steps in
       let small : r .number < 11 = run-small image table (stateOf w) steps in
-      rw (fit-run image w table steps (h .fit), number-of (r .number) (r .made) small, count-of (r .number) (r .made) small, state-back (r .state) (reached-machine image m end d (words.ran (h .reached) steps))) refl
+      let machine : Machine (r .state) = reached-machine image m end d (words.ran (h .reached) steps) in
+      rw (fit-run image w table steps (h .fit), number-of (r .number) (r .made) small, count-of (r .number) (r .made) small, state-back (r .state) machine) refl
 
   pub held-run : (w table : List ℕ) → Held image w table → (steps : ℕ) → RanOn m (stateOf w) steps (eventsIn image w table steps) (ranIn (runIn image w table steps))
   held-run w table h steps =
