@@ -157,7 +157,8 @@ pub extern "C" fn jirvuntsag_trace(
     steps: u16,
     events: &mut [u32],
 ) -> u32
-    ensures { λ r. ⌜ (told r (now (state .exit)) (now (table .exit)) ≡ runIn (now (image .entry)) (now (state .entry)) (now (table .entry)) steps) × (now (events .exit) ≡ inscribed (now (events .entry)) 0 (eventsIn (now (image .entry)) (now (state .entry)) (now (table .entry)) steps)) ⌝ }
+    ensures { λ r. ⌜ (told r (now (state .exit)) (now (table .exit)) ≡ runIn (now (image .entry)) (now (state .entry)) (now (table .entry)) steps)
+        × (now (events .exit) ≡ inscribed (now (events .entry)) 0 (eventsIn (now (image .entry)) (now (state .entry)) (now (table .entry)) steps)) ⌝ }
 {
     let before = given(state);
     let from = before.state;

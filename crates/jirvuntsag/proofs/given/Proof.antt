@@ -6,6 +6,13 @@ use borrow.Author.Needs.{needs}
 use Rattle.jirvuntsag.proofs.given.Statement.{statement}
 use Rattle.jirvuntsag.proofs.given.Tie as tie
 
+-- ---- the places of the code, each named once
+
+abbrev start : tie.After-narrow → tie.Start
+start c = c .before .before .before
+
+-- ---- what is asked
+
 slice-aggregate-narrow : tie.Need-slice-aggregate-narrow
 slice-aggregate-narrow c = search needs
 
@@ -16,7 +23,10 @@ unfit-state-requires : tie.Need-unfit-state-requires
 unfit-state-requires c κs = search needs
 
 returns : tie.Need-returns
-returns c = let f = sym (not-true _ (c .before .if1 .taken)) ∙ c .before .before .before .narrow .ensures .0 in (f, given-unfit (c .before .before .before .before .before .before .args .words .now) _ f (c .unfit-state .ensures))
+returns c =
+    let n = c .before .before .before in
+    let f = sym (not-true _ (c .before .if1 .taken)) ∙ n .narrow .ensures .0 in
+    (f, given-unfit (start n .args .words .now) _ f (c .unfit-state .ensures))
 
 slice-aggregate-read-state : tie.Need-slice-aggregate-read-state
 slice-aggregate-read-state c = search needs
@@ -28,7 +38,12 @@ read-state-requires : tie.Need-read-state-requires
 read-state-requires c κs = search needs
 
 returns-2 : tie.Need-returns-2
-returns-2 c = let t = not-false _ (c .before .before .before .if1 .left) in let f = sym t ∙ c .before .before .before .before .before .narrow .ensures .0 in (f, given-fit (c .before .before .before .before .before .before .before .before .args .words .now) _ _ f (c .before .before .before .before .before .narrow .ensures .1 t) (c .read-state .ensures))
+returns-2 c =
+    let e = c .before .before .before in
+    let n = e .before .before in
+    let t = not-false _ (e .if1 .left) in
+    let f = sym t ∙ n .narrow .ensures .0 in
+    (f, given-fit (start n .args .words .now) _ _ f (n .narrow .ensures .1 t) (c .read-state .ensures))
 
 pub given-spec : {M : Type 1} → statement M
 given-spec =

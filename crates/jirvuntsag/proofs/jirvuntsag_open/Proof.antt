@@ -17,7 +17,11 @@ same-length : tie.Need-same-length
 same-length c = search needs
 
 returns : tie.Need-returns
-returns c = let a = c .before .before .before .before .before .before .before .before .before .before .args in open-told (a .image .now) (a .table .now) _ (c .answer .result) (c .before .lay .last .1 .0) (c .before .before .before .before .before .before .«open» .ensures) (c .before .lay .ensures) (c .answer .ensures)
+returns c =
+    let l = c .before in
+    let o = l .before .before .before .before .before in
+    let a = o .before .before .before .before .args in
+    open-told (a .image .now) (a .table .now) _ (c .answer .result) (l .lay .last .1 .0) (o .«open» .ensures) (l .lay .ensures) (c .answer .ensures)
 
 pub jirvuntsag-open-spec : {M : Type 1} → statement M
 jirvuntsag-open-spec =

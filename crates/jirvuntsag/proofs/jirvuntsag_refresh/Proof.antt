@@ -17,7 +17,12 @@ same-length : tie.Need-same-length
 same-length c = search needs
 
 returns : tie.Need-returns
-returns c = let a = c .before .before .before .before .before .before .before .before .before .before .args in let g = c .before .before .before .before .before .before .given in refresh-told (a .image .now) (a .state .now) (a .table .now) (a .mark) (g .result .state) _ (c .answer .result) (g .ensures .1) (c .before .before .before .refresh .ensures) (c .answer .ensures)
+returns c =
+    let r = c .before .before .before in
+    let g = r .before .before .before in
+    let a = g .before .before .before .before .args in
+    let f = g .given in
+    refresh-told (a .image .now) (a .state .now) (a .table .now) (a .mark) (f .result .state) _ (c .answer .result) (f .ensures .1) (r .refresh .ensures) (c .answer .ensures)
 
 pub jirvuntsag-refresh-spec : {M : Type 1} → statement M
 jirvuntsag-refresh-spec =

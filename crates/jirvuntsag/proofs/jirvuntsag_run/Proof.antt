@@ -20,7 +20,14 @@ same-length : tie.Need-same-length
 same-length c = search needs
 
 returns : tie.Need-returns
-returns c = let a = c .before .before .before .before .before .before .before .before .before .before .before .before .before .before .args in let g = c .before .before .before .before .before .before .before .before .before .given in run-told (a .image .now) (a .state .now) (a .table .now) (a .steps) (g .result .fitting) (g .result .state) _ (c .answer .result) (c .before .lay-back .last .1 .1 .0) (g .ensures .0) (g .ensures .1) (c .before .before .before .before .before .before .run .ensures) (c .before .lay-back .ensures) (c .answer .ensures)
+returns c =
+    let l = c .before in
+    let r = l .before .before .before .before .before in
+    let g = r .before .before .before in
+    let a = g .before .before .before .before .before .args in
+    let f = g .given in
+    run-told (a .image .now) (a .state .now) (a .table .now) (a .steps) (f .result .fitting) (f .result .state) _ (c .answer .result) (l .lay-back .last .1 .1 .0)
+    (f .ensures .0) (f .ensures .1) (r .run .ensures) (l .lay-back .ensures) (c .answer .ensures)
 
 pub jirvuntsag-run-spec : {M : Type 1} → statement M
 jirvuntsag-run-spec =

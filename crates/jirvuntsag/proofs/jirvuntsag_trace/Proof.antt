@@ -23,7 +23,16 @@ same-length-2 : tie.Need-same-length-2
 same-length-2 c = search needs
 
 returns : tie.Need-returns
-returns c = let a = c .before .before .before .before .before .before .before .before .before .before .before .before .before .before .before .before .before .before .args in let g = c .before .before .before .before .before .before .before .before .before .before .before .before .given in (run-told (a .image .now) (a .state .now) (a .table .now) (a .steps) (g .result .fitting) (g .result .state) _ (c .answer .result) (c .before .lay-back .last .1 .1 .0) (g .ensures .0) (g .ensures .1) (c .before .before .before .before .before .before .before .before .trace .ensures .0) (c .before .lay-back .ensures) (c .answer .ensures), events-told (a .image .now) (a .state .now) (a .table .now) (a .steps) (g .result .state) (a .events .now) _ (g .ensures .1) (c .before .before .before .before .before .before .before .before .trace .ensures .1))
+returns c =
+    let l = c .before in
+    let t = l .before .before .before .before .before .before .before in
+    let g = t .before .before .before .before in
+    let a = g .before .before .before .before .before .before .args in
+    let f = g .given in (
+      run-told (a .image .now) (a .state .now) (a .table .now) (a .steps) (f .result .fitting) (f .result .state) _ (c .answer .result) (l .lay-back .last .1 .1 .0)
+          (f .ensures .0) (f .ensures .1) (t .trace .ensures .0) (l .lay-back .ensures) (c .answer .ensures),
+      events-told (a .image .now) (a .state .now) (a .table .now) (a .steps) (f .result .state) (a .events .now) _ (f .ensures .1) (t .trace .ensures .1),
+    )
 
 pub jirvuntsag-trace-spec : {M : Type 1} → statement M
 jirvuntsag-trace-spec =

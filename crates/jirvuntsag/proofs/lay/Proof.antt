@@ -23,7 +23,11 @@ same-length : tie.Need-same-length
 same-length c = search needs
 
 returns : tie.Need-returns
-returns c = let a = c .before .before .before .before .before .before .before .before .before .args in lay-done (a .state) (a .words .now) (c .before .before .widen .last .1 .0) (c .before .before .before .before .before .before .lay-state .last .1 .0) (search needs) (c .before .before .before .before .before .before .lay-state .ensures) (c .before .before .widen .ensures)
+returns c =
+    let w = c .before .before in
+    let l = w .before .before .before .before in
+    let a = l .before .before .before .args in
+    lay-done (a .state) (a .words .now) (w .widen .last .1 .0) (l .lay-state .last .1 .0) (search needs) (l .lay-state .ensures) (w .widen .ensures)
 
 pub lay-spec : {M : Type 1} → statement M
 lay-spec =

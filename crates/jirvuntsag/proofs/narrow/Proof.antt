@@ -31,7 +31,10 @@ same-length : tie.Need-same-length Inv-loop μ-loop
 same-length c = search needs
 
 returns : tie.Need-returns Inv-loop μ-loop
-returns c = let l = c .before .before .before .loop in let a = c .before .before .before .before .args in (fits-not (a .words .now) (l .i) (search needs) (search needs) (search needs) (l .inv .2), λ e. absurd (search needs))
+returns c =
+    let l = c .before .before .before .loop in
+    let a = c .before .before .before .before .args in
+    (fits-not (a .words .now) (l .i) (search needs) (search needs) (search needs) (l .inv .2), λ e. absurd (search needs))
 
 cast-buffers : tie.Need-cast-buffers Inv-loop μ-loop
 cast-buffers c = search needs
@@ -49,13 +52,21 @@ loop-less : tie.Need-loop-less Inv-loop μ-loop
 loop-less c = search needs
 
 loop-again : tie.Need-loop-again Inv-loop μ-loop
-loop-again c = let l = c .before .before .before .loop in let a = c .before .before .before .before .args in (search needs, search needs, fits-on (a .words .now) (l .i) (search needs) (search needs) (search needs) (l .inv .2), narrow-on (a .words .now) (l .i) (search needs) (l .buffers) (search needs) (l .inv .1) (l .inv .3))
+loop-again c =
+    let l = c .before .before .before .loop in
+    let w = c .before .before .before .before .args .words .now in
+    let fitting = fits-on w (l .i) (search needs) (search needs) (search needs) (l .inv .2) in
+    (search needs, search needs, fitting, narrow-on w (l .i) (search needs) (l .buffers) (search needs) (l .inv .1) (l .inv .3))
 
 same-length-2 : tie.Need-same-length-2 Inv-loop μ-loop
 same-length-2 c = search needs
 
 returns-2 : tie.Need-returns-2 Inv-loop μ-loop
-returns-2 c = let l = c .before .loop in let a = c .before .before .args in (fits-end (a .words .now) (l .i) (search needs) (search needs) (l .inv .2), λ e. narrow-end (a .words .now) (l .i) (search needs) (l .buffers) (search needs) (l .inv .1) (l .inv .3))
+returns-2 c =
+    let l = c .before .loop in
+    let w = c .before .before .args .words .now in
+    let all = fits-end w (l .i) (search needs) (search needs) (l .inv .2) in
+    (all, λ e. narrow-end w (l .i) (search needs) (l .buffers) (search needs) (l .inv .1) (l .inv .3))
 
 pub narrow-spec : {M : Type 1} → statement M
 narrow-spec =
