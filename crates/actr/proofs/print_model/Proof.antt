@@ -9,6 +9,13 @@ use borrow.Author.Needs.{needs}
 use Rattle.actr.proofs.print_model.Statement.{statement}
 use Rattle.actr.proofs.print_model.Tie as tie
 
+-- ---- the places of the code, each named once
+
+abbrev start : tie.After-open → tie.Start
+start c = c .before .before .before .before .before
+
+-- ---- what is asked
+
 open-requires : tie.Need-open-requires
 open-requires c κs = search needs
 
@@ -23,8 +30,11 @@ same-length-2 c = search needs
 
 returns : tie.Need-returns
 returns c =
-    let a = c .before .before .before .before .before .before .before .before .before .before .before .before .before .args in
-    written-as (text-one _ ∙ ap Text·text (printed-refused (a .image .now) (a .table .now) (c .before .before .before .before .before .before .before .before .before .before .before .before .before .pre .0) _ (c .before .before .before .before .before .before .before .before .«open» .ensures) (c .before .before .before .before .if1 .taken))) (omega arith) (c .before .before .put-end .ensures)
+    let t = c .before .before .before .before in
+    let o = t .before .before .before .before in
+    let a = start o .args in
+    let refused = printed-refused (a .image .now) (a .table .now) (start o .pre .0) _ (o .«open» .ensures) (t .if1 .taken) in
+    written-as (text-one _ ∙ ap Text·text refused) (omega arith) (c .before .before .put-end .ensures)
 
 print-run-requires : tie.Need-print-run-requires
 print-run-requires c κs = search needs
@@ -37,8 +47,10 @@ same-length-4 c = search needs
 
 returns-2 : tie.Need-returns-2
 returns-2 c =
-    let a = c .before .before .before .before .before .before .before .before .before .before .before .before .before .before .before .before .before .args in
-    written-as (ap Text·text (printed-run (a .image .now) (a .table .now) (c .before .before .before .before .before .before .before .before .before .before .before .before .before .before .before .before .before .pre .0) _ (c .before .before .before .before .before .before .before .before .before .before .before .before .«open» .ensures))) (omega arith) (c .before .before .before .before .print-run .ensures)
+    let r = c .before .before .before .before in
+    let o = r .before .before .before .before .before .before .before .before in
+    let a = start o .args in
+    written-as (ap Text·text (printed-run (a .image .now) (a .table .now) (start o .pre .0) _ (o .«open» .ensures))) (omega arith) (r .print-run .ensures)
 
 pub print-model-spec : {M : Type 1} → statement M
 print-model-spec =

@@ -1,4 +1,5 @@
 -- `actr::print_run` meets its contract: the lines put are those of the events noted, and the last.
+use Prim.Native.Nat.{_≤_}
 use mathlib.Core.Path.{ap, _∙_}
 use native.Mathlib.Omega.{arith}
 use Rattle.actr.specs.Text.{text as Text·text}
@@ -8,6 +9,20 @@ use Rattle.actr.proofs.RunLaws.{traced-lines, traced-most}
 use borrow.Author.Needs.{needs}
 use Rattle.actr.proofs.print_run.Statement.{statement}
 use Rattle.actr.proofs.print_run.Tie as tie
+
+-- ---- the places of the code, each named once
+
+abbrev start : tie.After-events → tie.Start
+start c = c .before .before .before .before .before
+
+abbrev traced : tie.After-events3 → tie.After-trace
+traced c = c .before .before .before .before .before
+
+-- no more steps were made than were asked for
+most : (c : tie.After-trace) → c .trace .result .made ≤ 1000
+most c = let a = start (c .before) .args in traced-most (a .image .now) (a .state) (a .table .now) _ _ (c .trace .ensures .0)
+
+-- ---- what is asked
 
 slice-aggregate-trace : tie.Need-slice-aggregate-trace
 slice-aggregate-trace c = search needs
@@ -19,17 +34,13 @@ slice-aggregate-put-steps : tie.Need-slice-aggregate-put-steps
 slice-aggregate-put-steps c = search needs
 
 put-steps-requires : tie.Need-put-steps-requires
-put-steps-requires c κs =
-    let a = c .before .before .before .before .before .before .before .before .before .before .before .args in
-    let t = c .before .before .before .before .before .trace in
-    (omega (arith, traced-most (a .image .now) (a .state) (a .table .now) _ _ (t .ensures .0), t .kept .1 .1 .1 .1 .0), omega (arith, traced-most (a .image .now) (a .state) (a .table .now) _ _ (t .ensures .0)))
+put-steps-requires c κs = let t = traced c in (omega (arith, most t, t .trace .kept .1 .1 .1 .1 .0), omega (arith, most t))
 
 put-end-requires : tie.Need-put-end-requires
 put-end-requires c κs =
-    let a = c .before .before .before .before .before .before .before .before .before .before .before .before .before .before .before .args in
-    let t = c .before .before .before .before .before .before .before .before .before .trace in
-    let w = c .before .before .before .put-steps .ensures in
-    omega (arith, traced-most (a .image .now) (a .state) (a .table .now) _ _ (t .ensures .0), w .ends, w .fits)
+    let p = c .before .before .before in
+    let w = p .put-steps .ensures in
+    omega (arith, most (traced (p .before)), w .ends, w .fits)
 
 same-length : tie.Need-same-length
 same-length c = search needs
@@ -39,9 +50,13 @@ same-length-2 c = search needs
 
 returns : tie.Need-returns
 returns c =
-    let a = c .before .before .before .before .before .before .before .before .before .before .before .before .before .before .before .before .before .before .args in
-    let t = c .before .before .before .before .before .before .before .before .before .before .before .before .trace in
-    written-as (text-last _ _ ∙ ap Text·text (traced-lines (a .state) (a .table .now) 1000 _ (search needs) (a .image .now) _ _ (t .ensures .0) (t .ensures .1))) (omega (arith, traced-most (a .image .now) (a .state) (a .table .now) _ _ (t .ensures .0))) (written-join (c .before .before .before .before .before .before .put-steps .ensures) (c .before .before .put-end .ensures))
+    let e = c .before .before in
+    let p = e .before .before .before .before in
+    let t = traced (p .before) in
+    let a = start (t .before) .args in
+    let r = t .trace .ensures in
+    let lines = traced-lines (a .state) (a .table .now) 1000 _ (search needs) (a .image .now) _ _ (r .0) (r .1) in
+    written-as (text-last _ _ ∙ ap Text·text lines) (omega (arith, most t)) (written-join (p .put-steps .ensures) (e .put-end .ensures))
 
 pub print-run-spec : {M : Type 1} → statement M
 print-run-spec =

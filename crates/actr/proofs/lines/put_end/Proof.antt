@@ -34,7 +34,14 @@ same-length : tie.Need-same-length
 same-length c = search needs
 
 returns : tie.Need-returns
-returns c = written-as refl (omega arith) (written-join (written-join (written-join (written-join (c .before .before .before .before .before .before .before .before .before .before .before .before .before .before .before .before .before .before .before .before .put .ensures) (c .before .before .before .before .before .before .before .before .before .before .before .before .before .before .before .before .put-number .ensures)) (c .before .before .before .before .before .before .before .before .before .before .before .put2 .ensures)) (c .before .before .before .before .before .before .before .put-number2 .ensures)) (c .before .before .put3 .ensures))
+returns c =
+    let ended = c .before .before in
+    let made = ended .before .before .before .before .before in
+    let space = made .before .before .before .before in
+    let numbered = space .before .before .before .before .before in
+    let said = numbered .before .before .before .before in
+    let upto = written-join (written-join (said .put .ensures) (numbered .put-number .ensures)) (space .put2 .ensures) in
+    written-as refl (omega arith) (written-join (written-join upto (made .put-number2 .ensures)) (ended .put3 .ensures))
 
 pub put-end-spec : {M : Type 1} → statement M
 put-end-spec =

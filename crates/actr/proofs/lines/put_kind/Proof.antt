@@ -26,13 +26,19 @@ same-length : tie.Need-same-length
 same-length c = search needs
 
 returns : tie.Need-returns
-returns c = written-as (sym (ap (λ (t : Bool). if t then fired else waited) (eq-eqb _ 0 (c .before .before .before .before .before .if1 .taken)))) (omega arith) (c .before .before .put .ensures)
+returns c =
+    let p = c .before .before in
+    let h = p .before .before .before .if1 .taken in
+    written-as (sym (ap (λ (t : Bool). if t then fired else waited) (eq-eqb _ 0 h))) (omega arith) (p .put .ensures)
 
 same-length-2 : tie.Need-same-length-2
 same-length-2 c = search needs
 
 returns-2 : tie.Need-returns-2
-returns-2 c = written-as (sym (ap (λ (t : Bool). if t then fired else waited) (ne-eqb _ 0 (c .before .before .before .before .before .if1 .left)))) (omega arith) (c .before .before .put2 .ensures)
+returns-2 c =
+    let p = c .before .before in
+    let h = p .before .before .before .if1 .left in
+    written-as (sym (ap (λ (t : Bool). if t then fired else waited) (ne-eqb _ 0 h))) (omega arith) (p .put2 .ensures)
 
 pub put-kind-spec : {M : Type 1} → statement M
 put-kind-spec =

@@ -26,8 +26,13 @@ same-length c = search needs
 
 returns : tie.Need-returns
 returns c =
-    let a = c .before .before .before .before .before .before .before .before .before .before .before .before .before .before .before .before .before .before .args in
-    written-as (step-letters (a .clock) (a .kind) (a .value)) (omega arith) (written-join (written-join (written-join (c .before .before .before .before .before .before .before .before .before .before .before .before .before .before .before .put-number .ensures) (c .before .before .before .before .before .before .before .before .before .before .before .put-kind .ensures)) (c .before .before .before .before .before .before .before .put-number2 .ensures)) (c .before .before .put .ensures))
+    let ended = c .before .before in
+    let value = ended .before .before .before .before .before in
+    let kind = value .before .before .before .before in
+    let clock = kind .before .before .before .before in
+    let a = clock .before .before .before .args in
+    let upto = written-join (written-join (clock .put-number .ensures) (kind .put-kind .ensures)) (value .put-number2 .ensures) in
+    written-as (step-letters (a .clock) (a .kind) (a .value)) (omega arith) (written-join upto (ended .put .ensures))
 
 pub put-step-spec : {M : Type 1} → statement M
 put-step-spec =

@@ -67,8 +67,10 @@ loop-less c = search needs
 
 loop-again : tie.Need-loop-again Inv-loop μ-loop
 loop-again c =
-    let l = c .before .before .before .before .before .before .before .before .loop in
-    (search needs, l .inv .1, c .before .before .put-step .kept .0 ∙ l .inv .2, steps-on (c .before .before .before .before .before .before .before .before .before .before .before .args .events .now) (l .k) (l .inv .3) (c .before .before .put-step .ensures))
+    let p = c .before .before in
+    let k = p .before .before .before .before .before .before in
+    let l = k .loop in
+    (search needs, l .inv .1, p .put-step .kept .0 ∙ l .inv .2, steps-on (k .before .before .before .args .events .now) (l .k) (l .inv .3) (p .put-step .ensures))
 
 same-length : tie.Need-same-length Inv-loop μ-loop
 same-length c = search needs
@@ -76,7 +78,8 @@ same-length c = search needs
 returns : tie.Need-returns Inv-loop μ-loop
 returns c =
     let l = c .before .loop in
-    steps-end (c .before .before .before .before .args .events .now) (l .k) (c .before .before .before .before .args .made) (omega arith) (l .inv .3)
+    let a = c .before .before .before .before .args in
+    steps-end (a .events .now) (l .k) (a .made) (omega arith) (l .inv .3)
 
 pub put-steps-spec : {M : Type 1} → statement M
 put-steps-spec =
