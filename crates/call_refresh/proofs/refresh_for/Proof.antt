@@ -150,13 +150,14 @@ returns-3 : tie.Need-returns-3
 unfolding modelOn
 returns-3 c =
     let r = c .before .before in
-    let m = allowed (r .before .before .before .before) in
+    let g = r .before .before .before .before in
+    let m = allowed g in
     let j = judged m in
     let l = laid (argued j) in
     let a = start l .args in
     refresh-done (a .state) (a .mark) (a .table .now) (modelOn (a .plan) (a .tape .now)) _ (a .plan .buffers) (words l) (j .well-formed .result)
     (j .well-formed .ensures) (l .lay-state .ensures) refl refl
-    (not-false _ (m .before .if1 .left)) (m .mark-allowed .result) (m .mark-allowed .ensures) (not-false _ (r .before .before .before .before .before .before .if2 .left))
+    (not-false _ (m .before .if1 .left)) (m .mark-allowed .result) (m .mark-allowed .ensures) (not-false _ (g .before .before .if2 .left))
     (rulesOn (a .plan) (a .tape .now)) refl (r .refresh .result) (r .refresh .last .0) (λ clock. simp to-end at (r .refresh .ensures .0 clock)) (simp to-end at (r .refresh .ensures .1))
 
 pub refresh-for-spec : {M : Type 1} → statement M
