@@ -40,8 +40,9 @@ module _ (facts : List ℕ) (n : ℕ) (words : List ℕ) (q : ℕ) (nine : List 
     no-fit j named out =
         let e : q + 3 + 0 ≡ q + 3 = omega arith in
         let f : 11 * j + 3 + 0 ≡ 11 * j + 3 = omega arith in
+        let v = value ∙ ap (λ (i : ℕ). valueOf nine (wordTerm (getD words i 0))) (sym e) in
         by-same (getD facts (11 * j) 0) (getD words (q + 1) 0)
-        (λ s. sym (fits-start facts (11 * j) words q nine s) ∙ sym (fits-not facts (11 * j) words q nine (getD words (q + 2) 0) 0 (omega arith) named first (value ∙ ap (λ (i : ℕ). valueOf nine (wordTerm (getD words i 0))) (sym e))
+        (λ s. sym (fits-start facts (11 * j) words q nine s) ∙ sym (fits-not facts (11 * j) words q nine (getD words (q + 2) 0) 0 (omega arith) named first v
         (λ same. out (ap (λ (x : ℕ). x % 64) (sym (ap (λ (i : ℕ). getD facts i 0) f) ∙ same)))))
         (λ d. sym (fits-other facts (11 * j) words q nine d))
 
@@ -63,6 +64,7 @@ module _ (facts : List ℕ) (n : ℕ) (words : List ℕ) (q : ℕ) (nine : List 
               ap (λ (i : ℕ). soughtFrom i best) (sym e) ∙ past (r - k) k best (omega (arith, leap .within)) (λ j a b. no-fit j named (leap .between j a (omega arith)));
         }
 
-    pub leap-to : (chained : Bool) (k x r : ℕ) → r ≡ (if chained then x else k) → (chained ≡ true → bitAnd (getD words (q + 2) 0 / 2 ^ 7) 1 ≡ 1) → (chained ≡ true → Leap facts n (first % 64) k x) → k ≤ n → Onward chained k r
+    pub leap-to : (chained : Bool) (k x r : ℕ) → r ≡ (if chained then x else k) → (chained ≡ true → bitAnd (getD words (q + 2) 0 / 2 ^ 7) 1 ≡ 1)
+        → (chained ≡ true → Leap facts n (first % 64) k x) → k ≤ n → Onward chained k r
     leap-to true k x r e named leap h = rw e (onward (named refl) k x (leap refl))
     leap-to false k x r e named leap h = rw e (record { forth = omega arith; within = h; lands = λ t. absurd (let z : _≡_ {A = ℕ} 0 1 = cc in omega arith); same = λ best. refl })

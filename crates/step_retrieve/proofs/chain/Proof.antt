@@ -14,11 +14,17 @@ Inv-loop index₀ facts n k₀ index k = (k ≤ n) × (length index ≡ length i
 abbrev μ-loop : tie.MeasureT-loop
 μ-loop index₀ facts n k₀ index k = k
 
+-- where the code begins, from where the chains are back
+abbrev start : tie.After-index Inv-loop μ-loop → tie.Start Inv-loop μ-loop
+start c = c .before .before .before .before .before
+
 no-chains-requires : tie.Need-no-chains-requires Inv-loop μ-loop
 no-chains-requires c κs = search needs
 
 loop-holds : tie.Need-loop-holds Inv-loop μ-loop
-loop-holds c = (search needs, search needs, search needs, laid-none (c .before .before .before .before .before .before .args .facts .now) (c .before .before .before .before .before .before .args .n) _ (c .before .before .no-chains .ensures))
+loop-holds c =
+    let a = start (c .before) .args in
+    (search needs, search needs, search needs, laid-none (a .facts .now) (a .n) _ (c .before .before .no-chains .ensures))
 
 sub-k : tie.Need-sub-k Inv-loop μ-loop
 sub-k c = search needs
@@ -67,16 +73,21 @@ loop-less c = search needs
 
 loop-again : tie.Need-loop-again Inv-loop μ-loop
 loop-again c =
-    let l = c .before .before .before .loop in
-    let a = c .before .before .before .before .before .before .before .before .before .before .args in
+    let k = c .before .before .before in
+    let l = k .loop in
+    let a = start (k .before .before) .args in
     let e : l .k - 1 + 1 ≡ l .k = omega arith in
-    (search needs, simp (length-set, length-set) (l .inv .1), simp (length-set, length-set) (l .inv .2), laid-turn (a .facts .now) (a .n) (l .k - 1) (l .index) (omega arith) (l .inv .2) (rw e (l .inv .3)))
+    let laid = laid-turn (a .facts .now) (a .n) (l .k - 1) (l .index) (omega arith) (l .inv .2) (rw e (l .inv .3)) in
+    (search needs, simp (length-set, length-set) (l .inv .1), simp (length-set, length-set) (l .inv .2), laid)
 
 same-length : tie.Need-same-length Inv-loop μ-loop
 same-length c = search needs
 
 returns : tie.Need-returns Inv-loop μ-loop
-returns c = let l = c .before .loop in laid-all (c .before .before .before .before .before .before .before .before .args .facts .now) (c .before .before .before .before .before .before .before .before .args .n) (l .k) (l .index) (omega arith) (l .inv .2) (l .inv .3)
+returns c =
+    let l = c .before .loop in
+    let a = start (c .before .before .before) .args in
+    laid-all (a .facts .now) (a .n) (l .k) (l .index) (omega arith) (l .inv .2) (l .inv .3)
 
 pub chain-spec : {M : Type 1} → statement M
 chain-spec =

@@ -13,6 +13,16 @@ Inv-loop facts f words q nine mask b₀ b = (b ≤ 8) × (fitsFrom facts f words
 abbrev μ-loop : tie.MeasureT-loop
 μ-loop facts f words q nine mask b₀ b = 8 - b
 
+-- ---- the places of the code, each named once
+
+abbrev start : tie.After-shared-slice-known5 Inv-loop μ-loop → tie.Start Inv-loop μ-loop
+start c = c .before .before .before .before .before
+
+abbrev begun : tie.At-loop Inv-loop μ-loop → tie.Start Inv-loop μ-loop
+begun c = start (c .before .before .before)
+
+-- ---- what is asked
+
 mul-if1 : tie.Need-mul-if1 Inv-loop μ-loop
 mul-if1 c = search needs
 
@@ -29,7 +39,7 @@ shared-slice-read-if1-2 : tie.Need-shared-slice-read-if1-2 Inv-loop μ-loop
 shared-slice-read-if1-2 c = search needs
 
 returns : tie.Need-returns Inv-loop μ-loop
-returns c = let a = c .before .before .before .before .before .before .args in fits-other (a .facts .now) (a .f) (a .words .now) (a .q) (a .nine .now) (c .if1 .taken)
+returns c = let a = start (c .before) .args in fits-other (a .facts .now) (a .f) (a .words .now) (a .q) (a .nine .now) (c .if1 .taken)
 
 add-mask : tie.Need-add-mask Inv-loop μ-loop
 add-mask c = search needs
@@ -41,7 +51,7 @@ shared-slice-read-mask : tie.Need-shared-slice-read-mask Inv-loop μ-loop
 shared-slice-read-mask c = search needs
 
 loop-holds : tie.Need-loop-holds Inv-loop μ-loop
-loop-holds c = let a = c .before .before .before .before .before .before .before .args in (search needs, fits-start (a .facts .now) (a .f) (a .words .now) (a .q) (a .nine .now) (c .before .if1 .left))
+loop-holds c = let a = start (c .before .before) .args in (search needs, fits-start (a .facts .now) (a .f) (a .words .now) (a .q) (a .nine .now) (c .before .if1 .left))
 
 sub-if2 : tie.Need-sub-if2 Inv-loop μ-loop
 sub-if2 c = search needs
@@ -81,9 +91,11 @@ value-of-requires c κs = search needs
 
 returns-2 : tie.Need-returns-2 Inv-loop μ-loop
 returns-2 c =
-    let l = c .before .before .before .before .before .before .loop in
-    let a = c .before .before .before .before .before .before .before .before .before .before .before .before .before .before .args in
-    fits-not (a .facts .now) (a .f) (a .words .now) (a .q) (a .nine .now) _ (l .b) (c .before .before .before .before .before .loop-test .taken) (c .before .before .before .before .if2 .taken) _ (c .before .value-of .ensures) (c .if3 .taken) ∙ l .inv .1
+    let t = c .before .before .before .before in
+    let k = t .before .before in
+    let l = k .loop in
+    let a = begun k .args in
+    fits-not (a .facts .now) (a .f) (a .words .now) (a .q) (a .nine .now) _ (l .b) (t .before .loop-test .taken) (t .if2 .taken) _ (c .before .value-of .ensures) (c .if3 .taken) ∙ l .inv .1
 
 add-b : tie.Need-add-b Inv-loop μ-loop
 add-b c = search needs
@@ -94,7 +106,7 @@ loop-less c = search needs
 loop-again : tie.Need-loop-again Inv-loop μ-loop
 loop-again c =
     let l = c .before .before .loop in
-    let a = c .before .before .before .before .before .before .before .before .before .before .args in
+    let a = begun (c .before .before) .args in
     let h = c .before .loop-test .taken in
     ⊎-elim
     (λ w. (search needs, fits-turn (a .facts .now) (a .f) (a .words .now) (a .q) (a .nine .now) _ (l .b) h (w .0 .taken) _ (w .3 .ensures) (w .4 .left) ∙ l .inv .1))
@@ -104,7 +116,7 @@ loop-again c =
 returns-3 : tie.Need-returns-3 Inv-loop μ-loop
 returns-3 c =
     let l = c .before .loop in
-    let a = c .before .before .before .before .before .before .before .before .before .args in
+    let a = begun (c .before) .args in
     fits-end (a .facts .now) (a .f) (a .words .now) (a .q) (a .nine .now) _ (l .b) (c .loop-test .left) ∙ l .inv .1
 
 pub fits-spec : {M : Type 1} → statement M
