@@ -85,7 +85,8 @@ module _ (s : List ℕ) where
     unfolding beginning
     begin-second x y e = rw (← e₁) (on (slotCounts (h .declared) s q) e)
       where
-        on : (r : Read (List ℕ)) → Refused x y ≡ mapped (λ counts. 0 ∷ counts) r → Refused x y ≡ follow r (λ counts o. follow (times (h .buffers) (chunk (0 ∷ counts) 0) s o) (λ opening z. Got (aBeginning h (0 ∷ counts) opening) z))
+        on : (r : Read (List ℕ)) → Refused x y ≡ mapped (λ counts. 0 ∷ counts) r
+            → Refused x y ≡ follow r (λ counts o. follow (times (h .buffers) (chunk (0 ∷ counts) 0) s o) (λ opening z. Got (aBeginning h (0 ∷ counts) opening) z))
         on (Refused a b) g = cc
         on (Got cs z) g = cc
 
@@ -98,7 +99,8 @@ module _ (s : List ℕ) where
         last (Next z) = refl
         last (Bad x y) = refl
 
-        on : (r : Read (List ℕ)) → Got types o ≡ mapped (λ counts. 0 ∷ counts) r → answer w (aBeginning h types opening) ≡ follow r (λ counts o. follow (times (h .buffers) (chunk (0 ∷ counts) 0) s o) (λ opening z. Got (aBeginning h (0 ∷ counts) opening) z))
+        on : (r : Read (List ℕ)) → Got types o ≡ mapped (λ counts. 0 ∷ counts) r
+            → answer w (aBeginning h types opening) ≡ follow r (λ counts o. follow (times (h .buffers) (chunk (0 ∷ counts) 0) s o) (λ opening z. Got (aBeginning h (0 ∷ counts) opening) z))
         on (Refused a b) g = cc
         on (Got cs z) g =
             let t : types ≡ 0 ∷ cs = cc in
