@@ -25,7 +25,16 @@ ranged-after-requires-3 : tie.Need-ranged-after-requires-3
 ranged-after-requires-3 c κs = search needs
 
 returns : tie.Need-returns
-returns c = let a = c .before .before .before .before .before .args in (head-on (a .buffers) (a .image .now) (a .p) (c .before .before .before .any-after .result .walk) (c .before .before .ranged-after .result .walk) (c .before .ranged-after2 .result .walk) (c .ranged-after3 .result .walk) _ _ _ _ (c .before .before .before .any-after .ensures .0) (c .before .before .ranged-after .ensures .0) (c .before .ranged-after2 .ensures .0) (c .ranged-after3 .ensures .0), c .ranged-after3 .ensures .1)
+returns c =
+    let r₁ = c .before .before .before .any-after in
+    let r₂ = c .before .before .ranged-after in
+    let r₃ = c .before .ranged-after2 in
+    let r₄ = c .ranged-after3 in
+    let a = c .before .before .before .before .before .args in (
+      head-on (a .buffers) (a .image .now) (a .p) (r₁ .result .walk) (r₂ .result .walk) (r₃ .result .walk) (r₄ .result .walk) _ _ _ _
+          (r₁ .ensures .0) (r₂ .ensures .0) (r₃ .ensures .0) (r₄ .ensures .0),
+      r₄ .ensures .1,
+    )
 
 pub head-spec : {M : Type 1} → statement M
 head-spec =
