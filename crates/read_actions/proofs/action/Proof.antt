@@ -11,6 +11,16 @@ use borrow.Author.Needs.{needs}
 use Rattle.read_actions.proofs.action.Statement.{statement}
 use Rattle.read_actions.proofs.action.Tie as tie
 
+-- ---- the places of the code, each named once
+
+abbrev start : tie.After-ranged → tie.Start
+start c = c .before .before .before .before
+
+abbrev judged : tie.After-known-told → tie.After-ranged
+judged c = c .before .before .before
+
+-- ---- what is asked
+
 ranged-requires : tie.Need-ranged-requires
 ranged-requires c κs = search needs
 
@@ -21,12 +31,13 @@ tested-type-requires : tie.Need-tested-type-requires
 tested-type-requires c κs = search needs
 
 deed-requires : tie.Need-deed-requires
-deed-requires c κs = (search needs, c .before .before .before .before .ranged .ensures .1 _ (c .before .before .w .given .1), search needs, search needs)
+deed-requires c κs = let k = c .before in (search needs, judged k .ranged .ensures .1 _ (k .before .w .given .1), search needs, search needs)
 
 row-requires : tie.Need-row-requires
 row-requires c κs =
-    let x = c .before .before .before .before .before .ranged .result in
-    buffer-small _ _ _ (x .walk) (x .value) _ (c .before .before .before .before .before .ranged .ensures .0) (c .before .before .before .w .given .1)
+    let k = c .before .before in
+    let r = judged k .ranged in
+    buffer-small _ _ _ (r .result .walk) (r .result .value) _ (r .ensures .0) (k .before .w .given .1)
 
 enum-known-w-2 : tie.Need-enum-known-w-2
 enum-known-w-2 c = search needs
@@ -36,21 +47,27 @@ no-row-requires c κs = search needs
 
 returns : tie.Need-returns
 returns c =
-    let d = c .before .deed .result in
-    let x = c .before .before .before .before .before .before .ranged .result in
-    let a = c .before .before .before .before .before .before .before .before .before .before .args in (
-      ap₂ (λ (w : Walk) (t : Action). answer w t) (c .row .ensures .0) (c .row .ensures .1)
-          ∙ action-on (sizes (a .buffers) (a .types .now)) (a .variables) (testsIn (a .rule .now) 0 (a .n)) (a .least) (a .image .now) (a .p) (x .walk) (x .value) (c .before .before .before .before .before .before .ranged .ensures .0) _ (c .before .before .before .before .w .given .1) (d .walk) (deedIn d) (c .before .deed .ensures .0 (a .buffers) (testsIn (a .rule .now) 0 (a .n)) (x .value) (c .before .before .tested-type .ensures)),
-      λ q e. c .before .deed .ensures .1 q (sym (c .row .ensures .0) ∙ e),
-    )
+    let d = c .before .deed in
+    let k = c .before .before .before in
+    let r = judged k .ranged in
+    let x = r .result in
+    let a = start (judged k) .args in
+    let ts = testsIn (a .rule .now) 0 (a .n) in
+    let deeds = d .ensures .0 (a .buffers) ts (x .value) (c .before .before .tested-type .ensures) in
+    let on =
+    action-on (sizes (a .buffers) (a .types .now)) (a .variables) ts (a .least) (a .image .now) (a .p) (x .walk) (x .value) (r .ensures .0) _ (k .before .w .given .1)
+    (d .result .walk) (deedIn (d .result)) deeds in
+    (ap₂ (λ (w : Walk) (t : Action). answer w t) (c .row .ensures .0) (c .row .ensures .1) ∙ on, λ q e. d .ensures .1 q (sym (c .row .ensures .0) ∙ e))
 
 returns-2 : tie.Need-returns-2
 returns-2 c =
-    let x = c .before .before .before .before .ranged .result in
-    let a = c .before .before .before .before .before .before .before .before .args in (
-      answer-bad _ _ _ _ (c .no-row .ensures) ∙ action-bad (sizes (a .buffers) (a .types .now)) (a .variables) (testsIn (a .rule .now) 0 (a .n)) (a .least) (a .image .now) (a .p) (x .walk) (x .value) (c .before .before .before .before .ranged .ensures .0) _ _ (c .before .before .w2 .given .1),
-      bad-within _ _ _ _ (c .no-row .ensures),
-    )
+    let j = c .before .before .before .before in
+    let r = j .ranged in
+    let a = start j .args in
+    let ts = testsIn (a .rule .now) 0 (a .n) in
+    let bad =
+    action-bad (sizes (a .buffers) (a .types .now)) (a .variables) ts (a .least) (a .image .now) (a .p) (r .result .walk) (r .result .value) (r .ensures .0) _ _ (c .before .before .w2 .given .1) in
+    (answer-bad _ _ _ _ (c .no-row .ensures) ∙ bad, bad-within _ _ _ _ (c .no-row .ensures))
 
 pub action-spec : {M : Type 1} → statement M
 action-spec =

@@ -20,8 +20,26 @@ Inv-loop image p m buffers types variables rule₀ n at₀ least₀ i₀ rule at
 abbrev μ-loop : tie.MeasureT-loop
 μ-loop image p m buffers types variables rule₀ n at₀ least₀ i₀ rule at least i = m - i
 
+-- ---- the places of the code, each named once
+
+abbrev start : tie.At-loop Inv-loop μ-loop → tie.Start Inv-loop μ-loop
+start c = c .before .before .before .before
+
+abbrev turn : tie.After-action Inv-loop μ-loop → tie.In-loop Inv-loop μ-loop
+turn c = c .before .before
+
+abbrev read : tie.After-known-told Inv-loop μ-loop → tie.After-action Inv-loop μ-loop
+read c = c .before .before .before
+
+abbrev known : tie.After-ws Inv-loop μ-loop → tie.After-known-told Inv-loop μ-loop
+known c = c .before .before .before .before .before
+
+-- ---- what is asked
+
 loop-holds : tie.Need-loop-holds Inv-loop μ-loop
-loop-holds c = let a = c .before .before .before .args in (search needs, search needs, refl, refl, acting-start (sizes (a .buffers) (a .types .now)) (a .variables) (a .image .now) (a .rule .now) 0 (a .n) (a .m) (a .p))
+loop-holds c =
+    let a = c .before .before .before .args in
+    (search needs, search needs, refl, refl, acting-start (sizes (a .buffers) (a .types .now)) (a .variables) (a .image .now) (a .rule .now) 0 (a .n) (a .m) (a .p))
 
 action-requires : tie.Need-action-requires Inv-loop μ-loop
 action-requires c κs = search needs
@@ -37,14 +55,14 @@ same-length c = search needs
 
 returns : tie.Need-returns Inv-loop μ-loop
 returns c =
-    let read = c .before .before .before in
-    let test = read .before .before in
-    let l = test .before .loop in
-    let a = test .before .before .before .before .before .args in
-    let r = read .action .result in
+    let d = c .before .before .before in
+    let t = turn d in
+    let l = t .before .loop in
+    let a = start (t .before) .args in
+    let r = d .action .result in
     let bad =
     acting-bad (sizes (a .buffers) (a .types .now)) (a .variables) (a .image .now) (a .rule .now) 0 (a .n) (a .m) (l .rule) (l .i) (l .least) (l .at)
-    (test .loop-test .taken) (search needs) (l .inv .3) (r .walk) (r .words) (read .action .ensures .0) _ _ (c .before .w2 .given .1) in
+    (t .loop-test .taken) (search needs) (l .inv .3) (r .walk) (r .words) (d .action .ensures .0) _ _ (c .before .w2 .given .1) in
     (bad ∙ l .inv .4, (bad-within _ _ _ _ refl, l .inv .3))
 
 mul-lay : tie.Need-mul-lay Inv-loop μ-loop
@@ -70,21 +88,21 @@ loop-less c = search needs
 
 loop-again : tie.Need-loop-again Inv-loop μ-loop
 loop-again c =
-    let l = c .before .before .before .before .before .before .before .before .before .before .before .loop in
-    let a = c .before .before .before .before .before .before .before .before .before .before .before .before .before .before .before .args in
-    let below = c .before .before .before .before .before .before .before .before .before .before .loop-test .taken in
-    let r = c .before .before .before .before .before .before .before .before .action .result in
-    let reads = c .before .before .before .before .before .before .before .before .action .ensures in
-    let next = c .before .before .before .before .before .before .w .given .1 in
+    let l = turn (read (known c)) .before .loop in
+    let a = start (turn (read (known c)) .before) .args in
+    let below = turn (read (known c)) .loop-test .taken in
+    let r = read (known c) .action .result in
+    let reads = read (known c) .action .ensures in
+    let next = known c .before .w .given .1 in
     let laid = c .before .before .before .lay .ensures in
-    let turn =
+    let on =
     acting-turn (sizes (a .buffers) (a .types .now)) (a .variables) (a .image .now) (a .rule .now) 0 (a .n) (a .m) (l .rule) (l .i) (l .least) (l .at)
     below (search needs) (l .inv .3) (r .walk) (r .words) (reads .0) _ _ next laid (search needs) (search needs) in (
       search needs,
       reads .1 _ next,
       search needs,
       ap (take 88) laid ∙ sets-take 88 (l .rule) (88 + 11 * l .i) (r .words) (omega arith) ∙ l .inv .3,
-      turn ∙ l .inv .4,
+      on ∙ l .inv .4,
     )
 
 same-length-2 : tie.Need-same-length-2 Inv-loop μ-loop
@@ -93,7 +111,7 @@ same-length-2 c = search needs
 returns-2 : tie.Need-returns-2 Inv-loop μ-loop
 returns-2 c =
     let l = c .before .loop in
-    let a = c .before .before .before .before .before .args in
+    let a = start (c .before) .args in
     let end =
     acting-end (sizes (a .buffers) (a .types .now)) (a .variables) (a .image .now) (a .rule .now) 0 (a .n) (a .m) (l .rule) (l .i) (l .least) (l .at) (omega arith) in
     (end ∙ l .inv .4, (next-within _ (l .at) _ refl (l .inv .1), l .inv .3))
