@@ -24,18 +24,22 @@ no-deed-requires c κs = search needs
 
 returns : tie.Need-returns
 returns c =
-    let r = c .deed-for .result in
-    let t = c .before .before .before .before .type-at .result in
-    let a = c .before .before .before .before .before .before .before .args in (
-      (λ buffers ts b. request-says (sizes buffers (a .types .now)) (a .variables) ts b (a .image .now) (a .p) (t .walk) (t .value) (c .before .before .before .before .type-at .ensures .0) r _ (c .before .before .w .given .1) (c .deed-for .ensures .1 .1) (c .deed-for .ensures .0)),
-      c .deed-for .ensures .1 .0,
+    let d = c .deed-for in
+    let k = c .before .before .before .before in
+    let t = k .type-at in
+    let a = k .before .before .before .args in (
+      (λ buffers ts b. request-says (sizes buffers (a .types .now)) (a .variables) ts b (a .image .now) (a .p) (t .result .walk) (t .result .value) (t .ensures .0)
+          (d .result) _ (c .before .before .w .given .1) (d .ensures .1 .1) (d .ensures .0)),
+      d .ensures .1 .0,
     )
 
 returns-2 : tie.Need-returns-2
 returns-2 c =
-    let t = c .before .before .before .before .type-at .result in
-    let a = c .before .before .before .before .before .before .before .args in (
-      (λ buffers ts b. answer-bad _ _ _ _ (c .no-deed .ensures) ∙ request-bad (sizes buffers (a .types .now)) (a .variables) ts b (a .image .now) (a .p) (t .walk) (t .value) (c .before .before .before .before .type-at .ensures .0) _ _ (c .before .before .w2 .given .1)),
+    let k = c .before .before .before .before in
+    let t = k .type-at in
+    let a = k .before .before .before .args in (
+      (λ buffers ts b. answer-bad _ _ _ _ (c .no-deed .ensures)
+          ∙ request-bad (sizes buffers (a .types .now)) (a .variables) ts b (a .image .now) (a .p) (t .result .walk) (t .result .value) (t .ensures .0) _ _ (c .before .before .w2 .given .1)),
       bad-within _ _ _ _ (c .no-deed .ensures),
     )
 
