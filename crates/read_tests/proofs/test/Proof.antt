@@ -4,15 +4,43 @@ use mathlib.Core.Path.{_≡_, sym, ap, ap₂, subst, _∙_}
 use mathlib.Core.List.{List}
 use native.Mathlib.Omega.{arith}
 use lib.ListN.{length}
+use Rattle.meaning.specs.Numbers.{bad-buffer, bad-number}
 use Rattle.meaning.specs.Model.{Test}
+use Rattle.meaning.specs.Read.{Got, field, must}
+use Rattle.meaning.specs.Image.{aType}
 use Rattle.layout.specs.declared.Walk.{Walk}
-use Rattle.layout.specs.Walks.{answer, Within}
+use Rattle.layout.specs.Walks.{answer, inRange, Within}
 use Rattle.layout.specs.Rows.{namedBy, testIn}
 use Rattle.layout.proofs.WalkLaws.{answer-bad, answer-next, bad-within}
 use Rattle.read_tests.proofs.TestLaws.{range-below, test-first, test-second, test-on, test-row}
 use borrow.Author.Needs.{needs}
 use Rattle.read_tests.proofs.test.Statement.{statement}
 use Rattle.read_tests.proofs.test.Tie as tie
+
+-- ---- the places of the code, each named once
+
+abbrev start : tie.After-ranged → tie.Start
+start c = c .before .before .before
+
+abbrev judged : tie.After-known-told → tie.After-ranged
+judged c = c .before .before .before
+
+abbrev typed : tie.After-known-told3 → tie.After-type-at
+typed c = c .before .before .before
+
+-- ---- the buffer and the type that were read
+
+read-buffer : (c : tie.After-known-told)
+    → let a = start (judged c) .args in
+    Got (judged c .ranged .result .value) (c .before .after-buffer .given .0 .0) ≡ field 3 (must bad-buffer (inRange (a .least) (a .buffers))) (a .image .now) (a .p)
+read-buffer c = let r = judged c .ranged in sym (answer-next _ (r .result .value) _ (c .before .after-buffer .given .1)) ∙ r .ensures .0
+
+read-type : (c : tie.After-known-told3)
+    → let k = typed c .before in let a = start (judged k) .args in
+    Got (typed c .type-at .result .value) (c .before .after-type .given .0 .0) ≡ field 6 (must bad-number (aType (a .types .now) 0)) (a .image .now) (k .before .after-buffer .given .0 .0)
+read-type c = let t = typed c .type-at in sym (answer-next _ (t .result .value) _ (c .before .after-type .given .1)) ∙ t .ensures .0
+
+-- ---- what is asked
 
 ranged-requires : tie.Need-ranged-requires
 ranged-requires c κs = search needs
@@ -28,13 +56,15 @@ no-row-requires c κs = search needs
 
 returns : tie.Need-returns
 returns c =
-    let a = c .before .before .before .before .before .before .before .args in (
-      answer-bad _ _ _ _ (c .no-row .ensures) ∙ test-first (a .buffers) (a .types .now) (a .variables) (a .least) (a .image .now) (a .p) _ _ (sym (answer-bad _ (c .before .before .before .before .ranged .result .value) _ _ (c .before .before .after-buffer2 .given .1)) ∙ c .before .before .before .before .ranged .ensures .0),
+    let r = c .before .before .before .before in
+    let a = start r .args in
+    let bad = sym (answer-bad _ (r .ranged .result .value) _ _ (c .before .before .after-buffer2 .given .1)) ∙ r .ranged .ensures .0 in (
+      answer-bad _ _ _ _ (c .no-row .ensures) ∙ test-first (a .buffers) (a .types .now) (a .variables) (a .least) (a .image .now) (a .p) _ _ bad,
       bad-within _ _ _ _ (c .no-row .ensures),
     )
 
 type-at-requires : tie.Need-type-at-requires
-type-at-requires c κs = (search needs, c .before .before .before .ranged .ensures .1 _ (c .before .after-buffer .given .1), search needs, search needs)
+type-at-requires c κs = (search needs, judged c .ranged .ensures .1 _ (c .before .after-buffer .given .1), search needs, search needs)
 
 enum-known-after-type : tie.Need-enum-known-after-type
 enum-known-after-type c = search needs
@@ -47,9 +77,10 @@ no-row-requires-2 c κs = search needs
 
 returns-2 : tie.Need-returns-2
 returns-2 c =
-    let a = c .before .before .before .before .before .before .before .before .before .before .before .args in
-    let e₁ = sym (answer-next _ (c .before .before .before .before .before .before .before .before .ranged .result .value) _ (c .before .before .before .before .before .before .after-buffer .given .1)) ∙ c .before .before .before .before .before .before .before .before .ranged .ensures .0 in (
-      answer-bad _ _ _ _ (c .no-row2 .ensures) ∙ test-second (a .buffers) (a .types .now) (a .variables) (a .least) (a .image .now) (a .p) _ _ e₁ _ _ (sym (answer-bad _ (c .before .before .before .before .type-at .result .value) _ _ (c .before .before .after-type2 .given .1)) ∙ c .before .before .before .before .type-at .ensures .0),
+    let t = c .before .before .before .before in
+    let a = start (judged (t .before)) .args in
+    let bad = sym (answer-bad _ (t .type-at .result .value) _ _ (c .before .before .after-type2 .given .1)) ∙ t .type-at .ensures .0 in (
+      answer-bad _ _ _ _ (c .no-row2 .ensures) ∙ test-second (a .buffers) (a .types .now) (a .variables) (a .least) (a .image .now) (a .p) _ _ (read-buffer (t .before)) _ _ bad,
       bad-within _ _ _ _ (c .no-row2 .ensures),
     )
 
@@ -61,28 +92,29 @@ mul-masked c = search needs
 
 shared-slice-read-masked : tie.Need-shared-slice-read-masked
 shared-slice-read-masked c =
-    let a = c .before .before .before .before .before .before .before .before .before .before .before .before .args in
-    let h = range-below 6 2 0 (length (a .types .now)) (a .image .now) _ _ _ (sym (answer-next _ (c .before .before .before .before .before .type-at .result .value) _ (c .before .before .before .after-type .given .1)) ∙ c .before .before .before .before .before .type-at .ensures .0) in
-    omega (arith, h)
+    let k = c .before .before in
+    let a = start (judged (typed k .before)) .args in
+    omega (arith, range-below 6 2 0 (length (a .types .now)) (a .image .now) _ _ _ (read-type k))
 
 masked-requires : tie.Need-masked-requires
-masked-requires c κs = (search needs, c .before .before .before .before .before .type-at .ensures .1 _ (c .before .before .before .after-type .given .1), search needs)
+masked-requires c κs = let k = c .before .before in (search needs, typed k .type-at .ensures .1 _ (k .before .after-type .given .1), search needs)
 
 row-requires : tie.Need-row-requires
 row-requires c κs = search needs
 
 returns-3 : tie.Need-returns-3
 returns-3 c =
-    let a = c .before .before .before .before .before .before .before .before .before .before .before .before .before .before .before .args in
-    let e₁ = sym (answer-next _ (c .before .before .before .before .before .before .before .before .before .before .before .before .ranged .result .value) _ (c .before .before .before .before .before .before .before .before .before .before .after-buffer .given .1)) ∙ c .before .before .before .before .before .before .before .before .before .before .before .before .ranged .ensures .0 in
-    let e₂ = sym (answer-next _ (c .before .before .before .before .before .before .before .before .type-at .result .value) _ (c .before .before .before .before .before .before .after-type .given .1)) ∙ c .before .before .before .before .before .before .before .before .type-at .ensures .0 in
-    let b = c .before .before .before .before .before .before .before .before .before .before .before .before .ranged .result .value in
-    let k = c .before .before .before .before .before .before .before .before .type-at .result .value in
-    let r = c .before .before .masked .result in
-    let h : b < 8 = omega (arith, range-below 3 2 (a .least) (a .buffers) (a .image .now) (a .p) _ _ e₁, c .before .before .before .before .before .before .before .before .before .before .before .before .before .before .before .pre .2) in (
-      ap₂ (λ (w : Walk) (l : List ℕ). answer w (testIn l 0)) (c .row .ensures .0) (c .row .ensures .1) ∙ ap (λ (t : Test). answer (r .walk) t) (test-row b k (r .mask) (r .slots) h)
-          ∙ test-on (a .buffers) (a .types .now) (a .variables) (a .least) (a .image .now) (a .p) b _ e₁ k _ e₂ (r .walk) (namedBy (r .mask) (r .slots)) (c .before .before .masked .ensures .0),
-      subst (λ (w : Walk). Within w (8 * length (a .image .now))) (sym (c .row .ensures .0)) (c .before .before .masked .ensures .1),
+    let m = c .before .before .masked in
+    let k = c .before .before .before .before .before in
+    let d = typed k .before in
+    let a = start (judged d) .args in
+    let b = judged d .ranged .result .value in
+    let isa = typed k .type-at .result .value in
+    let r = m .result in
+    let h : b < 8 = omega (arith, range-below 3 2 (a .least) (a .buffers) (a .image .now) (a .p) _ _ (read-buffer d), start (judged d) .pre .2) in (
+      ap₂ (λ (w : Walk) (l : List ℕ). answer w (testIn l 0)) (c .row .ensures .0) (c .row .ensures .1) ∙ ap (λ (t : Test). answer (r .walk) t) (test-row b isa (r .mask) (r .slots) h)
+          ∙ test-on (a .buffers) (a .types .now) (a .variables) (a .least) (a .image .now) (a .p) b _ (read-buffer d) isa _ (read-type k) (r .walk) (namedBy (r .mask) (r .slots)) (m .ensures .0),
+      subst (λ (w : Walk). Within w (8 * length (a .image .now))) (sym (c .row .ensures .0)) (m .ensures .1),
     )
 
 pub test-spec : {M : Type 1} → statement M

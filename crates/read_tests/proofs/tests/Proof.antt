@@ -24,6 +24,19 @@ Inv-loop image p n buffers types variables words₀ o at₀ least₀ i₀ words 
 abbrev μ-loop : tie.MeasureT-loop
 μ-loop image p n buffers types variables words₀ o at₀ least₀ i₀ words at least i = n - i
 
+-- ---- the places of the code, each named once
+
+abbrev start : tie.At-loop Inv-loop μ-loop → tie.Start Inv-loop μ-loop
+start c = c .before .before .before .before
+
+abbrev read : tie.After-known-told Inv-loop μ-loop → tie.After-test Inv-loop μ-loop
+read c = c .before .before .before
+
+abbrev known : tie.After-ws Inv-loop μ-loop → tie.After-known-told Inv-loop μ-loop
+known c = c .before .before .before .before .before
+
+-- ---- what is asked
+
 loop-holds : tie.Need-loop-holds Inv-loop μ-loop
 unfolding rowsIn
 loop-holds c =
@@ -45,15 +58,13 @@ same-length c = search needs
 
 returns : tie.Need-returns Inv-loop μ-loop
 returns c =
-    let l = c .before .before .before .before .before .loop in
-    let a = c .before .before .before .before .before .before .before .before .before .args in
-    let f = test (sizes (a .buffers) (a .types .now)) (a .variables) in (
-      onward-bad f (λ t. t .buffer) (a .image .now) (a .n) _ (l .i) (l .least) (l .at) (c .before .before .before .before .loop-test .taken) _ _
-          (sym (answer-bad _ (testIn (c .before .before .before .test .result .words) 0) _ _ (c .before .walk2 .given .1)) ∙ c .before .before .before .test .ensures .0) ∙ l .inv .4,
-      (
-        bad-within _ _ _ _ refl,
-        l .inv .3,
-      ),
+    let d = c .before .before .before in
+    let l = d .before .before .loop in
+    let a = start (d .before .before) .args in
+    let f = test (sizes (a .buffers) (a .types .now)) (a .variables) in
+    let bad = sym (answer-bad _ (testIn (d .test .result .words) 0) _ _ (c .before .walk2 .given .1)) ∙ d .test .ensures .0 in (
+      onward-bad f (λ t. t .buffer) (a .image .now) (a .n) _ (l .i) (l .least) (l .at) (d .before .loop-test .taken) _ _ bad ∙ l .inv .4,
+      (bad-within _ _ _ _ refl, l .inv .3),
     )
 
 mul-lay : tie.Need-mul-lay Inv-loop μ-loop
@@ -79,21 +90,25 @@ loop-less c = search needs
 
 loop-again : tie.Need-loop-again Inv-loop μ-loop
 loop-again c =
-    let l = c .before .before .before .before .before .before .before .before .before .before .loop in
-    let a = c .before .before .before .before .before .before .before .before .before .before .before .before .before .before .args in
+    let l = read (known c) .before .before .loop in
+    let a = start (read (known c) .before .before) .args in
     let f = test (sizes (a .buffers) (a .types .now)) (a .variables) in
-    let r = c .before .before .before .before .before .before .before .before .test .result in
+    let r = read (known c) .test .result in
+    let reads = read (known c) .test .ensures in
     let m : length (r .words) ≡ 11 = search needs in
     let k : a .o + 11 * l .i + 11 ≤ length (l .words) = search needs in
     let e = c .before .before .before .lay .ensures in
-    let next = c .before .before .before .before .before .before .walk .given .1 in
-    let q = c .before .before .before .before .before .before .walk .given .0 .0 in (
+    let next = known c .before .walk .given .1 in
+    let q = known c .before .walk .given .0 .0 in
+    let more = ap (λ (ws : List ℕ). testsIn ws (a .o) (l .i + 1)) e ∙ in-more testIn test-like (l .words) (a .o) (l .i) (r .words) m k in
+    let got = sym (answer-next _ (testIn (r .words) 0) _ next) ∙ reads .0 in (
       search needs,
-      c .before .before .before .before .before .before .before .before .test .ensures .1 _ next,
+      reads .1 _ next,
       search needs,
       ap (take (a .o)) e ∙ sets-take (a .o) (l .words) (a .o + 11 * l .i) (r .words) (omega arith) ∙ l .inv .3,
-      ap (λ (ts : List Test). onward f (λ t. t .buffer) (a .image .now) (a .n) ts (l .i + 1) (testIn (r .words) 0 .buffer + 1) q) (ap (λ (ws : List ℕ). testsIn ws (a .o) (l .i + 1)) e ∙ in-more testIn test-like (l .words) (a .o) (l .i) (r .words) m k)
-          ∙ onward-turn f (λ t. t .buffer) (a .image .now) (a .n) (testsIn (l .words) (a .o) (l .i)) (l .i) (l .least) (l .at) (c .before .before .before .before .before .before .before .before .before .loop-test .taken) (testIn (r .words) 0) _ (sym (answer-next _ (testIn (r .words) 0) _ next) ∙ c .before .before .before .before .before .before .before .before .test .ensures .0) ∙ l .inv .4,
+      ap (λ (ts : List Test). onward f (λ t. t .buffer) (a .image .now) (a .n) ts (l .i + 1) (testIn (r .words) 0 .buffer + 1) q) more
+          ∙ onward-turn f (λ t. t .buffer) (a .image .now) (a .n) (testsIn (l .words) (a .o) (l .i)) (l .i) (l .least) (l .at) (read (known c) .before .loop-test .taken) (testIn (r .words) 0) _ got
+          ∙ l .inv .4,
     )
 
 same-length-2 : tie.Need-same-length-2 Inv-loop μ-loop
@@ -102,14 +117,12 @@ same-length-2 c = search needs
 returns-2 : tie.Need-returns-2 Inv-loop μ-loop
 returns-2 c =
     let l = c .before .loop in
-    let a = c .before .before .before .before .before .args in
+    let a = start (c .before) .args in
     let f = test (sizes (a .buffers) (a .types .now)) (a .variables) in
     let e : l .i ≡ a .n = omega arith in (
-      ap (λ (j : ℕ). Got (testsIn (l .words) (a .o) j) (l .at)) (sym e) ∙ onward-end f (λ t. t .buffer) (a .image .now) (a .n) (testsIn (l .words) (a .o) (l .i)) (l .i) (l .least) (l .at) (omega arith) ∙ l .inv .4,
-      (
-        next-within _ (l .at) _ refl (l .inv .1),
-        l .inv .3,
-      ),
+      ap (λ (j : ℕ). Got (testsIn (l .words) (a .o) j) (l .at)) (sym e)
+          ∙ onward-end f (λ t. t .buffer) (a .image .now) (a .n) (testsIn (l .words) (a .o) (l .i)) (l .i) (l .least) (l .at) (omega arith) ∙ l .inv .4,
+      (next-within _ (l .at) _ refl (l .inv .1), l .inv .3),
     )
 
 pub tests-spec : {M : Type 1} → statement M
