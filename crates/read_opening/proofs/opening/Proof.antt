@@ -17,10 +17,16 @@ use Rattle.read_opening.proofs.opening.Statement.{statement}
 use Rattle.read_opening.proofs.opening.Tie as tie
 
 abbrev Inv-loop : tie.InvT-loop
-Inv-loop image p types n st₀ at₀ i₀ st at i = (i ≤ n) × (at ≤ 8 * length image) × (st .clock ≡ 0) × (stored opens stateOf (chunk types 0) image (st .buffers) i (n - i) at ≡ mapped (openingState n) (times n (chunk types 0) image p))
+Inv-loop image p types n st₀ at₀ i₀ st at i =
+    (i ≤ n) × (at ≤ 8 * length image) × (st .clock ≡ 0)
+    × (stored opens stateOf (chunk types 0) image (st .buffers) i (n - i) at ≡ mapped (openingState n) (times n (chunk types 0) image p))
 
 abbrev μ-loop : tie.MeasureT-loop
 μ-loop image p types n st₀ at₀ i₀ st at i = n - i
+
+-- where the code begins, from the loop on
+abbrev start : tie.At-loop Inv-loop μ-loop → tie.Start Inv-loop μ-loop
+start c = c .before .before .before .before
 
 zero-state-requires : tie.Need-zero-state-requires Inv-loop μ-loop
 zero-state-requires c κs = search needs
@@ -29,10 +35,11 @@ loop-holds : tie.Need-loop-holds Inv-loop μ-loop
 loop-holds c =
     let a = c .before .before .before .args in
     let z = c .zero-state .ensures in
-    (search needs, search needs, ap (λ (s : State). s .clock) z, rw z (stored-start opens stateOf (chunk (a .types .now) 0) (a .image .now) _ 0 (a .n) (a .p) (openingState (a .n)) (opening-fresh (a .n) (search needs))))
+    let fresh = opening-fresh (a .n) (search needs) in
+    (search needs, search needs, ap (λ (s : State). s .clock) z, rw z (stored-start opens stateOf (chunk (a .types .now) 0) (a .image .now) _ 0 (a .n) (a .p) (openingState (a .n)) fresh))
 
 chunk-requires : tie.Need-chunk-requires Inv-loop μ-loop
-chunk-requires c κs = (search needs, search needs, c .before .before .before .before .before .pre .2, search needs, search needs)
+chunk-requires c κs = (search needs, search needs, start (c .before) .pre .2, search needs, search needs)
 
 enum-known-w : tie.Need-enum-known-w Inv-loop μ-loop
 enum-known-w c = search needs
@@ -42,9 +49,11 @@ enum-known-w-2 c = search needs
 
 returns : tie.Need-returns Inv-loop μ-loop
 returns c =
-    let l = c .before .before .before .before .before .loop in
-    let a = c .before .before .before .before .before .before .before .before .before .args in (
-      stored-bad opens stateOf (chunk (a .types .now) 0) (a .image .now) (l .st .buffers) (l .i) (a .n) (l .i) (l .at) (c .before .before .before .before .loop-test .taken) _ _ (sym (answer-bad _ _ _ _ (c .before .w2 .given .1)) ∙ c .before .before .before .chunk .ensures .0) ∙ l .inv .3,
+    let d = c .before .before .before in
+    let l = d .before .before .loop in
+    let a = start (d .before .before) .args in
+    let bad = sym (answer-bad _ _ _ _ (c .before .w2 .given .1)) ∙ d .chunk .ensures .0 in (
+      stored-bad opens stateOf (chunk (a .types .now) 0) (a .image .now) (l .st .buffers) (l .i) (a .n) (l .i) (l .at) (d .before .loop-test .taken) _ _ bad ∙ l .inv .3,
       bad-within _ _ _ _ refl,
     )
 
@@ -68,19 +77,24 @@ loop-less c = search needs
 
 loop-again : tie.Need-loop-again Inv-loop μ-loop
 loop-again c =
-    let l = c .before .before .before .before .before .before .loop in
-    let a = c .before .before .before .before .before .before .before .before .before .before .args in (
+    let d = c .before .before .before .before in
+    let l = d .before .before .loop in
+    let a = start (d .before .before) .args in
+    let one = aChunk (d .chunk .result .isa) (d .chunk .result .slots) in
+    let next = c .before .before .w .given .1 in
+    let got = sym (answer-next _ one _ next) ∙ d .chunk .ensures .0 in (
       search needs,
-      c .before .before .before .before .chunk .ensures .1 _ (c .before .before .w .given .1),
+      d .chunk .ensures .1 _ next,
       l .inv .2,
-      stored-turn opens stateOf (chunk (a .types .now) 0) (a .image .now) (l .st .buffers) (l .i) (a .n) (l .i) (l .at) (c .before .before .before .before .before .loop-test .taken) (aChunk (c .before .before .before .before .chunk .result .isa) (c .before .before .before .before .chunk .result .slots)) _ _ (c .opens .ensures) (sym (answer-next _ (aChunk (c .before .before .before .before .chunk .result .isa) (c .before .before .before .before .chunk .result .slots)) _ (c .before .before .w .given .1)) ∙ c .before .before .before .before .chunk .ensures .0) ∙ l .inv .3,
+      stored-turn opens stateOf (chunk (a .types .now) 0) (a .image .now) (l .st .buffers) (l .i) (a .n) (l .i) (l .at) (d .before .loop-test .taken) one _ _ (c .opens .ensures) got ∙ l .inv .3,
     )
 
 returns-2 : tie.Need-returns-2 Inv-loop μ-loop
 returns-2 c =
     let l = c .before .loop in
-    let a = c .before .before .before .before .before .args in (
-      ap (λ (t : ℕ). Got (stateAt (l .st .buffers) t) (l .at)) (l .inv .2) ∙ stored-end opens stateOf (chunk (a .types .now) 0) (a .image .now) (l .st .buffers) (l .i) (a .n) (l .i) (l .at) (c .loop-test .left) ∙ l .inv .3,
+    let a = start (c .before) .args in (
+      ap (λ (t : ℕ). Got (stateAt (l .st .buffers) t) (l .at)) (l .inv .2)
+          ∙ stored-end opens stateOf (chunk (a .types .now) 0) (a .image .now) (l .st .buffers) (l .i) (a .n) (l .i) (l .at) (c .loop-test .left) ∙ l .inv .3,
       next-within _ (l .at) _ refl (l .inv .1),
     )
 
