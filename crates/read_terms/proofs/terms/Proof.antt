@@ -25,13 +25,22 @@ Inv-loop image p mask variables xs₀ at₀ b₀ left₀ xs at b left = (b ≤ 8
 abbrev μ-loop : tie.MeasureT-loop
 μ-loop image p mask variables xs₀ at₀ b₀ left₀ xs at b left = 8 - b
 
+-- ---- the places of the code, each named once
+
+abbrev start : tie.At-loop Inv-loop μ-loop → tie.Start Inv-loop μ-loop
+start c = c .before .before
+
+abbrev turn : tie.After-field-at Inv-loop μ-loop → tie.In-loop Inv-loop μ-loop
+turn c = c .before .before
+
+abbrev fetched : tie.After-known-told Inv-loop μ-loop → tie.After-field-at Inv-loop μ-loop
+fetched c = c .before .before .before
+
 -- where a term is left, the slot is one of eight
 in-slot : (c : tie.In-loop Inv-loop μ-loop) → c .before .loop .b < 8
 in-slot c =
-    let args = c .before .before .before .args in
     let l = c .before .loop in
-    let m = args .mask in
-    rest-some m (l .b) (omega (arith, l .inv .3, c .loop-test .taken))
+    rest-some (start (c .before) .args .mask) (l .b) (omega (arith, l .inv .3, c .loop-test .taken))
 
 loop-holds : tie.Need-loop-holds Inv-loop μ-loop
 loop-holds c = let a = c .before .args in
@@ -57,13 +66,11 @@ enum-told c = search needs
 
 returns : tie.Need-returns Inv-loop μ-loop
 returns c =
-    let if1 = c .before .before .before .if1 in
-    let field-at = c .before .before .field-at in
-    let l = c .before .before .before .before .before .loop in
-    let a = c .before .before .before .before .before .before .before .args in
-    let h = in-slot (c .before .before .before .before) in (
-      on-bad (a .mask) (a .variables) (a .image .now) (l .xs) (l .xs) (l .b) (l .at) (l .at) h (names-on (a .mask) (l .b) (if1 .taken)) _ _
-          (read-short (a .image .now) 13 (l .at) (must bad-variable (aTerm (a .variables))) (rw (c .enum-told .given .1) at (field-at .ensures))) ∙ l .inv .4,
+    let d = c .before .before in
+    let l = turn d .before .loop in
+    let a = start (turn d .before) .args in (
+      on-bad (a .mask) (a .variables) (a .image .now) (l .xs) (l .xs) (l .b) (l .at) (l .at) (in-slot (turn d)) (names-on (a .mask) (l .b) (d .before .if1 .taken)) _ _
+          (read-short (a .image .now) 13 (l .at) (must bad-variable (aTerm (a .variables))) (rw (c .enum-told .given .1) at (d .field-at .ensures))) ∙ l .inv .4,
       bad-within _ _ _ _ refl,
     )
 
@@ -72,22 +79,20 @@ add-if2 c = search needs
 
 returns-2 : tie.Need-returns-2 Inv-loop μ-loop
 returns-2 c =
-    let if1 = c .before .before .before .before .before .if1 in
-    let field-at = c .before .before .before .before .field-at in
-    let t = c .before .before .t in
-    let l = c .before .before .before .before .before .before .before .loop in
-    let a = c .before .before .before .before .before .before .before .before .before .args in
-    let h = in-slot (c .before .before .before .before .before .before) in (
-      on-bad (a .mask) (a .variables) (a .image .now) (l .xs) (l .xs) (l .b) (l .at) (l .at) h (names-on (a .mask) (l .b) (if1 .taken)) _ _
-          (read-broken (a .image .now) 13 (l .at) (must bad-variable (aTerm (a .variables))) _ 2 (rw (t .given .1) at (field-at .ensures)) (term-big (a .variables) _ (c .if2 .taken))) ∙ l .inv .4,
+    let d = c .before .before .before .before in
+    let e = rw (c .before .before .t .given .1) at (d .field-at .ensures) in
+    let l = turn d .before .loop in
+    let a = start (turn d .before) .args in (
+      on-bad (a .mask) (a .variables) (a .image .now) (l .xs) (l .xs) (l .b) (l .at) (l .at) (in-slot (turn d)) (names-on (a .mask) (l .b) (d .before .if1 .taken)) _ _
+          (read-broken (a .image .now) 13 (l .at) (must bad-variable (aTerm (a .variables))) _ 2 e (term-big (a .variables) _ (c .if2 .taken))) ∙ l .inv .4,
       bad-within _ _ _ _ refl,
     )
 
 mul-xs : tie.Need-mul-xs Inv-loop μ-loop
-mul-xs c = let h = in-slot (c .before .before .before .before .before .before) in search needs
+mul-xs c = let h = in-slot (turn (fetched (c .before))) in search needs
 
 array-write-xs : tie.Need-array-write-xs Inv-loop μ-loop
-array-write-xs c = let h = in-slot (c .before .before .before .before .before .before) in search needs
+array-write-xs c = let h = in-slot (turn (fetched (c .before))) in search needs
 
 add-at : tie.Need-add-at Inv-loop μ-loop
 add-at c = search needs
@@ -104,7 +109,7 @@ loop-less c = let h = in-slot (c .before) in omega arith
 loop-again : tie.Need-loop-again Inv-loop μ-loop
 loop-again c =
     let l = c .before .before .loop in
-    let a = c .before .before .before .before .args in
+    let a = start (c .before .before) .args in
     let h = in-slot (c .before) in
     ⊎-elim
     (λ w.
@@ -132,7 +137,7 @@ loop-again c =
 returns-3 : tie.Need-returns-3 Inv-loop μ-loop
 returns-3 c =
     let l = c .before .loop in
-    let a = c .before .before .before .args in (
+    let a = start (c .before) .args in (
       on-end (a .mask) (a .variables) (a .image .now) (l .xs) (l .b) (l .at) (l .inv .0) (none-left (rest (a .mask) (l .b)) (omega (arith, l .inv .3))) ∙ l .inv .4,
       next-within _ (l .at) _ refl (l .inv .1),
     )
