@@ -1,10 +1,29 @@
 -- `read_facts::chunk` meets its contract: the type is read first, and then as many values as it has slots.
-use mathlib.Core.Path.{refl, sym, _∙_}
+use mathlib.Core.Path.{_≡_, refl, sym, _∙_}
+use Rattle.meaning.specs.Numbers.{bad-number}
+use Rattle.meaning.specs.Read.{Got, field, must}
+use Rattle.meaning.specs.Image.{aType}
 use Rattle.layout.proofs.WalkLaws.{answer-bad, answer-next, bad-within}
 use Rattle.read_facts.proofs.FactLaws.{type-there, chunk-bad, chunk-on}
 use borrow.Author.Needs.{needs}
 use Rattle.read_facts.proofs.chunk.Statement.{statement}
 use Rattle.read_facts.proofs.chunk.Tie as tie
+
+-- ---- the places of the code, each named once
+
+abbrev start : tie.After-type-at → tie.Start
+start c = c .before .before .before
+
+abbrev typed : tie.After-known-told → tie.After-type-at
+typed c = c .before .before .before
+
+-- the type that was read
+read-type : (c : tie.After-known-told)
+    → let a = start (typed c) .args in
+    Got (typed c .type-at .result .value) (c .before .w .given .0 .0) ≡ field 6 (must bad-number (aType (a .types .now) (a .least))) (a .image .now) (a .p)
+read-type c = sym (answer-next _ _ _ (c .before .w .given .1)) ∙ typed c .type-at .ensures .0
+
+-- ---- what is asked
 
 type-at-requires : tie.Need-type-at-requires
 type-at-requires c κs = search needs
@@ -20,28 +39,29 @@ mul-values c = search needs
 
 shared-slice-read-values : tie.Need-shared-slice-read-values
 shared-slice-read-values c =
-    let a = c .before .before .before .before .before .before .before .before .args in
-    type-there (a .types .now) (a .least) (a .image .now) (a .p) _ _ (sym (answer-next _ _ _ (c .before .before .before .w .given .1)) ∙ c .before .before .before .before .before .type-at .ensures .0)
+    let k = c .before .before in
+    let a = start (typed k) .args in
+    type-there (a .types .now) (a .least) (a .image .now) (a .p) _ _ (read-type k)
 
 values-requires : tie.Need-values-requires
-values-requires c κs = (search needs, c .before .before .before .before .before .type-at .ensures .1 _ (c .before .before .before .w .given .1), c .before .before .before .before .before .before .before .before .pre .2 _)
+values-requires c κs = let k = c .before .before in (search needs, typed k .type-at .ensures .1 _ (k .before .w .given .1), start (typed k) .pre .2 _)
 
 enum-known-w-2 : tie.Need-enum-known-w-2
 enum-known-w-2 c = search needs
 
 returns : tie.Need-returns
 returns c =
-    let a = c .before .before .before .before .before .before .before .before .before .before .args in (
-      chunk-on (a .types .now) (a .least) (a .image .now) (a .p) _ _ (c .before .values .result .walk) (c .before .values .result .slots) (sym (answer-next _ _ _ (c .before .before .before .before .before .w .given .1)) ∙ c .before .before .before .before .before .before .before .type-at .ensures .0) (c .before .values .ensures .0),
-      c .before .values .ensures .1,
-    )
+    let v = c .before .values in
+    let k = c .before .before .before .before in
+    let a = start (typed k) .args in
+    (chunk-on (a .types .now) (a .least) (a .image .now) (a .p) _ _ (v .result .walk) (v .result .slots) (read-type k) (v .ensures .0), v .ensures .1)
 
 returns-2 : tie.Need-returns-2
 returns-2 c =
-    let a = c .before .before .before .before .before .before .args in (
-      chunk-bad (a .types .now) (a .least) (a .image .now) (a .p) _ _ (sym (answer-bad _ _ _ _ (c .before .w2 .given .1)) ∙ c .before .before .before .type-at .ensures .0),
-      bad-within _ _ _ _ refl,
-    )
+    let t = c .before .before .before in
+    let a = start t .args in
+    let bad = sym (answer-bad _ _ _ _ (c .before .w2 .given .1)) ∙ t .type-at .ensures .0 in
+    (chunk-bad (a .types .now) (a .least) (a .image .now) (a .p) _ _ bad, bad-within _ _ _ _ refl)
 
 pub chunk-spec : {M : Type 1} → statement M
 chunk-spec =

@@ -21,10 +21,15 @@ row-requires c κs = search needs
 
 returns : tie.Need-returns
 returns c =
-    let a = c .before .before .before .before .before .before .args in
-    let k = c .before .before .before .chunk .result in (
-      ap₂ answer (c .row .ensures .0) (c .row .ensures .1) ∙ fact-on (a .types .now) (a .image .now) (a .p) (k .walk) (c .before .before .any-after .result .walk) (c .before .any-after2 .result .walk) (aChunk (k .isa) (k .slots)) _ _ (c .before .before .before .chunk .ensures .0) (c .before .before .any-after .ensures .0) (c .before .any-after2 .ensures .0),
-      (λ q e. c .before .any-after2 .ensures .1 q (sym (c .row .ensures .0) ∙ e)),
+    let d = c .before .before .before in
+    let k = d .chunk in
+    let one = aChunk (k .result .isa) (k .result .slots) in
+    let r₁ = c .before .before .any-after in
+    let r₂ = c .before .any-after2 in
+    let a = d .before .before .before .args in (
+      ap₂ answer (c .row .ensures .0) (c .row .ensures .1)
+          ∙ fact-on (a .types .now) (a .image .now) (a .p) (k .result .walk) (r₁ .result .walk) (r₂ .result .walk) one _ _ (k .ensures .0) (r₁ .ensures .0) (r₂ .ensures .0),
+      (λ q e. r₂ .ensures .1 q (sym (c .row .ensures .0) ∙ e)),
     )
 
 pub fact-spec : {M : Type 1} → statement M
