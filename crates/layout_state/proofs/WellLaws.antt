@@ -49,7 +49,9 @@ module _ (w : List ℕ) (k : ℕ) where
 
       pub well-past : every (λ v. leb v 4095) (stretch w (10 * k + 1) (10 * k + 9)) ≡ true
           → every (λ v. leb v 0) (stretch w (10 * k + 1 + slotCount types (getD w (10 * k) 0)) (10 * k + 9)) ≡ wellBuffer types (bufferIn w k)
-      well-past e = rw (lt-ltb (getD w (10 * k) 0) (length types) h, sym (ap (every (λ v. leb v 4095)) slots-all) ∙ e) (simp most-zero (ap (every (λ v. eqb v 0)) (slots-from (slotCount types (getD w (10 * k) 0)))))
+      well-past e =
+          rw (lt-ltb (getD w (10 * k) 0) (length types) h, sym (ap (every (λ v. leb v 4095)) slots-all) ∙ e)
+          (simp most-zero (ap (every (λ v. eqb v 0)) (slots-from (slotCount types (getD w (10 * k) 0)))))
 
   -- a buffer is nil with delay 0 where its ten words are 0
   ten-words : rowsIn (λ j. getD w j 0) (10 * k) 10 ≡ getD w (10 * k) 0 ∷ (bufferIn w k .slots ++ (getD w (10 * k + 9) 0 ∷ []))

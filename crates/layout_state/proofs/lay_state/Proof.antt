@@ -37,9 +37,11 @@ loop-less c = search needs
 
 loop-again : tie.Need-loop-again Inv-loop μ-loop
 loop-again c =
-    let l = c .before .before .before .before .before .before .loop in
-    let a = c .before .before .before .before .before .before .before .before .args in
-    (search needs, l .inv .1, search needs, lay-more (l .words) _ (l .k) (a .t1 .buffers) (omega (arith, l .inv .1)) (l .inv .3) (c .before .before .lay-buffer .ensures .0) (c .before .before .lay-buffer .ensures .1))
+    let d = c .before .before in
+    let k = d .before .before .before .before in
+    let l = k .loop in
+    let a = k .before .before .args in
+    (search needs, l .inv .1, search needs, lay-more (l .words) _ (l .k) (a .t1 .buffers) (omega (arith, l .inv .1)) (l .inv .3) (d .lay-buffer .ensures .0) (d .lay-buffer .ensures .1))
 
 same-length : tie.Need-same-length Inv-loop μ-loop
 same-length c = search needs

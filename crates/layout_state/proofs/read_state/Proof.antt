@@ -30,7 +30,18 @@ read-buffer-requires-8 c κs = search needs
 
 returns : tie.Need-returns
 unfolding rowsIn
-returns c = rw (c .before .before .before .before .before .before .before .read-buffer .ensures, c .before .before .before .before .before .before .read-buffer2 .ensures, c .before .before .before .before .before .read-buffer3 .ensures, c .before .before .before .before .read-buffer4 .ensures, c .before .before .before .read-buffer5 .ensures, c .before .before .read-buffer6 .ensures, c .before .read-buffer7 .ensures, c .read-buffer8 .ensures)
+returns c =
+    let d = c .before .before .before .before in
+    rw (
+      d .before .before .before .read-buffer .ensures,
+      d .before .before .read-buffer2 .ensures,
+      d .before .read-buffer3 .ensures,
+      d .read-buffer4 .ensures,
+      c .before .before .before .read-buffer5 .ensures,
+      c .before .before .read-buffer6 .ensures,
+      c .before .read-buffer7 .ensures,
+      c .read-buffer8 .ensures,
+    )
 
 pub read-state-spec : {M : Type 1} → statement M
 read-state-spec =

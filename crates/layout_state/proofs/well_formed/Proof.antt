@@ -18,6 +18,10 @@ Inv-loop words types buffers k₀ k = (k ≤ 8) × (every (wellBuffer types) (ro
 abbrev μ-loop : tie.MeasureT-loop
 μ-loop words types buffers k₀ k = 8 - k
 
+-- where the code begins, from the loop on
+abbrev start : tie.At-loop Inv-loop μ-loop → tie.Start Inv-loop μ-loop
+start c = c .before .before .before
+
 loop-holds : tie.Need-loop-holds Inv-loop μ-loop
 loop-holds c = (search needs, refl)
 
@@ -27,8 +31,9 @@ well-buffer-requires c κs = search needs
 returns : tie.Need-returns Inv-loop μ-loop
 returns c =
     let l = c .before .before .before .loop in
-    let a = c .before .before .before .before .before .before .args in
-    well-broken (a .words .now) (a .types .now) (a .buffers) (all-broken (wellBuffer (a .types .now)) (bufferIn (a .words .now)) (l .k) 8 (search needs) (sym (c .before .well-buffer .ensures) ∙ not-true _ (c .if1 .taken)) ∙ l .inv .1)
+    let a = start (c .before .before .before) .args in
+    let no = sym (c .before .well-buffer .ensures) ∙ not-true _ (c .if1 .taken) in
+    well-broken (a .words .now) (a .types .now) (a .buffers) (all-broken (wellBuffer (a .types .now)) (bufferIn (a .words .now)) (l .k) 8 (search needs) no ∙ l .inv .1)
 
 add-k : tie.Need-add-k Inv-loop μ-loop
 add-k c = search needs
@@ -39,8 +44,9 @@ loop-less c = search needs
 loop-again : tie.Need-loop-again Inv-loop μ-loop
 loop-again c =
     let l = c .before .before .before .loop in
-    let a = c .before .before .before .before .before .before .args in
-    (search needs, all-kept (wellBuffer (a .types .now)) (bufferIn (a .words .now)) (l .k) 8 (search needs) (sym (c .before .well-buffer .ensures) ∙ not-false _ (c .if1 .left)) ∙ l .inv .1)
+    let a = start (c .before .before .before) .args in
+    let yes = sym (c .before .well-buffer .ensures) ∙ not-false _ (c .if1 .left) in
+    (search needs, all-kept (wellBuffer (a .types .now)) (bufferIn (a .words .now)) (l .k) 8 (search needs) yes ∙ l .inv .1)
 
 mul-at-most : tie.Need-mul-at-most Inv-loop μ-loop
 mul-at-most c = search needs
@@ -51,7 +57,7 @@ at-most-requires c κs = search needs
 returns-2 : tie.Need-returns-2 Inv-loop μ-loop
 returns-2 c =
     let l = c .before .before .loop in
-    let a = c .before .before .before .before .before .args in
+    let a = start (c .before .before) .args in
     c .at-most .ensures ∙ well-rest (a .words .now) (a .types .now) (a .buffers) (all-done (wellBuffer (a .types .now)) (bufferIn (a .words .now)) (l .k) 8 (search needs) ∙ l .inv .1)
 
 pub well-formed-spec : {M : Type 1} → statement M
