@@ -31,7 +31,10 @@ shared-slice-read-if1-2 : tie.Need-shared-slice-read-if1-2 Inv-loop μ-loop
 shared-slice-read-if1-2 c = search needs
 
 returns : tie.Need-returns Inv-loop μ-loop
-returns c = let l = c .before .before .before .before .loop in let a = c .before .before .before .before .before .args in sym (same-differ (a .nine .now) (a .other .now) (l .i) (search needs) (search needs) (c .if1 .taken))
+returns c =
+    let k = c .before .before .before .before in
+    let a = k .before .args in
+    sym (same-differ (a .nine .now) (a .other .now) (k .loop .i) (search needs) (search needs) (c .if1 .taken))
 
 add-i : tie.Need-add-i Inv-loop μ-loop
 add-i c = search needs
@@ -40,10 +43,18 @@ loop-less : tie.Need-loop-less Inv-loop μ-loop
 loop-less c = search needs
 
 loop-again : tie.Need-loop-again Inv-loop μ-loop
-loop-again c = let l = c .before .before .before .before .loop in (search needs, agree-more (l .i) (c .before .before .before .before .before .args .nine .now) (c .before .before .before .before .before .args .other .now) (c .if1 .left) (l .inv .1))
+loop-again c =
+    let k = c .before .before .before .before in
+    let a = k .before .args in
+    (search needs, agree-more (k .loop .i) (a .nine .now) (a .other .now) (c .if1 .left) (k .loop .inv .1))
 
 returns-2 : tie.Need-returns-2 Inv-loop μ-loop
-returns-2 c = let l = c .before .loop in let a = c .before .before .args in let e : l .i ≡ 9 = omega arith in let q : a .nine .now ≡ a .other .now = agree-all 9 _ _ (search needs) (search needs) (rw e at (l .inv .1)) in sym (ap (same (a .nine .now)) (sym q) ∙ same-refl (a .nine .now))
+returns-2 c =
+    let l = c .before .loop in
+    let a = c .before .before .args in
+    let e : l .i ≡ 9 = omega arith in
+    let q : a .nine .now ≡ a .other .now = agree-all 9 _ _ (search needs) (search needs) (rw e at (l .inv .1)) in
+    sym (ap (same (a .nine .now)) (sym q) ∙ same-refl (a .nine .now))
 
 pub same-entry-spec : {M : Type 1} → statement M
 same-entry-spec =
