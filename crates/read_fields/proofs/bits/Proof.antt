@@ -9,6 +9,10 @@ use borrow.Author.Needs.{needs}
 use Rattle.read_fields.proofs.bits.Statement.{statement}
 use Rattle.read_fields.proofs.bits.Tie as tie
 
+-- where the code begins, once the three bytes are there
+abbrev start : tie.After-byte-or-zero3 → tie.Start
+start c = c .before .before .before .before
+
 byte-or-zero-requires : tie.Need-byte-or-zero-requires
 byte-or-zero-requires c κs = search needs
 
@@ -43,21 +47,21 @@ shl-result : tie.Need-shl-result
 shl-result c = search needs
 
 sub-result-3 : tie.Need-sub-result-3
-sub-result-3 c = let a = c .before .before .before .before .args in omega (arith, pow-pos (a .width), pow-mono {i = a .width} {j = 16} (c .before .before .before .before .pre .0))
+sub-result-3 c = let s = start c in omega (arith, pow-pos (s .args .width), pow-mono {i = s .args .width} {j = 16} (s .pre .0))
 
 -- what is cut out is the field
 is-field : (c : tie.After-byte-or-zero3)
-    → cutOf (c .before .before .before .before .args .at) (c .before .before .before .before .args .width) (c .before .before .byte-or-zero .result) (c .before .byte-or-zero2 .result) (c .byte-or-zero3 .result)
-    ≡ fieldAt (c .before .before .before .before .args .image .now) (c .before .before .before .before .args .at) (c .before .before .before .before .args .width)
+    → let a = start c .args in
+    cutOf (a .at) (a .width) (c .before .before .byte-or-zero .result) (c .before .byte-or-zero2 .result) (c .byte-or-zero3 .result) ≡ fieldAt (a .image .now) (a .at) (a .width)
 is-field c =
-    let a = c .before .before .before .before .args in
-    cut (a .image .now) (a .at) (a .width) (c .before .before .byte-or-zero .result) (c .before .byte-or-zero2 .result) (c .byte-or-zero3 .result) (c .before .before .before .before .pre .0)
+    let a = start c .args in
+    cut (a .image .now) (a .at) (a .width) (c .before .before .byte-or-zero .result) (c .before .byte-or-zero2 .result) (c .byte-or-zero3 .result) (start c .pre .0)
     (c .before .before .byte-or-zero .ensures) (c .before .byte-or-zero2 .ensures) (c .byte-or-zero3 .ensures)
 
 cast-result-3 : tie.Need-cast-result-3
 cast-result-3 c =
-    let a = c .before .before .before .before .args in
-    record { fits = omega (arith, is-field c, fieldAt-lt (a .image .now) (a .at) (a .width), pow-mono {i = a .width} {j = 16} (c .before .before .before .before .pre .0)) }
+    let a = start c .args in
+    record { fits = omega (arith, is-field c, fieldAt-lt (a .image .now) (a .at) (a .width), pow-mono {i = a .width} {j = 16} (start c .pre .0)) }
 
 returns : tie.Need-returns
 returns c = is-field c
