@@ -88,7 +88,9 @@ module _ (w w′ : List ℕ) (o o′ : ℕ) (h : Alike w o w′ o′) where
       (map-upFrom (λ b. getD w (o + 3 + b) 0) (λ b. getD w′ (o′ + 3 + b) 0) 0 8 slot-like))
 
   pub test-like : testIn w o ≡ testIn w′ o′
-  test-like = ap₂ (λ (x : ℕ) (k : ℕ). record { buffer = x % 8; isa = k; named = maskedIn w o }) first-like (h 1 (omega arith)) ∙ ap (λ (l : List Named). record { buffer = getD w′ o′ 0 % 8; isa = getD w′ (o′ + 1) 0; named = l }) masked-like
+  test-like =
+      ap₂ (λ (x : ℕ) (k : ℕ). record { buffer = x % 8; isa = k; named = maskedIn w o }) first-like (h 1 (omega arith))
+      ∙ ap (λ (l : List Named). record { buffer = getD w′ o′ 0 % 8; isa = getD w′ (o′ + 1) 0; named = l }) masked-like
 
   pub action-like : actionIn w o ≡ actionIn w′ o′
   action-like =
@@ -98,7 +100,8 @@ module _ (w w′ : List ℕ) (o o′ : ℕ) (h : Alike w o w′ o′) where
 -- the mask and the terms of a row that stands by itself
 pub masked-row : (x y m : ℕ) (xs : List ℕ) → maskedIn (x ∷ y ∷ m ∷ xs) 0 ≡ namedBy m xs
 masked-row x y m xs =
-    let at : (j : ℕ) → namedIn (x ∷ y ∷ m ∷ xs) 0 j ≡ namedAt xs j = λ j. let g : 0 + 3 + j ≡ suc (suc (suc j)) = omega arith in ap (λ (n : ℕ). record { slot = j; term = wordTerm (getD (x ∷ y ∷ m ∷ xs) n 0) }) g in
+    let row : List ℕ = x ∷ y ∷ m ∷ xs in
+    let at : (j : ℕ) → namedIn row 0 j ≡ namedAt xs j = λ j. let g : 0 + 3 + j ≡ suc (suc (suc j)) = omega arith in ap (λ (n : ℕ). record { slot = j; term = wordTerm (getD row n 0) }) g in
     ap (λ (f : ℕ → Named). map f (slotsIn m)) (fun-ext at)
 
 -- a row that was just written says what it says by itself
