@@ -28,7 +28,9 @@ use Rattle.meaning.specs.Print.{Line, Stepped, End, printed}
 
 -- `unfolding everything` opens each definition of document 01
 unfoldable pub everything : Unit {0}
-unfolding wellFormed fieldAt field times rising header chunk fact slotsIn terms masked head test deed action body rule ending beginning contents model decode places valueIn matches entryOf freshTable candidates choose retrieve put done deedOn change fire soonest wait markOf fireStep step refresh refreshCount accepted tableLength openState openOf runFrom traceOf runOf refreshOf printed
+unfolding wellFormed fieldAt field times rising header chunk fact slotsIn terms masked head test deed action body rule
+    ending beginning contents model decode places valueIn matches entryOf freshTable candidates choose
+    retrieve put done deedOn change fire soonest wait markOf fireStep step refresh refreshCount accepted tableLength openState openOf runFrom traceOf runOf refreshOf printed
 everything = tt
 
 -- P1's image
