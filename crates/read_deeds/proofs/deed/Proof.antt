@@ -1,9 +1,10 @@
 -- `read_deeds::deed` meets its contract: the kind is judged by its value and by the tests, and each kind reads its own.
-use Prim.Native.Nat.{_<_}
-use mathlib.Core.Path.{refl, sym, ap, _∙_}
+use Prim.Native.Nat.{ℕ, _+_, _<_}
+use mathlib.Core.Path.{_≡_, refl, sym, ap, _∙_}
 use native.Mathlib.Omega.{arith}
 use Rattle.read_fields.specs.declared.Field.the-variants.{Value}
-use Rattle.meaning.specs.Image.{kindRule}
+use Rattle.meaning.specs.Read.{Got, field}
+use Rattle.meaning.specs.Image.{anything, kindRule}
 use Rattle.layout.specs.Rows.{sizes}
 use Rattle.layout.proofs.WalkLaws.{answer-bad, bad-within, next-within}
 use Rattle.layout.proofs.FieldReads.{there, read-short, read-kept, read-broken}
@@ -12,6 +13,20 @@ use Rattle.read_deeds.proofs.DeedLaws.{modify-kept, modify-broken, kind
 use borrow.Author.Needs.{needs}
 use Rattle.read_deeds.proofs.deed.Statement.{statement}
 use Rattle.read_deeds.proofs.deed.Tie as tie
+
+-- ---- the places of the code, each named once
+
+abbrev begun : tie.After-field-at → tie.Start
+begun c = c .before .before .before
+
+abbrev start : tie.After-known-told → tie.Start
+start c = begun (c .before .before .before)
+
+-- the kind that was fetched
+fetched-kind : (c : tie.After-known-told) (n : ℕ) → c .before .kind .given .0 .0 ≡ n → let a = start c .args in Got n (a .p + 2) ≡ field 2 anything (a .image .now) (a .p)
+fetched-kind c n e = rw (c .before .kind .given .1 ∙ ap Value e) at (c .before .before .before .field-at .ensures)
+
+-- ---- what is asked
 
 field-at-requires : tie.Need-field-at-requires
 field-at-requires c κs = search needs
@@ -27,11 +42,11 @@ no-deed-requires c κs = search needs
 
 returns : tie.Need-returns
 returns c =
-    let field-at = c .before .before .before .field-at in
-    let a = c .before .before .before .before .before .before .args in (
+    let d = c .before .before .before in
+    let a = begun d .args in (
       (λ buffers ts b t. answer-bad _ _ _ _ (c .no-deed .ensures)
           ∙ kind-bad (sizes buffers (a .types .now)) (a .variables) ts b (a .image .now) (a .p) _ _
-          (read-short (a .image .now) 2 (a .p) (kindRule ts b) (rw (c .before .enum-told .given .1) at (field-at .ensures)))),
+          (read-short (a .image .now) 2 (a .p) (kindRule ts b) (rw (c .before .enum-told .given .1) at (d .field-at .ensures)))),
       bad-within _ _ _ _ (c .no-deed .ensures),
     )
 
@@ -49,11 +64,9 @@ no-deed-requires-2 c κs = search needs
 
 returns-2 : tie.Need-returns-2
 returns-2 c =
-    let field-at = c .before .before .before .before .before .before .before .field-at in
-    let kind = c .before .before .before .before .before .kind in
-    let match2 = c .before .before .before .match2 in
-    let a = c .before .before .before .before .before .before .before .before .before .before .args in
-    let e = rw (kind .given .1 ∙ ap Value (match2 .keys1)) at (field-at .ensures) in (
+    let k = c .before .before .before .before in
+    let e = fetched-kind k 0 (c .before .before .before .match2 .keys1) in
+    let a = start k .args in (
       (λ buffers ts b t. answer-bad _ _ _ _ (c .no-deed2 .ensures)
           ∙ kind-bad (sizes buffers (a .types .now)) (a .variables) ts b (a .image .now) (a .p) _ _
           (read-broken (a .image .now) 2 (a .p) (kindRule ts b) 0 2 e (modify-broken ts b (not-tested ts b (sym (c .before .enum-told2 .given .1) ∙ t))))),
@@ -62,17 +75,14 @@ returns-2 c =
 
 modify-requires : tie.Need-modify-requires
 modify-requires c κs =
-    let field-at = c .before .before .before .before .before .before .before .field-at in
-    let kind = c .before .before .before .before .before .kind in
-    let a = c .before .before .before .before .before .before .before .before .before .before .args in
-    (search needs, there (a .image .now) 2 (a .p) _ (rw (kind .given .1) at (field-at .ensures)), search needs)
+    let k = c .before .before .before .before in
+    let a = start k .args in
+    (search needs, there (a .image .now) 2 (a .p) _ (fetched-kind k _ refl), search needs)
 
 request-requires : tie.Need-request-requires
 request-requires c κs =
-    let field-at = c .before .before .before .before .field-at in
-    let kind = c .before .before .kind in
-    let a = c .before .before .before .before .before .before .before .args in
-    (search needs, there (a .image .now) 2 (a .p) _ (rw (kind .given .1) at (field-at .ensures)), search needs, search needs)
+    let a = start (c .before) .args in
+    (search needs, there (a .image .now) 2 (a .p) _ (fetched-kind (c .before) _ refl), search needs, search needs)
 
 clear-requires : tie.Need-clear-requires
 clear-requires c κs = search needs
@@ -82,14 +92,11 @@ no-deed-requires-3 c κs = search needs
 
 returns-3 : tie.Need-returns-3
 returns-3 c =
-    let field-at = c .before .before .before .before .before .before .before .before .field-at in
-    let kind = c .before .before .before .before .before .before .kind in
-    let match2 = c .before .before .before .before .match2 in
-    let tested = c .before .before .tested in
-    let a = c .before .before .before .before .before .before .before .before .before .before .before .args in
-    let e = rw (kind .given .1 ∙ ap Value (match2 .keys1)) at (field-at .ensures) in (
+    let k = c .before .before .before .before .before in
+    let e = fetched-kind k 0 (c .before .before .before .before .match2 .keys1) in
+    let a = start k .args in (
       (λ buffers ts b t.
-          let u = sym (tested .given .1) ∙ t in
+          let u = sym (c .before .before .tested .given .1) ∙ t in
           kind-on (sizes buffers (a .types .now)) (a .variables) ts b (a .image .now) (a .p) _ 0 _ (c .modify .ensures .0 buffers ts b (tested-is ts b _ u))
           (read-kept (a .image .now) 2 (a .p) (kindRule ts b) 0 e (modify-kept ts b (is-tested ts b _ u)))),
       c .modify .ensures .1,
@@ -97,10 +104,9 @@ returns-3 c =
 
 returns-4 : tie.Need-returns-4
 returns-4 c =
-    let field-at = c .before .before .before .before .before .field-at in
-    let kind = c .before .before .before .kind in
-    let a = c .before .before .before .before .before .before .before .before .args in
-    let e = rw (kind .given .1 ∙ ap Value (c .before .match2 .keys2)) at (field-at .ensures) in (
+    let k = c .before .before in
+    let e = fetched-kind k 1 (c .before .match2 .keys2) in
+    let a = start k .args in (
       (λ buffers ts b t. kind-on (sizes buffers (a .types .now)) (a .variables) ts b (a .image .now) (a .p) _ 1 _ (c .request .ensures .0 buffers ts b)
           (read-kept (a .image .now) 2 (a .p) (kindRule ts b) 1 e refl)),
       c .request .ensures .1,
@@ -108,10 +114,9 @@ returns-4 c =
 
 returns-5 : tie.Need-returns-5
 returns-5 c =
-    let field-at = c .before .before .before .before .before .field-at in
-    let kind = c .before .before .before .kind in
-    let a = c .before .before .before .before .before .before .before .before .args in
-    let e = rw (kind .given .1 ∙ ap Value (c .before .match2 .keys3)) at (field-at .ensures) in (
+    let k = c .before .before in
+    let e = fetched-kind k 2 (c .before .match2 .keys3) in
+    let a = start k .args in (
       (λ buffers ts b t. kind-on (sizes buffers (a .types .now)) (a .variables) ts b (a .image .now) (a .p) _ 2 _
           (clear-says (sizes buffers (a .types .now)) (a .variables) ts b (a .image .now) _ (c .clear .result) (c .clear .ensures .0) (c .clear .ensures .1))
           (read-kept (a .image .now) 2 (a .p) (kindRule ts b) 2 e refl)),
@@ -120,17 +125,16 @@ returns-5 c =
 
 returns-6 : tie.Need-returns-6
 returns-6 c =
-    let field-at = c .before .before .before .before .before .field-at in
-    let kind = c .before .before .before .kind in
-    let a = c .before .before .before .before .before .before .before .before .args in
-    let k = kind .given .0 .0 in
+    let k = c .before .before in
+    let e = fetched-kind k _ refl in
+    let a = start k .args in
+    let n = k .before .kind .given .0 .0 in
     let n₀ = c .before .match2 .rest .0 .0 .1 in
     let n₁ = c .before .match2 .rest .0 .1 in
     let n₂ = c .before .match2 .rest .1 in
-    let big : 2 < k = omega arith in (
+    let big : 2 < n = omega arith in (
       (λ buffers ts b t. answer-bad _ _ _ _ (c .no-deed3 .ensures)
-          ∙ kind-bad (sizes buffers (a .types .now)) (a .variables) ts b (a .image .now) (a .p) _ _
-          (read-broken (a .image .now) 2 (a .p) (kindRule ts b) k 2 (rw (kind .given .1) at (field-at .ensures)) (kind-broken ts b k big))),
+          ∙ kind-bad (sizes buffers (a .types .now)) (a .variables) ts b (a .image .now) (a .p) _ _ (read-broken (a .image .now) 2 (a .p) (kindRule ts b) n 2 e (kind-broken ts b n big))),
       bad-within _ _ _ _ (c .no-deed3 .ensures),
     )
 
