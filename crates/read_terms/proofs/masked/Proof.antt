@@ -3,9 +3,9 @@ use Prim.Native.Nat.{ℕ, _≤_, _<_, _*_, _+_}
 use mathlib.Core.Path.{_≡_, refl, sym, ap, _∙_}
 use native.Mathlib.Omega.{arith}
 use lib.ListN.{length}
-use Rattle.meaning.specs.Read.{must}
+use Rattle.meaning.specs.Read.{Got, field, must}
 use Rattle.meaning.specs.Numbers.{bad-mask}
-use Rattle.meaning.specs.Image.{aMask}
+use Rattle.meaning.specs.Image.{anything, aMask}
 use Rattle.laws.specs.BitsLaws.{fieldAt-lt}
 use Rattle.layout.proofs.WalkLaws.{answer-bad, bad-within}
 use Rattle.layout.proofs.FieldReads.{there, is, read-short, read-kept, read-broken}
@@ -13,6 +13,14 @@ use Rattle.read_terms.proofs.TermLaws.{mask-past, mask-kept, masked-bad
 use borrow.Author.Needs.{needs}
 use Rattle.read_terms.proofs.masked.Statement.{statement}
 use Rattle.read_terms.proofs.masked.Tie as tie
+
+-- where the code begins, once the mask is there
+abbrev start : tie.After-known-told → tie.Start
+start c = c .before .before .before .before .before
+
+-- the mask that was fetched
+fetched-mask : (c : tie.After-known-told) → let a = start c .args in Got (c .before .m .given .0 .0) (a .p + 8) ≡ field 8 anything (a .image .now) (a .p)
+fetched-mask c = rw (c .before .m .given .1) at (c .before .before .before .field-at .ensures)
 
 field-at-requires : tie.Need-field-at-requires
 field-at-requires c κs = search needs
@@ -28,11 +36,11 @@ no-terms-requires c κs = search needs
 
 returns : tie.Need-returns
 returns c =
-    let field-at = c .before .before .before .field-at in
-    let a = c .before .before .before .before .before .args in (
+    let d = c .before .before .before in
+    let a = d .before .before .args in (
       answer-bad _ _ _ _ (c .no-terms .ensures)
           ∙ masked-bad (a .variables) (a .slots) (a .image .now) (a .p) _ _
-          (read-short (a .image .now) 8 (a .p) (must bad-mask (aMask (a .slots))) (rw (c .before .enum-told .given .1) at (field-at .ensures))),
+          (read-short (a .image .now) 8 (a .p) (must bad-mask (aMask (a .slots))) (rw (c .before .enum-told .given .1) at (d .field-at .ensures))),
       bad-within _ _ _ _ (c .no-terms .ensures),
     )
 
@@ -44,14 +52,12 @@ no-terms-requires-2 c κs = search needs
 
 returns-2 : tie.Need-returns-2
 returns-2 c =
-    let field-at = c .before .before .before .before .before .before .field-at in
-    let m = c .before .before .before .before .m in
     let past = c .before .before .past in
-    let a = c .before .before .before .before .before .before .before .before .args in (
+    let k = c .before .before .before in
+    let a = start k .args in (
       answer-bad _ _ _ _ (c .no-terms2 .ensures)
           ∙ masked-bad (a .variables) (a .slots) (a .image .now) (a .p) _ _
-          (read-broken (a .image .now) 8 (a .p) (must bad-mask (aMask (a .slots))) _ 2 (rw (m .given .1) at (field-at .ensures))
-          (mask-past (a .slots) _ (past .result) (past .ensures) (c .before .if1 .taken))),
+          (read-broken (a .image .now) 8 (a .p) (must bad-mask (aMask (a .slots))) _ 2 (fetched-mask k) (mask-past (a .slots) _ (past .result) (past .ensures) (c .before .if1 .taken))),
       bad-within _ _ _ _ (c .no-terms2 .ensures),
     )
 
@@ -60,23 +66,19 @@ add-terms c = search needs
 
 terms-requires : tie.Need-terms-requires
 terms-requires c κs =
-    let field-at = c .before .before .before .before .before .field-at in
-    let m = c .before .before .before .m in
-    let a = c .before .before .before .before .before .before .before .args in
-    let e = rw (m .given .1) at (field-at .ensures) in
+    let k = c .before .before in
+    let a = start k .args in
+    let e = fetched-mask k in
     let h = there (a .image .now) 8 (a .p) _ e in
     (search needs, omega (arith, h), omega (arith, is (a .image .now) 8 (a .p) _ e, fieldAt-lt (a .image .now) (a .p) 8), search needs)
 
 returns-3 : tie.Need-returns-3
 returns-3 c =
-    let field-at = c .before .before .before .before .before .before .before .field-at in
-    let m = c .before .before .before .before .before .m in
     let past = c .before .before .before .past in
-    let if1 = c .before .before .if1 in
-    let a = c .before .before .before .before .before .before .before .before .before .args in
-    let e = rw (m .given .1) at (field-at .ensures) in (
-      c .before .terms .ensures .0 ∙ masked-on (a .variables) (a .slots) (a .image .now) (a .p) _ _
-          (read-kept (a .image .now) 8 (a .p) (must bad-mask (aMask (a .slots))) _ e (mask-kept (a .slots) _ (past .result) (past .ensures) (if1 .left))),
+    let k = c .before .before .before .before in
+    let a = start k .args in
+    let kept = mask-kept (a .slots) _ (past .result) (past .ensures) (c .before .before .if1 .left) in (
+      c .before .terms .ensures .0 ∙ masked-on (a .variables) (a .slots) (a .image .now) (a .p) _ _ (read-kept (a .image .now) 8 (a .p) (must bad-mask (aMask (a .slots))) _ (fetched-mask k) kept),
       c .before .terms .ensures .1,
     )
 
