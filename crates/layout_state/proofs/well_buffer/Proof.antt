@@ -9,6 +9,10 @@ use borrow.Author.Needs.{needs}
 use Rattle.layout_state.proofs.well_buffer.Statement.{statement}
 use Rattle.layout_state.proofs.well_buffer.Tie as tie
 
+-- where the code begins, once the values are judged
+abbrev start : tie.After-at-most → tie.Start
+start c = c .before .before .before .before .before
+
 mul-o : tie.Need-mul-o
 mul-o c = search needs
 
@@ -37,7 +41,7 @@ at-most-requires c κs = search needs
 
 returns-2 : tie.Need-returns-2
 returns-2 c =
-    let a = c .before .before .before .before .before .before .args in
+    let a = start (c .before) .args in
     well-values (a .words .now) (a .k) (a .types .now) (search needs) (sym (c .before .at-most .ensures) ∙ not-true _ (c .if2 .taken))
 
 mul-count : tie.Need-mul-count
@@ -48,7 +52,7 @@ shared-slice-read-count c = search needs
 
 cast-count : tie.Need-cast-count
 cast-count c =
-    let a = c .before .before .before .before .before .before .before .args in
+    let a = start (c .before .before) .args in
     omega (arith, c .shared-slice-known4 .given (getD (a .words .now) (10 * a .k) 0))
 
 add-at-most-3 : tie.Need-add-at-most-3
@@ -56,7 +60,7 @@ add-at-most-3 c = search needs
 
 add-at-most-4 : tie.Need-add-at-most-4
 add-at-most-4 c =
-    let a = c .before .before .before .before .before .before .before .args in
+    let a = start (c .before .before) .args in
     omega (arith, c .shared-slice-known4 .given (getD (a .words .now) (10 * a .k) 0))
 
 add-at-most-5 : tie.Need-add-at-most-5
@@ -67,8 +71,9 @@ at-most-requires-2 c κs = search needs
 
 returns-3 : tie.Need-returns-3
 returns-3 c =
-    let a = c .before .before .before .before .before .before .before .before .args in
-    c .at-most2 .ensures ∙ well-past (a .words .now) (a .k) (a .types .now) (search needs) (sym (c .before .before .before .at-most .ensures) ∙ not-false _ (c .before .before .if2 .left))
+    let v = c .before .before .before in
+    let a = start v .args in
+    c .at-most2 .ensures ∙ well-past (a .words .now) (a .k) (a .types .now) (search needs) (sym (v .at-most .ensures) ∙ not-false _ (c .before .before .if2 .left))
 
 pub well-buffer-spec : {M : Type 1} → statement M
 well-buffer-spec =
