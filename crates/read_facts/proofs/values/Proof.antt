@@ -19,6 +19,10 @@ Inv-loop image p n xs₀ at₀ i₀ xs at i = (i ≤ n) × (at ≤ 8 * length im
 abbrev μ-loop : tie.MeasureT-loop
 μ-loop image p n xs₀ at₀ i₀ xs at i = n - i
 
+-- where the code begins, from the loop on
+abbrev start : tie.At-loop Inv-loop μ-loop → tie.Start Inv-loop μ-loop
+start c = c .before .before
+
 loop-holds : tie.Need-loop-holds Inv-loop μ-loop
 loop-holds c =
     let a = c .before .args in
@@ -35,12 +39,11 @@ enum-told c = search needs
 
 returns : tie.Need-returns Inv-loop μ-loop
 returns c =
-    let loop-test = c .before .before .before .loop-test in
-    let field-at = c .before .before .field-at in
-    let l = c .before .before .before .before .loop in
-    let a = c .before .before .before .before .before .before .args in (
-      stored-bad (λ x. x) (λ l. l) (field 12 anything) (a .image .now) (l .xs) (l .i) (a .n) (l .i) (l .at) (loop-test .taken) _ _
-          (sym (read-short (a .image .now) 12 (l .at) anything (rw (c .enum-told .given .1) at (field-at .ensures)))) ∙ l .inv .2,
+    let d = c .before .before in
+    let l = d .before .before .loop in
+    let a = start (d .before .before) .args in (
+      stored-bad (λ x. x) (λ l. l) (field 12 anything) (a .image .now) (l .xs) (l .i) (a .n) (l .i) (l .at) (d .before .loop-test .taken) _ _
+          (sym (read-short (a .image .now) 12 (l .at) anything (rw (c .enum-told .given .1) at (d .field-at .ensures)))) ∙ l .inv .2,
       bad-within _ _ _ _ refl,
     )
 
@@ -64,21 +67,20 @@ loop-less c = search needs
 
 loop-again : tie.Need-loop-again Inv-loop μ-loop
 loop-again c =
-    let loop-test = c .before .before .before .before .loop-test in
-    let field-at = c .before .before .before .field-at in
-    let l = c .before .before .before .before .before .loop in
-    let a = c .before .before .before .before .before .before .before .args in
-    let e = rw (c .before .x .given .1) at (field-at .ensures) in (
+    let d = c .before .before .before in
+    let l = d .before .before .loop in
+    let a = start (d .before .before) .args in
+    let e = rw (c .before .x .given .1) at (d .field-at .ensures) in (
       search needs,
       there (a .image .now) 12 (l .at) _ e,
-      stored-turn (λ x. x) (λ l. l) (field 12 anything) (a .image .now) (l .xs) (l .i) (a .n) (l .i) (l .at) (loop-test .taken) _ _ _ refl
+      stored-turn (λ x. x) (λ l. l) (field 12 anything) (a .image .now) (l .xs) (l .i) (a .n) (l .i) (l .at) (d .before .loop-test .taken) _ _ _ refl
           (sym (read-kept (a .image .now) 12 (l .at) anything _ e refl)) ∙ l .inv .2,
     )
 
 returns-2 : tie.Need-returns-2 Inv-loop μ-loop
 returns-2 c =
     let l = c .before .loop in
-    let a = c .before .before .before .args in (
+    let a = start (c .before) .args in (
       stored-end (λ x. x) (λ l. l) (field 12 anything) (a .image .now) (l .xs) (l .i) (a .n) (l .i) (l .at) (c .loop-test .left) ∙ l .inv .2,
       next-within _ (l .at) _ refl (l .inv .1),
     )
