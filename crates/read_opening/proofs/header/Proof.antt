@@ -29,10 +29,11 @@ plan-for-requires c κs = search needs
 
 returns : tie.Need-returns
 returns c =
-    let s = c .before .before .before .before .before .before .before .before .args .image .now in
-    let version = c .before .before .before .before .before .before .ranged in
-    let buffers = c .before .before .before .before .before .ranged-after in
-    let declared = c .before .before .before .before .ranged-after2 in
+    let d = c .before .before .before .before in
+    let s = d .before .before .before .before .args .image .now in
+    let version = d .before .before .ranged in
+    let buffers = d .before .ranged-after in
+    let declared = d .ranged-after2 in
     let rules = c .before .before .before .ranged-after3 in
     let facts = c .before .before .ranged-after4 in
     let failure = c .before .any-after in
