@@ -48,7 +48,8 @@ same-length-4 c = search needs
 returns-2 : tie.Need-returns-2
 returns-2 c =
     let r = c .before .before .before .before in
-    let o = r .before .before .before .before .before .before .before .before in
+    let e = r .before .before .before .before in
+    let o = e .before .before .before .before in
     let a = start o .args in
     written-as (ap Text·text (printed-run (a .image .now) (a .table .now) (start o .pre .0) _ (o .«open» .ensures))) (omega arith) (r .print-run .ensures)
 
