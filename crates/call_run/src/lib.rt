@@ -6,6 +6,7 @@ ghost use Rattle.meaning.specs.Read.{Got};
 ghost use Rattle.meaning.specs.Calls.{accepted, traceOf, runOf};
 ghost use Rattle.layout.specs.Plans.{modelOn, Planned};
 ghost use Rattle.read_image.specs.Whole.{Begun};
+ghost use Rattle.match_rest.specs.Rest.{Roomy, Cleared};
 ghost use Rattle.step_run.specs.Events.{inscribed};
 ghost use Rattle.call_run.specs.Answers.{RunMet, ranBack};
 use call_accept::Taken;
@@ -14,6 +15,8 @@ use layout::Plan;
 use layout::PlanRead;
 use layout::SMALL_TAPE;
 use layout::STATE_WORDS;
+use match_rest::LARGE_SETS;
+use match_rest::SMALL_SETS;
 use meaning::State;
 use meaning::numbers::ILL_FORMED;
 
@@ -43,8 +46,9 @@ fn run_for(
     state: State,
     asked: u16,
     events: &mut [u32],
+    sets: &mut [u64],
 ) -> RunDone
-    requires { ⌜ Planned plan (now tape) × (length (now table) ≡ 9 * plan .rules) ⌝ }
+    requires { ⌜ Planned plan (now tape) × (length (now table) ≡ 9 * plan .rules) × Roomy (plan .rules) (now sets) × Cleared (now sets) ⌝ }
     ensures { λ r. ⌜ RunMet r (Got (modelOn plan (now (tape .entry))) 0) state (now (table .entry)) (now (table .exit)) asked (now (events .entry)) (now (events .exit)) ⌝ }
 {
     let mut now = [0u16; STATE_WORDS];
@@ -54,10 +58,15 @@ fn run_for(
         return no_run(ILL_FORMED, state);
     }
     step_aids::lay_aids(plan, tape);
-    let mut leads = [0u32; 16];
+    let order = plan.order;
     let heads = plan.heads;
-    let n = plan.rules as usize;
-    match_choice::lay_leads(&mut leads, &tape[heads..], table, n);
+    match_rest::lay_rest(
+        sets,
+        &tape[order..],
+        &tape[heads..],
+        table,
+        plan.rules as usize,
+    );
     let went = step_run::advance(
         &mut now,
         state.clock,
@@ -66,7 +75,7 @@ fn run_for(
         tape,
         asked,
         events,
-        &mut leads,
+        sets,
     );
     let after = layout_state::read_state(&now, went.clock);
     RunDone {
@@ -76,7 +85,7 @@ fn run_for(
     }
 }
 
-// Running, with the tape to lay the image out on.
+// Running, with the tape to lay the image out on and the sets to keep its rules in.
 fn run_on(
     image: &[u8],
     begun: PlanRead,
@@ -85,8 +94,9 @@ fn run_on(
     steps: u16,
     events: &mut [u32],
     tape: &mut [u16],
+    sets: &mut [u64],
 ) -> RunDone
-    requires { ⌜ Begun begun (now image) × (begun .plan .end ≤ length (now tape)) ⌝ }
+    requires { ⌜ Begun begun (now image) × (begun .plan .end ≤ length (now tape)) × Roomy (begun .plan .rules) (now sets) × Cleared (now sets) ⌝ }
     ensures { λ r. ⌜ RunMet r (accepted (now (image .entry)) (now (table .entry))) state (now (table .entry)) (now (table .exit)) steps (now (events .entry)) (now (events .exit)) ⌝ }
 {
     let taken = call_accept::accept(image, begun, table.len(), tape);
@@ -94,7 +104,7 @@ fn run_on(
         return no_run(number, state);
     }
     let plan = begun.plan;
-    run_for(table, plan, tape, state, steps, events)
+    run_for(table, plan, tape, state, steps, events, sets)
 }
 
 // Runs as `run` does, and notes each step in three lent words, as long as there is room: the clock after it, 0 and the rule that fired or 1 and the ms waited.
@@ -111,10 +121,30 @@ pub fn trace(
     let plan = begun.plan;
     if plan.end <= SMALL_TAPE {
         let mut tape = [0u16; SMALL_TAPE];
-        return run_on(image, begun, state, table, steps, events, &mut tape);
+        let mut sets = [0u64; SMALL_SETS];
+        return run_on(
+            image,
+            begun,
+            state,
+            table,
+            steps,
+            events,
+            &mut tape,
+            &mut sets,
+        );
     }
     let mut tape = [0u16; LARGE_TAPE];
-    run_on(image, begun, state, table, steps, events, &mut tape)
+    let mut sets = [0u64; LARGE_SETS];
+    run_on(
+        image,
+        begun,
+        state,
+        table,
+        steps,
+        events,
+        &mut tape,
+        &mut sets,
+    )
 }
 
 // Runs at most `steps` steps from a state: the number, the state and the steps made; the table is refreshed after each step.

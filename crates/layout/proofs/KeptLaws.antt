@@ -104,8 +104,7 @@ pub record Follows (p : Plan) : Type 0 where
   pub heads-at : p .heads ≡ 144 + 11 * p .facts
   pub rows-at : p .rows ≡ p .heads + 4 * p .rules
   pub chains-at : p .chains ≡ p .rows + 176 * p .rules
-  pub gates-at : p .gates ≡ p .chains + 64 + p .facts
-  pub unions-at : p .unions ≡ p .gates + 2 * p .rules
+  pub order-at : p .order ≡ p .chains + 64 + p .facts
 
 pub follows : {p : Plan} {tape : List ℕ} → Planned p tape → Follows p
 follows planned =
@@ -113,9 +112,8 @@ follows planned =
     let heads = ap (λ (p : Plan). p .heads) e in
     let rows = ap (λ (p : Plan). p .rows) e in
     let chains = ap (λ (p : Plan). p .chains) e in
-    let gates = ap (λ (p : Plan). p .gates) e in
-    let unions = ap (λ (p : Plan). p .unions) e in
-    record { heads-at = heads; rows-at = omega arith; chains-at = omega arith; gates-at = omega arith; unions-at = omega arith }
+    let order = ap (λ (p : Plan). p .order) e in
+    record { heads-at = heads; rows-at = omega arith; chains-at = omega arith; order-at = omega arith }
 
 -- ---- the model stays while words after its sections are written
 

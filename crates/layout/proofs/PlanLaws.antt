@@ -14,8 +14,7 @@ pub record Sections (p : Plan) (tape : List ℕ) : Type 0 where
   pub heads-end : p .heads + 4 * p .rules ≤ length tape
   pub rows-end : p .rows + 176 * p .rules ≤ length tape
   pub chains-end : p .chains + 64 + p .facts ≤ length tape
-  pub gates-end : p .gates + 2 * p .rules ≤ length tape
-  pub unions-end : p .unions + 16 ≤ length tape
+  pub order-end : p .order + 2 * p .rules ≤ length tape
 
 pub sections : {p : Plan} {tape : List ℕ} → Planned p tape → Sections p tape
 sections {p} {tape} planned =
@@ -23,8 +22,7 @@ sections {p} {tape} planned =
     let heads = ap (λ p. p .heads) e in
     let rows = ap (λ p. p .rows) e in
     let chains = ap (λ p. p .chains) e in
-    let gates = ap (λ p. p .gates) e in
-    let unions = ap (λ p. p .unions) e in
+    let order = ap (λ p. p .order) e in
     let end = ap (λ p. p .end) e in
     record {
       facts-end = omega (arith, planned .room);
@@ -32,8 +30,7 @@ sections {p} {tape} planned =
       heads-end = omega (arith, planned .room);
       rows-end = omega (arith, planned .room);
       chains-end = omega (arith, planned .room);
-      gates-end = omega (arith, planned .room);
-      unions-end = omega (arith, planned .room);
+      order-end = omega (arith, planned .room);
     }
 
 -- a part that goes to the tape's end, as a section is handed on, is what the section's start leaves

@@ -12,7 +12,7 @@ use Rattle.layout.specs.StateWords.{buffersIn, stateIn}
 use Rattle.layout.specs.declared.Plan.{Plan}
 
 -- the sections one after the other: 64 slot counts, 80 words of the opening state, a row for each fact, a head and sixteen rows for each rule;
--- and what a run lays out besides: 64 chains with a word for each fact, two words a rule for its gate, 16 unions
+-- and what a run lays out besides: 64 chains with a word for each fact, two words a rule for the order of rules
 abbrev pub planOf : ℕ → ℕ → ℕ → ℕ → ℕ → Plan
 planOf buffers declared rules facts failure =
     record {
@@ -24,9 +24,8 @@ planOf buffers declared rules facts failure =
       heads = 144 + 11 * facts;
       rows = 144 + 11 * facts + 4 * rules;
       chains = 144 + 11 * facts + 4 * rules + 176 * rules;
-      gates = 144 + 11 * facts + 4 * rules + 176 * rules + 64 + facts;
-      unions = 144 + 11 * facts + 4 * rules + 176 * rules + 64 + facts + 2 * rules;
-      end = 144 + 11 * facts + 4 * rules + 176 * rules + 64 + facts + 2 * rules + 16;
+      order = 144 + 11 * facts + 4 * rules + 176 * rules + 64 + facts;
+      end = 144 + 11 * facts + 4 * rules + 176 * rules + 64 + facts + 2 * rules;
     }
 
 -- ---- the model that stands on a tape
@@ -50,6 +49,10 @@ headsOn p tape = drop (p .heads) tape
 
 abbrev pub rowsOn : Plan → List ℕ → List ℕ
 rowsOn p tape = drop (p .rows) tape
+
+-- what a run lays there besides: the order of the rules
+abbrev pub orderOn : Plan → List ℕ → List ℕ
+orderOn p tape = drop (p .order) tape
 
 abbrev pub rulesOn : Plan → List ℕ → List Rule
 rulesOn p tape = rulesIn (headsOn p tape) (rowsOn p tape) (p .rules)

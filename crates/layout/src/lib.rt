@@ -28,7 +28,7 @@ pub const STATE_WORDS: usize = 80;
 // Two tapes: one that costs little to clear, and one with room for the most facts and rules that an image can have.
 pub const SMALL_TAPE: usize = 3904;
 
-pub const LARGE_TAPE: usize = 52960;
+pub const LARGE_TAPE: usize = 52944;
 
 // Where the first sections of every tape begin: the slot counts of 64 types, the opening state, the facts.
 pub const TYPES_AT: usize = 0;
@@ -37,7 +37,7 @@ pub const OPENING_AT: usize = 64;
 
 pub const FACTS_AT: usize = 144;
 
-// A model's counts and failure latency, and where its sections begin on a tape: heads, rows, chains, gates, unions, and the end.
+// A model's counts and failure latency, and where its sections begin on a tape: heads, rows, chains, order, and the end.
 pub struct Plan {
     pub buffers: u16,
     pub declared: u16,
@@ -47,8 +47,7 @@ pub struct Plan {
     pub heads: usize,
     pub rows: usize,
     pub chains: usize,
-    pub gates: usize,
-    pub unions: usize,
+    pub order: usize,
     pub end: usize,
 }
 
@@ -60,8 +59,7 @@ pub fn plan_for(buffers: u16, declared: u16, rules: u16, facts: u16, failure: u1
     let heads = FACTS_AT + ROW_WORDS * (facts as usize);
     let rows = heads + HEAD_WORDS * n;
     let chains = rows + RULE_WORDS * n;
-    let gates = chains + 64 + facts as usize;
-    let unions = gates + 2 * n;
+    let order = chains + 64 + facts as usize;
     Plan {
         buffers: buffers,
         declared: declared,
@@ -71,9 +69,8 @@ pub fn plan_for(buffers: u16, declared: u16, rules: u16, facts: u16, failure: u1
         heads: heads,
         rows: rows,
         chains: chains,
-        gates: gates,
-        unions: unions,
-        end: unions + 16,
+        order: order,
+        end: order + 2 * n,
     }
 }
 

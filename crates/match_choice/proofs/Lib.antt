@@ -1,5 +1,4 @@
 -- Laws of the choice.
 pub mod KeyLaws
 pub mod TurnLaws
-pub mod TopLaws
 pub mod RankLaws

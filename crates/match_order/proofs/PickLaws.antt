@@ -2,7 +2,6 @@
 use Prim.Native.Nat.{ℕ, _+_, _-_, _*_, _/_, _%_, _≤_, _<_}
 use mathlib.Core.Path.{_≡_, refl, sym, ap, _∙_}
 use mathlib.Core.Bool.{Bool, true, false, _||_, _&&_}
-use mathlib.Core.Logic.{inl, inr}
 use mathlib.Core.List.{List}
 use mathlib.Core.Option.{Option}
 use native.Mathlib.Omega.{arith}
@@ -19,44 +18,40 @@ use Rattle.match_sets.specs.Sets.{has, member}
 use Rattle.match_sets.proofs.SetLaws.{put-in, put-kept, put-other}
 use Rattle.match_choice.specs.declared.Chosen.the-variants.{Rule, NoRule}
 use Rattle.match_choice.specs.Chosen.{candidateOf, Below}
-use Rattle.match_choice.specs.Ranks.{rankAt, Matching, Holds, Top}
-use Rattle.match_choice.proofs.RankLaws.{top-chosen, top-none-chosen}
-use Rattle.match_order.specs.Order.{Ranked, Hitting, HitAt, hits, ruleAt, placeOf}
+use Rattle.match_choice.specs.Ranks.{rankAt, Matching, Highest}
+use Rattle.match_choice.proofs.RankLaws.{none-chosen, highest-chosen}
+use Rattle.match_order.specs.Order.{Words16, Ranked, Hitting, HitAt, hits, ruleAt, placeOf}
 
-module _ (heads words table order sets : List ℕ) (n : ℕ) (ranked : Ranked heads order n) (hitting : Hitting table order sets n) where
+module _ (heads words table order sets : List ℕ) (n : ℕ) (small : Words16 heads) (ranked : Ranked heads order n) (hitting : Hitting table order sets n) where
   abbrev whole : Option Candidate
   whole = choose (rulesIn heads words n) (utilities (rulesIn heads words n)) table
 
+  -- a place in the set is one of n
+  pub place-below : (p : ℕ) → p < 256 → member sets hits p ≡ true → p < n
+  place-below p low here =
+      let hit : HitAt table order n p = hitting .only p low here in
+      omega (arith, ranked .low (hit .rule) (hit .below), hit .placed)
+
   -- no place is in the set
   pub none-picked : ((p : ℕ) → p < n → member sets hits p ≡ false) → (whole ≡ candidateOf heads words table NoRule) × Below NoRule n
-  none-picked none =
-      top-none-chosen heads words table n (ranked .few) (ranked .fits) 0
-      (record { over = λ k _ h m. absurd (no-true (sym (hitting .all k h m) ∙ none (placeOf order k) (ranked .low k h))); held = inl refl }) refl
+  none-picked none = none-chosen heads words table n (λ k h m. no-true (sym (hitting .all k h m) ∙ none (placeOf order k) (ranked .low k h)))
 
   module _ (p : ℕ) (low : p < 256) (here : member sets hits p ≡ true) (before : (q : ℕ) → q < p → member sets hits q ≡ false) where
     hit : HitAt table order n p
     hit = hitting .only p low here
 
-    abbrev at : ℕ
-    at = hit .rule
+    is : ruleAt order p ≡ hit .rule
+    is = ap (ruleAt order) (sym (hit .placed)) ∙ ranked .back (hit .rule) (hit .below)
 
-    is : ruleAt order p ≡ at
-    is = ap (ruleAt order) (sym (hit .placed)) ∙ ranked .back at (hit .below)
-
-    over : (k : ℕ) → 0 ≤ k → k < n → Matching table k → rankAt heads k ≤ rankAt heads at
-    over k _ h m =
-        ranked .falls at k (hit .below) h
+    over : (k : ℕ) → k < n → Matching table k → rankAt heads k ≤ rankAt heads (hit .rule)
+    over k h m =
+        ranked .falls (hit .rule) k (hit .below) h
         (by-lt (placeOf order k) p (λ l. absurd (no-true (sym (hitting .all k h m) ∙ before (placeOf order k) l))) (λ l. omega (arith, hit .placed)))
-
-    top : Top heads table 0 n (rankAt heads at)
-    top = record { over = over; held = inr (record { at = at; from = omega arith; below = hit .below; matching = hit .matching; is = refl }) }
-
-    number : 255 - rankAt heads at % 256 ≡ at
-    number = omega (arith, hit .below, ranked .few)
 
     pub first-picked : (whole ≡ candidateOf heads words table (Rule (ruleAt order p))) × Below (Rule (ruleAt order p)) n
     first-picked =
-        rw (is ∙ sym number) (top-chosen heads words table n (ranked .few) (ranked .fits) (rankAt heads at) top (λ z. omega arith))
+        let top : Highest heads table n (hit .rule) = record { below = hit .below; matching = hit .matching; over = over } in
+        rw is (highest-chosen heads words table n (ranked .few) small (hit .rule) top)
 
 -- ---- the set is laid out rule by rule
 

@@ -171,7 +171,7 @@ module _ (heads words order : List ℕ) (n : ℕ) (state : List ℕ) (mark w r :
         rows = omega (arith, laid .words-room);
         entry = omega arith;
         bed = rests .roomy .beds (64 * w + i) l;
-        ordered = ranked .room;
+        ordered = omega (arith, ranked .room);
         place = omega (arith, ranked .low (64 * w + i) l, ranked .few);
       }
 

@@ -66,6 +66,10 @@ pub record Roomy (n : ℕ) (sets : List ℕ) : Type 0 where
   pub least : 304 ≤ length sets
   pub beds : (k : ℕ) → k < n → 304 + 256 * (k / 64) ≤ length sets
 
+-- no bit is set
+abbrev pub Cleared : List ℕ → Type 0
+Cleared sets = (j i : ℕ) → has sets j i ≡ false
+
 -- WHAT HOLDS BETWEEN TWO STEPS
 pub record Resting (heads words order : List ℕ) (n : ℕ) (state table sets : List ℕ) : Type 0 where
   pub roomy : Roomy n sets

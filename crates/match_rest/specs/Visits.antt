@@ -73,7 +73,7 @@ pub record Visitable (heads words order : List ℕ) (entries sets k : ℕ) : Typ
   pub rows : 176 * k + 176 ≤ length words
   pub entry : 9 * k + 9 ≤ entries
   pub bed : 304 + 256 * (k / 64) ≤ sets
-  pub ordered : 512 ≤ length order
+  pub ordered : 2 * k + 2 ≤ length order
   pub place : placeOf order k < 256
 
 -- the entry of rule k is fresh, its place is in the set of the matching ones exactly if it matches, and it sleeps, or is as awake as it was

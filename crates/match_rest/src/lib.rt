@@ -9,13 +9,18 @@ ghost use Rattle.meaning.specs.Match.{entryOf};
 ghost use Rattle.meaning.specs.Refresh.{refresh};
 ghost use Rattle.layout.specs.Rows.{ruleIn, rulesIn, Laid};
 ghost use Rattle.layout.specs.StateWords.{stateIn};
-ghost use Rattle.match_rest.specs.Rest.{bedOf, Roomy, Testing, Resting, Stepped};
+ghost use Rattle.match_rest.specs.Rest.{bedOf, Roomy, Cleared, Testing, Resting, Stepped};
 ghost use Rattle.match_rest.specs.Woken.{Woke, Called, CalledBy};
 ghost use Rattle.match_rest.specs.Visits.{Touches, Lain, LowPlace, Settled, Visitable, Visited, VisitedAll, Joins};
 ghost use Rattle.match_sets.specs.Sets.{has};
 ghost use Rattle.meaning.specs.Base.{bit};
 ghost use Rattle.match_order.specs.Order.{Ranked, placeOf};
 use match_rule::Tried;
+
+// The words that a run keeps of its rules: of at most 64, which cost little to clear, and of the most that an image can have.
+pub const SMALL_SETS: usize = 304;
+
+pub const LARGE_SETS: usize = 1072;
 
 // The bed for a word of the state and the value wanted there.
 fn bed(place: usize, value: u16) -> usize
@@ -100,10 +105,10 @@ fn lay_down(sets: &mut [u64], k: usize, place: usize, value: u16)
 
 // What a match of rule k gave is noted: whether it matches, by its place in the order; and it sleeps if one word of the state told that it does not.
 fn settle(sets: &mut [u64], order: &[u16], k: usize, tried: Tried)
-    requires { ⌜ (k < 256) × (512 ≤ length (now order)) × (placeOf (now order) k < 256) × (304 + 256 * (k / 64) ≤ length (now sets)) × LowPlace tried ⌝ }
+    requires { ⌜ (k < 256) × (2 * k + 2 ≤ length (now order)) × (placeOf (now order) k < 256) × (304 + 256 * (k / 64) ≤ length (now sets)) × LowPlace tried ⌝ }
     ensures { λ _. ⌜ Settled tried k (placeOf (now (order .entry)) k) (now (sets .entry)) (now (sets .exit)) ⌝ }
 {
-    let at = order[256 + k] as usize;
+    let at = order[2 * k + 1] as usize;
     match tried {
         Tried::Hit => match_sets::put(sets, 4, at),
         Tried::Varies => match_sets::remove(sets, 4, at),
@@ -221,13 +226,11 @@ fn lay_testers(sets: &mut [u64], heads: &[u16], n: usize)
     }
 }
 
-// What a run keeps, as it begins with a table that is right or wrong: the order of n rules, all of them awake, and no bed used.
-pub fn lay_rest(sets: &mut [u64], order: &mut [u16], heads: &[u16], table: &[u16], n: usize)
-    requires { ⌜ Roomy n (now sets) × (512 ≤ length (now order)) × (4 * n ≤ length (now heads)) × (9 * n ≤ length (now table)) × ((j i : ℕ) → has (now sets) j i ≡ false) ⌝ }
-    ensures { λ _. ⌜ Ranked (now (heads .entry)) (now (order .exit)) n ⌝ }
-    ensures rests { λ _. ⌜ ((words state : List ℕ) → Resting (now (heads .entry)) words (now (order .exit)) n state (now (table .entry)) (now (sets .exit))) ⌝ }
+// What a run keeps of n rules in that order, as it begins with a table that is right or wrong: all of them awake, and no bed used.
+pub fn lay_rest(sets: &mut [u64], order: &[u16], heads: &[u16], table: &[u16], n: usize)
+    requires { ⌜ Roomy n (now sets) × Ranked (now heads) (now order) n × (4 * n ≤ length (now heads)) × (9 * n ≤ length (now table)) × Cleared (now sets) ⌝ }
+    ensures { λ _. ⌜ ((words state : List ℕ) → Resting (now (heads .entry)) words (now (order .entry)) n state (now (table .entry)) (now (sets .exit))) ⌝ }
 {
-    match_order::lay_order(order, heads, n);
     match_order::lay_hits(sets, order, table, n);
     lay_testers(sets, heads, n);
     lay_awake(sets);

@@ -1,5 +1,2 @@
--- Laws of the loops over the table's entries, and over blocks of them.
+-- Laws of the loops over the table's entries.
 pub mod TableLaws
-pub mod UnionLaws
-pub mod LeadLaws
-pub mod AlikeUnions

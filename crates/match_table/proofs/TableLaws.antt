@@ -12,7 +12,6 @@ use Rattle.meaning.specs.Base.{if_then_else_, anyOf, keep, admit, bit, upFrom}
 use Rattle.meaning.specs.Model.{Rule, Test}
 use Rattle.meaning.specs.Match.{entryOf, freshTable}
 use Rattle.meaning.specs.Refresh.{testsMarked, refresh, refreshCount}
-use Rattle.laws.specs.BaseLaws.{no-true, by-lt}
 use Rattle.laws.specs.MatchLaws.{entry-length}
 use Rattle.laws.specs.RefreshLaws.{LowBuffers, meets, misses}
 use Rattle.layout.specs.Rows.{rowsIn, testIn, testsIn, ruleIn, rulesIn, Laid}
@@ -141,9 +140,3 @@ module _ (heads words : List ℕ) (n k mark : ℕ) (laid : Laid heads words n) (
 
   pub mark-misses : bitAnd (getD heads (4 * k + 3) 0) mark ≡ 0 → testsMarked mark (ruleIn heads words k) ≡ false
   mark-misses e = misses mark (ruleIn heads words k .tests) tests-low (ap (λ (x : ℕ). bitAnd x mark) (sym (laid .masks k h)) ∙ e)
-
--- a rule that tests a marked buffer has a test
-pub marked-some : (heads words : List ℕ) (k mark : ℕ) → testsMarked mark (ruleIn heads words k) ≡ true → 0 < getD heads (4 * k) 0
-unfolding rowsIn
-marked-some heads words k mark m =
-    by-lt 0 (getD heads (4 * k) 0) (λ h. h) (λ h. let e : getD heads (4 * k) 0 ≡ 0 = omega arith in absurd (no-true (sym (rw e at m))))

@@ -1,3 +1,2 @@
--- What is said of a table so far, and of blocks of its rules.
+-- What is said of a table so far.
 pub mod Entries
-pub mod Unions

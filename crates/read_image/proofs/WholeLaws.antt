@@ -124,6 +124,7 @@ refused-begun r x y s n p e =
       short = bad-never (r .walk) x y n;
       in-bounds = bad-never (r .walk) x y n;
       few-rules = let z = ap (λ (p : Plan). p .rules) p in omega arith;
+      long = let z = ap (λ (p : Plan). p .rules) p in omega arith;
       fits = let z = ap (λ (p : Plan). p .end) p in omega arith;
     }
 
@@ -142,6 +143,7 @@ header-begun r q s met h e =
       short = λ q g. h;
       in-bounds = λ q g. record { starts = met .starts; bounds = b };
       few-rules = b .most-rules;
+      long = omega arith;
       fits = omega (arith, b .most-rules, b .most-facts);
     }
 

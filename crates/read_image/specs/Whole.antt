@@ -38,14 +38,15 @@ pub record InBounds (p : Plan) : Type 0 where
 abbrev pub headerOf : List ℕ → Read Header
 headerOf image = if ltb 65536 (length image) then Refused too-long 0 else header image 0
 
--- a header that was read as a plan: whatever it says, there are at most 256 rules, and the plan has room on the larger tape
+-- a header that was read as a plan: whatever it says, there are at most 256 rules, and the plan is as long as they need, with room on the larger tape
 pub record Begun (r : PlanRead) (image : List ℕ) : Type 0 where
   pub reads : answer (r .walk) (headerIn (r .plan)) ≡ headerOf image
   pub within : Within (r .walk) (8 * length image)
   pub short : (q : ℕ) → r .walk ≡ Next q → length image ≤ 65536
   pub in-bounds : (q : ℕ) → r .walk ≡ Next q → InBounds (r .plan)
   pub few-rules : r .plan .rules ≤ 256
-  pub fits : r .plan .end ≤ 52960
+  pub long : 182 * r .plan .rules ≤ r .plan .end
+  pub fits : r .plan .end ≤ 52944
 
 -- slot counts and opening chunks that were laid out: the definition's beginning or refusal; a place within the image;
 -- and of those that were not refused, that the types given back are those on the tape, with at most eight slots each, and the opening section is the opening state

@@ -1,11 +1,11 @@
-// What a run keeps besides the model: chains, gates and unions, laid on the tape after the model's sections.
-// No part of a tape is lent to be written while another is lent to be read, so each is laid by itself first and then copied onto the tape.
+// What a run lays on the tape after the model's sections: the chains of the facts, and the order of the rules.
 ghost use Rattle.layout.specs.Plans.{Planned};
-ghost use Rattle.step_aids.specs.Aids.{ChainsLaid, GatesLaid, UnionsLaid, AidsLaid};
+ghost use Rattle.step_aids.specs.Aids.{ChainsLaid, OrderLaid, AidsLaid};
 use layout::FACTS_AT;
 use layout::Plan;
 
 // The chains of the facts: 64 words, and a word for each fact.
+// No part of a tape is lent to be written while another is lent to be read, so they are laid by themselves and then copied onto the tape.
 fn lay_chains(plan: Plan, tape: &mut [u16])
     requires { ⌜ Planned plan (now tape) ⌝ }
     ensures { λ _. ⌜ ChainsLaid plan (now (tape .entry)) (now (tape .exit)) ⌝ }
@@ -17,36 +17,28 @@ fn lay_chains(plan: Plan, tape: &mut [u16])
     layout::copy_into(tape, plan.chains, &index[..end]);
 }
 
-// The gates of the rules: two words for each rule.
-fn lay_gates(plan: Plan, tape: &mut [u16])
+// The order of the rules, two words for each; in most models their ranks fall already.
+fn lay_order(plan: Plan, tape: &mut [u16])
     requires { ⌜ Planned plan (now tape) ⌝ }
-    ensures { λ _. ⌜ GatesLaid plan (now (tape .entry)) (now (tape .exit)) ⌝ }
+    ensures { λ _. ⌜ OrderLaid plan (now (tape .entry)) (now (tape .exit)) ⌝ }
 {
     let n = plan.rules as usize;
-    let rows = plan.rows;
-    let mut gates = [0u16; 512];
-    match_gates::lay_gates(&mut gates, &tape[rows..], n);
-    let end = 2 * n;
-    layout::copy_into(tape, plan.gates, &gates[..end]);
-}
-
-// The unions of the rules' blocks: sixteen words.
-fn lay_unions(plan: Plan, tape: &mut [u16])
-    requires { ⌜ Planned plan (now tape) ⌝ }
-    ensures { λ _. ⌜ UnionsLaid plan (now (tape .entry)) (now (tape .exit)) ⌝ }
-{
     let heads = plan.heads;
-    let mut unions = [0u16; 16];
-    match_table::unite(&mut unions, &tape[heads..], plan.rules as usize);
-    layout::copy_into(tape, plan.unions, &unions);
+    let order = plan.order;
+    if match_order::falling(&tape[heads..], n) {
+        match_order::lay_same(&mut tape[order..], n);
+        return;
+    }
+    let mut ranks = [0u32; 256];
+    match_order::lay_ranks(&mut ranks, &tape[heads..], n);
+    match_order::lay_counted(&mut tape[order..], &ranks, n);
 }
 
-// All three, each after the one before it, so that none touches what stands.
+// Both, one after the other, so that neither touches what stands.
 pub fn lay_aids(plan: Plan, tape: &mut [u16])
     requires { ⌜ Planned plan (now tape) ⌝ }
     ensures { λ _. ⌜ AidsLaid plan (now (tape .entry)) (now (tape .exit)) ⌝ }
 {
     lay_chains(plan, tape);
-    lay_gates(plan, tape);
-    lay_unions(plan, tape);
+    lay_order(plan, tape);
 }

@@ -11,9 +11,9 @@ ghost use Rattle.layout.specs.Rows.{testsIn};
 ghost use Rattle.layout.specs.StateWords.{buffersIn, stateIn};
 ghost use Rattle.layout.specs.Plans.{factsOn, headsOn, rowsOn, modelOn, Planned};
 ghost use Rattle.match_choice.specs.Chosen.{candidateAt};
-ghost use Rattle.match_choice.specs.Ranks.{Led};
 ghost use Rattle.step_retrieve.specs.Chains.{ChainsOn};
 ghost use Rattle.step_once.specs.Done.{StepMet};
+ghost use Rattle.step_once.specs.Choosing.{RankedOn, HittingOn};
 use layout::ENTRY_WORDS;
 use layout::HEAD_WORDS;
 use layout::Plan;
@@ -90,19 +90,20 @@ fn wait_step(state: &mut [u16], clock: u32) -> StepDone
     StepDone::Waited(ms, mark)
 }
 
-// One step of the model that plan and tape mean, with its table and its leads; a step that is refused leaves the state as it is.
+// One step of the model that plan and tape mean, with its table and the set of its matching rules; a step that is refused leaves the state as it is.
 pub fn step(
     state: &mut [u16],
     clock: u32,
     table: &[u16],
     plan: Plan,
     tape: &[u16],
-    leads: &[u32],
+    sets: &[u64],
 ) -> StepDone
-    requires { ⌜ Planned plan (now tape) × (length (now table) ≡ 9 * plan .rules) × (80 ≤ length (now state)) × ChainsOn plan (now tape) × Led (headsOn plan (now tape)) (now table) (plan .rules) (now leads) ⌝ }
+    requires { ⌜ Planned plan (now tape) × (length (now table) ≡ 9 * plan .rules) × (80 ≤ length (now state)) × ChainsOn plan (now tape) × RankedOn plan (now tape) × HittingOn plan (now tape) (now table) (now sets) ⌝ }
     ensures { λ r. ⌜ StepMet (stepOf (modelOn plan (now (tape .entry))) (stateIn (now (state .entry)) clock) (now (table .entry))) r (now (state .entry)) (now (state .exit)) clock ⌝ }
 {
-    match match_choice::choose(leads, plan.rules as usize) {
+    let order = plan.order;
+    match match_order::pick(sets, &tape[order..], plan.rules as usize) {
         Chosen::Rule(k) => fire_step(state, clock, table, k, plan, tape),
         Chosen::NoRule => wait_step(state, clock),
     }

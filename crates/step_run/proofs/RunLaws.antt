@@ -53,6 +53,12 @@ pub noted-room : (lent : List ℕ) (k : ℕ) (event : List ℕ) → 3 * k + 3 �
 unfolding noted
 noted-room lent k event h = rw (le-leb (3 * k + 3) (length lent) h)
 
+-- a step that is made, as it was told
+pub made-step : (t : Told) (w : List ℕ) (now : ℕ) (step : Step) → toldIn t w now ≡ step → (t .kind ≡ 2 → ⊥) → Made (eventBy (t .kind) (t .value)) (stateIn w (now + t .elapsed)) (t .mark) ≡ step
+made-step t w now step e z =
+    let made′ : Step = Made (eventBy (t .kind) (t .value)) (stateIn w (now + t .elapsed)) (t .mark) in
+    sym (ap (λ (x : Bool). if x then Stopped (t .value) else made′) (ne-eqb (t .kind) 2 z)) ∙ e
+
 -- ---- the loop, with the state in words
 
 -- after `made` of n steps: what is left to run from here gives what the whole run gives
@@ -92,12 +98,11 @@ module _ (m : Model) (n : ℕ) (w₀ : List ℕ) (clock : ℕ) (table₀ lent₀
       going-turn z known table′ lent′ et el =
           let event : Event = eventBy (t .kind) (t .value) in
           let s′ : State = stateIn w′ (now + t .elapsed) in
-          let s : Made event s′ (t .mark) ≡ stepOf m (stateIn w now) table = sym (ap (λ (x : Bool). if x then Stopped (t .value) else Made event s′ (t .mark)) (ne-eqb (t .kind) 2 z)) ∙ e in
           let words : (now + t .elapsed) ∷ t .kind ∷ t .value ∷ [] ≡ eventWords (s′ .clock) event = worded (now + t .elapsed) (t .kind) (t .value) (omega arith) in
           let next : Going = going s′ (refresh (m .rules) s′ (t .mark) table) in
           ap₂ (λ (x y : List ℕ). from (made + 1) y (runFrom m (n - (made + 1)) (going s′ x))) et (el ∙ ap (noted lent made) words)
           ∙ from-before made lent (record { clock = s′ .clock; event = event }) (runFrom m (n - (made + 1)) next)
-          ∙ one (Made event s′ (t .mark)) s
+          ∙ one (Made event s′ (t .mark)) (made-step t w′ now (stepOf m (stateIn w now) table) e z)
         where
           worded : (clock kind value : ℕ) → kind ≤ 1 → clock ∷ kind ∷ value ∷ [] ≡ eventWords clock (eventBy kind value)
           worded clock zero value h = refl

@@ -1,15 +1,20 @@
--- What a run lays out besides the model, so that its steps have less to look at.
+-- What a run lays out besides the model, so that its steps have less to look at, and what it keeps of its rules between two steps.
 use mathlib.Core.List.{List}
 use Prim.Native.Nat.{ℕ}
-use lib.ListN.{drop}
 use Rattle.layout.specs.declared.Plan.{Plan}
-use Rattle.layout.specs.Plans.{headsOn, rowsOn}
-use Rattle.match_gates.specs.Gates.{Gated}
-use Rattle.match_table.specs.Unions.{United}
+use Rattle.layout.specs.Plans.{headsOn, rowsOn, orderOn}
+use Rattle.match_rest.specs.Rest.{Resting, Stepped}
 use Rattle.step_retrieve.specs.Chains.{ChainsOn}
+use Rattle.step_once.specs.Choosing.{RankedOn}
 
--- the chains of the facts, the gates of the rules and the unions of their blocks stand in the tape's sections for them
+-- the chains of the facts and the order of the rules stand in the tape's sections for them
 pub record Aided (p : Plan) (tape : List ℕ) : Type 0 where
   pub chains : ChainsOn p tape
-  pub gates : Gated (drop (p .gates) tape) (headsOn p tape) (rowsOn p tape) (p .rules)
-  pub unions : United (headsOn p tape) (drop (p .unions) tape) (p .rules)
+  pub order : RankedOn p tape
+
+-- what holds between two steps, and after a step with that mark, of the rules on a tape
+abbrev pub RestingOn : Plan → List ℕ → List ℕ → List ℕ → List ℕ → Type 0
+RestingOn p tape state table sets = Resting (headsOn p tape) (rowsOn p tape) (orderOn p tape) (p .rules) state table sets
+
+abbrev pub SteppedOn : Plan → List ℕ → List ℕ → ℕ → List ℕ → List ℕ → Type 0
+SteppedOn p tape state mark table sets = Stepped (headsOn p tape) (rowsOn p tape) (orderOn p tape) (p .rules) state mark table sets

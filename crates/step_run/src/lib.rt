@@ -5,9 +5,8 @@ ghost use Prim.Native.Nat.{ℕ, _+_, _*_, _≤_, _<_};
 ghost use lib.ListN.{length};
 ghost use Rattle.meaning.specs.Refresh.{refresh};
 ghost use Rattle.layout.specs.StateWords.{stateIn};
-ghost use Rattle.layout.specs.Plans.{headsOn, modelOn, Planned};
-ghost use Rattle.match_choice.specs.Ranks.{Led};
-ghost use Rattle.step_run.specs.Aided.{Aided};
+ghost use Rattle.layout.specs.Plans.{modelOn, Planned};
+ghost use Rattle.step_run.specs.Aided.{Aided, RestingOn, SteppedOn};
 ghost use Rattle.step_run.specs.Told.{ToldMet};
 ghost use Rattle.step_run.specs.Events.{noted, WentMet};
 use layout::Plan;
@@ -77,25 +76,23 @@ fn note(events: &mut [u32], k: u16, clock: u32, kind: u16, value: u16)
     }
 }
 
-// The table and its leads after a step of the model that plan and tape mean, from the state after it and its mark.
-fn renew(table: &mut [u16], leads: &mut [u32], plan: Plan, tape: &[u16], state: &[u16], mark: u16)
-    requires { ⌜ Planned plan (now tape) × (length (now table) ≡ 9 * plan .rules) × (80 ≤ length (now state)) × Aided plan (now tape) × Led (headsOn plan (now tape)) (now table) (plan .rules) (now leads) ⌝ }
+// The table and what is kept of its rules, after a step of the model that plan and tape mean, from the state after it and its mark.
+fn renew(table: &mut [u16], sets: &mut [u64], plan: Plan, tape: &[u16], state: &[u16], mark: u16)
+    requires { ⌜ Planned plan (now tape) × SteppedOn plan (now tape) (now state) mark (now table) (now sets) ⌝ }
     ensures { λ _. ⌜ ((clock : ℕ) → now (table .exit) ≡ refresh (modelOn plan (now (tape .entry)) .rules) (stateIn (now (state .entry)) clock) mark (now (table .entry))) ⌝ }
-    ensures led { λ _. ⌜ Led (headsOn plan (now (tape .entry))) (now (table .exit)) (plan .rules) (now (leads .exit)) ⌝ }
+    ensures rests { λ _. ⌜ RestingOn plan (now (tape .entry)) (now (state .entry)) (now (table .exit)) (now (sets .exit)) ⌝ }
 {
+    let order = plan.order;
     let heads = plan.heads;
     let rows = plan.rows;
-    let gates = plan.gates;
-    let unions = plan.unions;
     let n = plan.rules as usize;
-    match_table::renew(
+    match_rest::renew(
         table,
-        leads,
+        sets,
+        &tape[order..],
         &tape[heads..],
         &tape[rows..],
         n,
-        &tape[gates..],
-        &tape[unions..],
         state,
         mark,
     );
@@ -110,15 +107,15 @@ pub fn advance(
     tape: &[u16],
     steps: u16,
     events: &mut [u32],
-    leads: &mut [u32],
+    sets: &mut [u64],
 ) -> Went
-    requires { ⌜ Planned plan (now tape) × (length (now table) ≡ 9 * plan .rules) × (80 ≤ length (now state)) × Aided plan (now tape) × Led (headsOn plan (now tape)) (now table) (plan .rules) (now leads) ⌝ }
+    requires { ⌜ Planned plan (now tape) × (length (now table) ≡ 9 * plan .rules) × (80 ≤ length (now state)) × Aided plan (now tape) × RestingOn plan (now tape) (now state) (now table) (now sets) ⌝ }
     ensures { λ r. ⌜ WentMet r (modelOn plan (now (tape .entry))) (now (state .entry)) (now (state .exit)) clock (now (table .entry)) (now (table .exit)) steps (now (events .entry)) (now (events .exit)) ⌝ }
 {
     let mut now = clock;
     let mut made = 0;
     while made < steps {
-        let t = tell(step_once::step(state, now, table, plan, tape, leads));
+        let t = tell(step_once::step(state, now, table, plan, tape, sets));
         if t.kind == 2 {
             return Went {
                 number: (t.value % 256) as u8,
@@ -127,7 +124,7 @@ pub fn advance(
             };
         }
         now += t.elapsed as u32;
-        renew(table, leads, plan, tape, state, t.mark);
+        renew(table, sets, plan, tape, state, t.mark);
         note(events, made, now, t.kind, t.value);
         made += 1;
     }

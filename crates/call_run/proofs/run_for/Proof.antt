@@ -6,10 +6,8 @@ use borrow.Author.Tests.{not-true, not-false}
 use native.Mathlib.Omega.{arith}
 use lib.ListN.{length, take}
 use lib.Seq.{length-take-le}
-use Rattle.meaning.specs.Model.{Model}
-use Rattle.layout.specs.Plans.{modelOn, Planned}
-use Rattle.layout.proofs.PlanLaws.{sections, to-end}
-use Rattle.step_run.specs.Events.{WentMet}
+use Rattle.layout.specs.Plans.{rowsOn, modelOn}
+use Rattle.layout.proofs.PlanLaws.{Sections, sections, to-end}
 use Rattle.call_run.proofs.RunLaws.{run-ill, run-went}
 use borrow.Author.Needs.{needs}
 use Rattle.call_run.proofs.run_for.Statement.{statement}
@@ -18,7 +16,7 @@ use Rattle.call_run.proofs.run_for.Tie as tie
 -- ---- the places of the code, each named once
 
 abbrev start : tie.After-lay-state → tie.Start
-start c = c .before .before .before .before .before
+start c = c .before .before .before .before .before .before
 
 abbrev laid : tie.After-struct-known → tie.After-lay-state
 laid c = c .before .before
@@ -32,14 +30,17 @@ judged c = c .before .before .before
 abbrev begun : tie.After-lay-aids → tie.Start
 begun c = start (laid (argued (judged c)))
 
-abbrev aided : tie.After-leads → tie.After-lay-aids
-aided c = c .before .before .before .before
+abbrev aided : tie.After-lay-rest-arg → tie.After-lay-aids
+aided c = c .before .before .before
 
-abbrev led : tie.After-lay-leads → tie.After-leads
-led c = c .before .before .before .before
+abbrev rested : tie.After-lay-rest → tie.After-lay-rest-arg
+rested c = c .before .before .before .before .before .before
 
-abbrev went : tie.After-advance → tie.After-lay-leads
-went c = c .before .before .before .before .before .before .before
+abbrev gone : tie.After-advance-arg4 → tie.After-lay-rest
+gone c = c .before .before .before .before .before .before .before
+
+abbrev went : tie.After-read-state → tie.After-advance
+went c = c .before .before .before .before .before .before .before .before .before
 
 -- ---- the state in words, and the tape with all that a run lays out
 
@@ -56,8 +57,12 @@ declared c = let d = c .pre .0 .most-declared in omega (arith, sections (c .pre 
 eighty : (c : tie.After-lay-state) → 80 ≤ length (words c)
 eighty c = search needs
 
+-- where the sections of the tape stand
+sections-of : (c : tie.After-lay-aids) → Sections (begun c .args .plan) (tape c)
+sections-of c = sections (c .lay-aids .ensures .planned)
+
 -- a place on the tape fits the machine's words, in bytes too
-within : (c : tie.After-slice-known4) → 2 * length (tape (c .before .before)) ≤ 18446744073709551615
+within : (c : tie.After-slice-known5) → 2 * length (tape (c .before .before)) ≤ 18446744073709551615
 within c = omega arith
 
 -- ---- what is asked
@@ -109,45 +114,52 @@ returns c =
 lay-aids-requires : tie.Need-lay-aids-requires
 lay-aids-requires c κs = search needs
 
-cast-n : tie.Need-cast-n
-cast-n c = search needs
+mul-lay-rest : tie.Need-mul-lay-rest
+mul-lay-rest c = omega (arith, within (c .before), sections-of (aided c) .order-end)
 
-slice-aggregate-lay-leads : tie.Need-slice-aggregate-lay-leads
-slice-aggregate-lay-leads c = search needs
+sub-lay-rest : tie.Need-sub-lay-rest
+sub-lay-rest c = let s = sections-of (aided c) in search needs
 
-mul-lay-leads : tie.Need-mul-lay-leads
-mul-lay-leads c = omega (arith, within (c .before .before), sections (aided c .lay-aids .ensures .planned) .heads-end)
+part-lay-rest-start : tie.Need-part-lay-rest-start
+part-lay-rest-start c = let s = sections-of (aided (c .before)) in search needs
 
-sub-lay-leads : tie.Need-sub-lay-leads
-sub-lay-leads c = omega (arith, sections (aided c .lay-aids .ensures .planned) .heads-end)
+part-lay-rest-end : tie.Need-part-lay-rest-end
+part-lay-rest-end c = search needs
 
-part-lay-leads-start : tie.Need-part-lay-leads-start
-part-lay-leads-start c = omega (arith, sections (aided (c .before) .lay-aids .ensures .planned) .heads-end)
+mul-lay-rest-2 : tie.Need-mul-lay-rest-2
+mul-lay-rest-2 c = let r = c .before .before in omega (arith, within (r .before), sections-of (aided r) .heads-end)
 
-part-lay-leads-end : tie.Need-part-lay-leads-end
-part-lay-leads-end c = search needs
+sub-lay-rest-2 : tie.Need-sub-lay-rest-2
+sub-lay-rest-2 c = let s = sections-of (aided (c .before .before)) in search needs
 
-lay-leads-requires : tie.Need-lay-leads-requires
-lay-leads-requires c κs =
-    let d = aided (c .before .before .before) in
-    let rules = d .lay-aids .ensures .planned .laid in
-    let n = begun d .args .plan .rules in
-    let most : n ≤ 256 = rules .at-most in
-    let long : 9 * n ≤ length (begun d .args .table .now) = omega (arith, begun d .pre .1) in
-    simp to-end (most, omega arith, rules .heads-room, long)
+part-lay-rest-start-2 : tie.Need-part-lay-rest-start-2
+part-lay-rest-start-2 c = let s = sections-of (aided (c .before .before)) in search needs
+
+part-lay-rest-end-2 : tie.Need-part-lay-rest-end-2
+part-lay-rest-end-2 c = search needs
+
+cast-lay-rest : tie.Need-cast-lay-rest
+cast-lay-rest c = search needs
+
+lay-rest-requires : tie.Need-lay-rest-requires
+lay-rest-requires c κs =
+    let d = aided (c .before .before .before .before .before) in
+    let s = begun d in
+    let met = d .lay-aids .ensures in
+    let long : 9 * s .args .plan .rules ≤ length (s .args .table .now) = omega (arith, s .pre .1) in
+    simp to-end (s .pre .2, met .aided .order, met .planned .laid .heads-room, long, s .pre .3)
 
 slice-aggregate-advance : tie.Need-slice-aggregate-advance
 slice-aggregate-advance c = search needs
 
-slice-aggregate-advance-2 : tie.Need-slice-aggregate-advance-2
-slice-aggregate-advance-2 c = search needs
-
 advance-requires : tie.Need-advance-requires
 advance-requires c κs =
-    let l = c .before .before .before .before .before .before in
-    let d = aided (led l) in
+    let r = gone c in
+    let d = aided (rested r) in
     let met = d .lay-aids .ensures in
-    (met .planned, begun d .pre .1, eighty (laid (argued (judged d))), met .aided, simp to-end at (l .lay-leads .ensures))
+    let p = begun d .args .plan in
+    let rests = r .lay-rest .ensures (rowsOn p (tape d)) (words (laid (argued (judged d)))) in
+    (met .planned, begun d .pre .1, eighty (laid (argued (judged d))), met .aided, simp to-end at rests)
 
 slice-aggregate-read-state : tie.Need-slice-aggregate-read-state
 slice-aggregate-read-state c = search needs
@@ -159,24 +171,26 @@ same-length-2 : tie.Need-same-length-2
 same-length-2 c = search needs
 
 same-length-3 : tie.Need-same-length-3
-same-length-3 c = search needs
+same-length-3 c = aided (rested (gone (went c .before))) .lay-aids .kept .1 .0
 
 same-length-4 : tie.Need-same-length-4
 same-length-4 c = search needs
 
+same-length-5 : tie.Need-same-length-5
+same-length-5 c = search needs
+
 returns-2 : tie.Need-returns-2
 unfolding modelOn
 returns-2 c =
-    let v = c .before .before .before .before .before .before .before .before in
-    let d = aided (led (went v)) in
+    let v = went c in
+    let d = aided (rested (gone (v .before))) in
     let j = judged d in
     let l = laid (argued j) in
     let a = start l .args in
     let m = modelOn (a .plan) (a .tape .now) in
-    let met : WentMet (v .advance .result) m (words l) (v .advance .last .0) (a .state .clock) (a .table .now) (v .advance .last .1 .1 .0) (a .asked) (a .events .now) (v .advance .last .1 .1 .1 .1 .1 .1 .0) =
-    rw (d .lay-aids .ensures .same) at (v .advance .ensures) in
+    let ran = rw (d .lay-aids .ensures .same) at (v .advance .ensures) in
     run-went (a .state) (a .table .now) (a .asked) m _ (a .plan .buffers) (words l) (j .well-formed .result) (j .well-formed .ensures) (l .lay-state .ensures) refl refl
-    (not-false _ (d .before .before .if1 .left)) (v .advance .result) (c .read-state .result) (v .advance .last .0) _ (a .events .now) _ (c .read-state .ensures) met
+    (not-false _ (d .before .before .if1 .left)) (v .advance .result) (c .read-state .result) (v .advance .last .0) _ (a .events .now) _ (c .read-state .ensures) ran
 
 pub run-for-spec : {M : Type 1} → statement M
 run-for-spec =
@@ -195,19 +209,22 @@ run-for-spec =
     same-length
     returns
     lay-aids-requires
-    cast-n
-    slice-aggregate-lay-leads
-    mul-lay-leads
-    sub-lay-leads
-    part-lay-leads-start
-    part-lay-leads-end
-    lay-leads-requires
+    mul-lay-rest
+    sub-lay-rest
+    part-lay-rest-start
+    part-lay-rest-end
+    mul-lay-rest-2
+    sub-lay-rest-2
+    part-lay-rest-start-2
+    part-lay-rest-end-2
+    cast-lay-rest
+    lay-rest-requires
     slice-aggregate-advance
-    slice-aggregate-advance-2
     advance-requires
     slice-aggregate-read-state
     read-state-requires
     same-length-2
     same-length-3
     same-length-4
+    same-length-5
     returns-2)

@@ -9,13 +9,13 @@ use Rattle.call_run.proofs.run_on.Tie as tie
 -- ---- the places of the code, each named once
 
 abbrev start : tie.After-accept → tie.Start
-start c = c .before .before .before .before .before .before
+start c = c .before .before .before .before .before .before .before
 
 abbrev taken : tie.After-enum-told → tie.After-accept
 taken c = c .before .before .before .before
 
 abbrev told : tie.After-run-for → tie.After-enum-told
-told c = c .before .before .before .before .before
+told c = c .before .before .before .before .before .before
 
 abbrev tape : tie.After-accept → List ℕ
 tape c = c .accept .last .1 .1 .1 .0
@@ -46,9 +46,10 @@ enum-told c = search needs
 
 run-for-requires : tie.Need-run-for-requires
 run-for-requires c κs =
-    let d = c .before .before .before .before in
-    let met = taken d .accept .ensures in
-    (met .planned (d .enum-told .given .1), met .right-length (d .enum-told .given .1))
+    let d = c .before .before .before .before .before in
+    let t = taken d in
+    let met = t .accept .ensures in
+    (met .planned (d .enum-told .given .1), met .right-length (d .enum-told .given .1), start t .pre .2, start t .pre .3)
 
 same-length-2 : tie.Need-same-length-2
 same-length-2 c = search needs
@@ -59,9 +60,12 @@ same-length-3 c = search needs
 same-length-4 : tie.Need-same-length-4
 same-length-4 c = search needs
 
+same-length-5 : tie.Need-same-length-5
+same-length-5 c = search needs
+
 returns-2 : tie.Need-returns-2
 returns-2 c =
-    let r = c .before .before .before .before .before .before in
+    let r = c .before .before .before .before .before .before .before .before in
     let d = told r in
     let t = taken d in
     let a = start t .args in
@@ -82,4 +86,5 @@ run-on-spec =
     same-length-2
     same-length-3
     same-length-4
+    same-length-5
     returns-2)

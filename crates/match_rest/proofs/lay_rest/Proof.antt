@@ -7,15 +7,23 @@ use borrow.Author.Needs.{needs}
 use Rattle.match_rest.proofs.lay_rest.Statement.{statement}
 use Rattle.match_rest.proofs.lay_rest.Tie as tie
 
-lay-order-requires : tie.Need-lay-order-requires
-lay-order-requires c κs =
-    let pre = c .before .before .before .before .before .pre in
-    (pre .0 .few, pre .1, pre .2)
+-- ---- the places of the code, each named once
+
+abbrev start : tie.After-lay-hits-arg → tie.Start
+start c = c .before .before .before .before .before
+
+abbrev hit : tie.After-lay-testers-arg → tie.After-lay-hits
+hit c = c .before .before .before
+
+abbrev tested : tie.After-lay-awake-arg → tie.After-lay-testers
+tested c = c .before .before .before
+
+-- ---- what is asked
 
 lay-hits-requires : tie.Need-lay-hits-requires
 lay-hits-requires c κs =
-    let pre = c .before .before .before .before .before .before .before .before .before .before .pre in
-    let ranked = c .before .before .before .before .lay-order .ensures in (
+    let pre = start c .pre in
+    let ranked = pre .1 in (
       pre .0 .few,
       omega (arith, pre .0 .least),
       ranked .room,
@@ -26,43 +34,31 @@ lay-hits-requires c κs =
 
 lay-testers-requires : tie.Need-lay-testers-requires
 lay-testers-requires c κs =
-    let pre = c .before .before .before .before .before .before .before .before .before .before .before .before .before .before .pre in
-    let hits = c .before .before .before .lay-hits in
-    (pre .0 .few, omega (arith, pre .0 .least, hits .kept .0), pre .2, λ j i f g. hits .ensures .1 j i (λ a b. omega arith) ∙ pre .4 j i)
+    let h = hit c in
+    let pre = start (h .before) .pre in
+    (pre .0 .few, omega (arith, pre .0 .least, h .lay-hits .kept .0), pre .2, λ j i f g. h .lay-hits .ensures .1 j i (λ a b. omega arith) ∙ pre .4 j i)
 
 lay-awake-requires : tie.Need-lay-awake-requires
 lay-awake-requires c κs =
-    let lay-hits = c .before .before .before .before .before .before .before .lay-hits in
-    let pre = c .before .before .before .before .before .before .before .before .before .before .before .before .before .before .before .before .before .before .pre in
-    omega (arith, pre .0 .least, lay-hits .kept .0, c .before .before .before .lay-testers .kept .0)
+    let t = tested c in
+    let h = hit (t .before) in
+    let pre = start (h .before) .pre in
+    omega (arith, pre .0 .least, h .lay-hits .kept .0, t .lay-testers .kept .0)
 
 same-length : tie.Need-same-length
 same-length c = search needs
 
-same-length-2 : tie.Need-same-length-2
-same-length-2 c = search needs
-
 returns : tie.Need-returns
-returns c =
-    let start = c .before .before .before .before .before .before .before .before .before .before .before .before .before .before .before .before .before .before .before .before .before in
-    let args = start .args in
-    let ranked = c .before .before .before .before .before .before .before .before .before .before .before .before .before .before .before .lay-order in
-    let hits = c .before .before .before .before .before .before .before .before .before .before .lay-hits in
-    let testers = c .before .before .before .before .before .before .lay-testers in
-    let awake = c .before .before .lay-awake in (
-      ranked .ensures,
-      λ words state. laid-to-rest (args .heads .now) words (ranked .last .0) (args .n) state (args .table .now) (args .sets .now) (hits .last .0) (testers .last .0) (awake .last .0) (start .pre .0)
-          (awake .kept .0 ∙ testers .kept .0 ∙ hits .kept .0) (ranked .ensures) (hits .ensures .0) (testers .ensures .0) (testers .ensures .1) (awake .ensures .0) (awake .ensures .1),
-    )
+returns c words state =
+    let a = c .before .before in
+    let t = tested (a .before) in
+    let h = hit (t .before) in
+    let s = start (h .before) in
+    let size = a .lay-awake .kept .0 ∙ t .lay-testers .kept .0 ∙ h .lay-hits .kept .0 in
+    laid-to-rest (s .args .heads .now) words (s .args .order .now) (s .args .n) state (s .args .table .now) (s .args .sets .now) _ _ _ (s .pre .0) size (s .pre .1)
+    (h .lay-hits .ensures .0)
+    (t .lay-testers .ensures .0) (t .lay-testers .ensures .1)
+    (a .lay-awake .ensures .0) (a .lay-awake .ensures .1)
 
 pub lay-rest-spec : {M : Type 1} → statement M
-lay-rest-spec =
-    tie.close
-    (tie.spec
-    lay-order-requires
-    lay-hits-requires
-    lay-testers-requires
-    lay-awake-requires
-    same-length
-    same-length-2
-    returns)
+lay-rest-spec = tie.close (tie.spec lay-hits-requires lay-testers-requires lay-awake-requires same-length returns)

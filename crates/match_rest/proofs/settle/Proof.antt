@@ -1,5 +1,5 @@
 -- `match_rest::settle` meets its contract: by what was tried.
-use Prim.Native.Nat.{_+_}
+use Prim.Native.Nat.{_+_, _*_}
 use Rattle.match_rest.proofs.VisitLaws.{settled-hit, settled-varies, settled-differs}
 use Rattle.match_rest.specs.Visits.{LowPlace}
 use Rattle.match_order.specs.Order.{placeOf}
@@ -9,17 +9,20 @@ use borrow.Author.Needs.{needs}
 use Rattle.match_rest.proofs.settle.Statement.{statement}
 use Rattle.match_rest.proofs.settle.Tie as tie
 
+mul-at : tie.Need-mul-at
+mul-at c = search needs
+
 add-at : tie.Need-add-at
 add-at c = search needs
 
-mul-at : tie.Need-mul-at
-mul-at c = search needs
+mul-at-2 : tie.Need-mul-at-2
+mul-at-2 c = search needs
 
 shared-slice-read-at : tie.Need-shared-slice-read-at
 shared-slice-read-at c = search needs
 
 cast-at : tie.Need-cast-at
-cast-at c = omega (arith, c .shared-slice-known2 .given (256 + c .before .before .before .args .k))
+cast-at c = omega (arith, c .shared-slice-known2 .given (2 * c .before .before .before .args .k + 1))
 
 enum-told : tie.Need-enum-told
 enum-told c = search needs
@@ -94,8 +97,9 @@ pub settle-spec : {M : Type 1} → statement M
 settle-spec =
     tie.close
     (tie.spec
-    add-at
     mul-at
+    add-at
+    mul-at-2
     shared-slice-read-at
     cast-at
     enum-told

@@ -1,27 +1,82 @@
 -- `step_once::step` meets its contract: it is the firing of the rule that is chosen, or the wait where none is.
+use mathlib.Core.Path.{_≡_}
 use borrow.Author.Needs.{needs}
-use Rattle.layout.specs.Plans.{headsOn, rowsOn}
+use native.Mathlib.Omega.{arith}
+use Rattle.meaning.specs.Choice.{choose, utilities}
+use Rattle.layout.specs.Plans.{headsOn, rowsOn, orderOn, rulesOn}
+use Rattle.layout.proofs.PlanLaws.{sections, to-end}
+use Rattle.match_choice.specs.Chosen.{candidateOf, Below}
+use lib.Seq.{getD-drop}
+use Prim.Native.Nat.{_+_}
+use Rattle.match_order.specs.Order.{Words16}
+use Rattle.match_order.proofs.PickLaws.{place-below}
 use Rattle.step_once.proofs.StepLaws.{rule-below, step-fires, step-waits}
 use Rattle.step_once.proofs.step.Statement.{statement}
 use Rattle.step_once.proofs.step.Tie as tie
 
-cast-choose : tie.Need-cast-choose
-cast-choose c = search needs
+-- ---- the places of the code, each named once
 
-choose-requires : tie.Need-choose-requires
-choose-requires c κs =
-    let pre = c .before .before .before .before .before .pre in
-    (pre .4 .few, pre .4 .room)
+abbrev start : tie.After-pick-arg → tie.Start
+start c = c .before .before .before .before .before
+
+abbrev begun : tie.After-pick → tie.Start
+begun c = start (c .before .before)
+
+abbrev fires : tie.After-fire-step-arg → tie.After-k
+fires c = c .before .before
+
+abbrev waits : tie.After-wait-step-arg → tie.After-enum-told
+waits c = c .before
+
+-- ---- what is chosen
+
+heads-small : (c : tie.After-pick-arg) → Words16 (headsOn (start c .args .plan) (start c .args .tape .now))
+heads-small c i = let a = start c .args in rw getD-drop (omega (arith, c .before .before .shared-slice-known2 .given (a .plan .heads + i)))
+
+chosen : (c : tie.After-pick) →
+    let a = begun c .args in
+    let rules = rulesOn (a .plan) (a .tape .now) in
+    (choose rules (utilities rules) (a .table .now) ≡ candidateOf (headsOn (a .plan) (a .tape .now)) (rowsOn (a .plan) (a .tape .now)) (a .table .now) (c .pick .result))
+    × Below (c .pick .result) (a .plan .rules)
+chosen c =
+    let s = begun c in
+    let a = s .args in
+    simp to-end at (c .pick .ensures (headsOn (a .plan) (a .tape .now)) (rowsOn (a .plan) (a .tape .now)) (a .table .now)) (heads-small (c .before .before)) (s .pre .4) (s .pre .5 .1)
+
+-- ---- what is asked
+
+mul-pick : tie.Need-mul-pick
+mul-pick c = let s = sections (c .before .before .before .before .pre .0) in search needs
+
+sub-pick : tie.Need-sub-pick
+sub-pick c = let s = sections (c .before .before .before .before .pre .0) in search needs
+
+part-pick-start : tie.Need-part-pick-start
+part-pick-start c = let s = sections (c .before .before .before .before .pre .0) in search needs
+
+part-pick-end : tie.Need-part-pick-end
+part-pick-end c = search needs
+
+cast-pick : tie.Need-cast-pick
+cast-pick c = search needs
+
+pick-requires : tie.Need-pick-requires
+pick-requires c κs =
+    let s = start (c .before) in
+    let a = s .args in
+    let ranked = s .pre .4 in
+    let below = place-below (headsOn (a .plan) (a .tape .now)) (rowsOn (a .plan) (a .tape .now)) (a .table .now) (orderOn (a .plan) (a .tape .now)) (a .sets .now) (a .plan .rules) (heads-small (c .before)) ranked (s .pre .5 .1) in
+    simp to-end (ranked .few, s .pre .5 .0, ranked .room, below)
 
 enum-known-k : tie.Need-enum-known-k
 enum-known-k c = search needs
 
 fire-step-requires : tie.Need-fire-step-requires
 fire-step-requires c κs =
-    let a = c .before .before .before .before .before .before .before .before .before .before .args in
-    let pre = c .before .before .before .before .before .before .before .before .before .before .pre in
-    let chosen = c .before .before .before .before .choose .ensures (headsOn (a .plan) (a .tape .now)) (rowsOn (a .plan) (a .tape .now)) (a .table .now) (pre .4) in
-    (pre .0, rule-below (c .before .before .k .given .1) (chosen .1), pre .1, pre .2, pre .3)
+    let k = fires c in
+    let picked = k .before .before in
+    let s = begun picked in
+    (s .pre .0, rule-below (k .k .given .1) (chosen picked .1), s .pre .1, s .pre .2, s .pre .3)
 
 enum-told : tie.Need-enum-told
 enum-told c = search needs
@@ -34,29 +89,33 @@ same-length c = search needs
 
 returns : tie.Need-returns
 returns c =
-    let a = c .before .before .before .before .before .before .before .before .before .before .before .before .before .args in
-    let led = c .before .before .before .before .before .before .before .before .before .before .before .before .before .pre .4 in
-    let chosen = c .before .before .before .before .before .before .before .choose .ensures (headsOn (a .plan) (a .tape .now)) (rowsOn (a .plan) (a .tape .now)) (a .table .now) led in
-    let is-rule = c .before .before .before .before .before .k .given .1 in
-    step-fires (a .plan) (a .tape .now) (a .table .now) (chosen .0) _ is-rule (c .before .before .fire-step .ensures)
+    let fired = c .before .before in
+    let k = fires (fired .before) in
+    let picked = k .before .before in
+    let a = begun picked .args in
+    step-fires (a .plan) (a .tape .now) (a .table .now) (chosen picked .0) _ (k .k .given .1) (fired .fire-step .ensures)
 
 same-length-2 : tie.Need-same-length-2
 same-length-2 c = search needs
 
 returns-2 : tie.Need-returns-2
 returns-2 c =
-    let a = c .before .before .before .before .before .before .before .before .before .before .before .before .args in
-    let led = c .before .before .before .before .before .before .before .before .before .before .before .before .pre .4 in
-    let chosen = c .before .before .before .before .before .before .choose .ensures (headsOn (a .plan) (a .tape .now)) (rowsOn (a .plan) (a .tape .now)) (a .table .now) led in
-    let is-none = c .before .before .before .before .enum-told .given .1 in
-    step-waits (a .plan) (a .tape .now) (a .table .now) (chosen .0) is-none (c .before .before .wait-step .ensures)
+    let waited = c .before .before in
+    let w = waits (waited .before) in
+    let picked = w .before .before in
+    let a = begun picked .args in
+    step-waits (a .plan) (a .tape .now) (a .table .now) (chosen picked .0) (w .enum-told .given .1) (waited .wait-step .ensures)
 
 pub step-spec : {M : Type 1} → statement M
 step-spec =
     tie.close
     (tie.spec
-    cast-choose
-    choose-requires
+    mul-pick
+    sub-pick
+    part-pick-start
+    part-pick-end
+    cast-pick
+    pick-requires
     enum-known-k
     fire-step-requires
     enum-told

@@ -1,66 +1,65 @@
 -- `step_run::renew` meets its contract: the sections of the tape are handed on as they stand.
+use Prim.Native.Nat.{_≤_}
 use borrow.Author.Needs.{needs}
 use Rattle.layout.specs.Plans.{modelOn}
-use Rattle.layout.proofs.PlanLaws.{sections, to-end}
+use Rattle.layout.proofs.PlanLaws.{Sections, sections, to-end}
 use Rattle.step_run.proofs.renew.Statement.{statement}
 use Rattle.step_run.proofs.renew.Tie as tie
+
+-- ---- the places of the code, each named once
+
+abbrev start : tie.After-struct-known → tie.Start
+start c = c .before .before .before .before .before
+
+abbrev begun : tie.After-renew-arg2 → tie.Start
+begun c = start (c .before .before)
+
+sections-of : (c : tie.After-renew-arg2) → Sections (begun c .args .plan) (begun c .args .tape .now)
+sections-of c = sections (begun c .pre .0)
+
+-- ---- what is asked
 
 cast-n : tie.Need-cast-n
 cast-n c = search needs
 
 mul-renew : tie.Need-mul-renew
-mul-renew c = let s = sections (c .before .before .before .before .before .before .before .pre .0) in search needs
+mul-renew c = let s = sections-of c in search needs
 
 sub-renew : tie.Need-sub-renew
-sub-renew c = let s = sections (c .before .before .before .before .before .before .before .pre .0) in search needs
+sub-renew c = let s = sections-of c in search needs
 
 part-renew-start : tie.Need-part-renew-start
-part-renew-start c = let s = sections (c .before .before .before .before .before .before .before .pre .0) in search needs
+part-renew-start c = let s = sections-of c in search needs
 
 part-renew-end : tie.Need-part-renew-end
 part-renew-end c = search needs
 
 mul-renew-2 : tie.Need-mul-renew-2
-mul-renew-2 c = let s = sections (c .before .before .before .before .before .before .before .before .pre .0) in search needs
+mul-renew-2 c = let s = sections-of (c .before) in search needs
 
 sub-renew-2 : tie.Need-sub-renew-2
-sub-renew-2 c = let s = sections (c .before .before .before .before .before .before .before .before .pre .0) in search needs
+sub-renew-2 c = let s = sections-of (c .before) in search needs
 
 part-renew-start-2 : tie.Need-part-renew-start-2
-part-renew-start-2 c = let s = sections (c .before .before .before .before .before .before .before .before .pre .0) in search needs
+part-renew-start-2 c = let s = sections-of (c .before) in search needs
 
 part-renew-end-2 : tie.Need-part-renew-end-2
 part-renew-end-2 c = search needs
 
 mul-renew-3 : tie.Need-mul-renew-3
-mul-renew-3 c = let s = sections (c .before .before .before .before .before .before .before .before .before .pre .0) in search needs
+mul-renew-3 c = let s = sections-of (c .before .before) in search needs
 
 sub-renew-3 : tie.Need-sub-renew-3
-sub-renew-3 c = let s = sections (c .before .before .before .before .before .before .before .before .before .pre .0) in search needs
+sub-renew-3 c = let s = sections-of (c .before .before) in search needs
 
 part-renew-start-3 : tie.Need-part-renew-start-3
-part-renew-start-3 c = let s = sections (c .before .before .before .before .before .before .before .before .before .pre .0) in search needs
+part-renew-start-3 c = let s = sections-of (c .before .before) in search needs
 
 part-renew-end-3 : tie.Need-part-renew-end-3
 part-renew-end-3 c = search needs
 
-mul-renew-4 : tie.Need-mul-renew-4
-mul-renew-4 c = let s = sections (c .before .before .before .before .before .before .before .before .before .before .pre .0) in search needs
-
-sub-renew-4 : tie.Need-sub-renew-4
-sub-renew-4 c = let s = sections (c .before .before .before .before .before .before .before .before .before .before .pre .0) in search needs
-
-part-renew-start-4 : tie.Need-part-renew-start-4
-part-renew-start-4 c = let s = sections (c .before .before .before .before .before .before .before .before .before .before .pre .0) in search needs
-
-part-renew-end-4 : tie.Need-part-renew-end-4
-part-renew-end-4 c = search needs
-
 renew-requires : tie.Need-renew-requires
-renew-requires c κs =
-    let pre = c .before .before .before .before .before .before .before .before .before .before .before .pre in
-    let aided = pre .3 in
-    simp to-end (pre .0 .laid, pre .1, pre .2, aided .unions, pre .4, aided .gates)
+renew-requires c κs = simp to-end (begun (c .before .before .before) .pre .1)
 
 same-length : tie.Need-same-length
 same-length c = search needs
@@ -91,10 +90,6 @@ renew-spec =
     sub-renew-3
     part-renew-start-3
     part-renew-end-3
-    mul-renew-4
-    sub-renew-4
-    part-renew-start-4
-    part-renew-end-4
     renew-requires
     same-length
     same-length-2

@@ -1,3 +1,0 @@
--- Laws of the gates.
-pub mod GateLaws
-pub mod AlikeGates
