@@ -7,6 +7,7 @@ pub mod ImageLaws
 pub mod MatchLaws
 pub mod ChoiceLaws
 pub mod RetrievalLaws
+pub mod MarkLaws
 pub mod RefreshLaws
 pub mod RunLaws
 pub mod CallsLaws

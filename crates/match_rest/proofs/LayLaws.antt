@@ -19,7 +19,7 @@ use Rattle.laws.specs.BaseLaws.{bit-zero}
 use Rattle.match_sets.specs.Sets.{has, member}
 use Rattle.match_sets.proofs.SetLaws.{put-in, put-kept, put-word, put-other}
 use Rattle.match_order.specs.Order.{Ranked, Hitting, placeOf}
-use Rattle.match_rest.specs.Rest.{tests, Testing, Roomy, Resting}
+use Rattle.match_rest.specs.Rest.{tests, Testing, Roomy, Cleared, isSure, Lying, Resting}
 use Rattle.match_rest.proofs.WakeLaws.{roomy-kept}
 use Rattle.match_rest.specs.Visits.{Joins}
 use Rattle.match_rest.proofs.WalkLaws.{bit-low}
@@ -136,13 +136,13 @@ testing-turn heads k sets sets′ few t joins =
 -- ---- all of it
 
 module _ (heads words order : List ℕ) (n : ℕ) (state table s s₁ s₂ s₃ : List ℕ) (roomy : Roomy n s) (size : length s₃ ≡ length s) (ranked : Ranked heads order n)
-    (hitting : Hitting table order s₁ n) (testing : Testing heads n s₂) (beside : (j i : ℕ) → (8 ≤ j → j < 40 → ⊥) → has s₂ j i ≡ has s₁ j i)
+    (clear : Cleared s) (hitting : Hitting table order s₁ n) (hits-beside : (j i : ℕ) → (4 ≤ j → j < 8 → ⊥) → has s₁ j i ≡ has s j i) (testing : Testing heads n s₂) (beside : (j i : ℕ) → (8 ≤ j → j < 40 → ⊥) → has s₂ j i ≡ has s₁ j i)
     (awake : (j i : ℕ) → j < 4 → i < 64 → has s₃ j i ≡ true) (after : (j i : ℕ) → 4 ≤ j → has s₃ j i ≡ has s₂ j i) where
   hit-word : (j i : ℕ) → 4 ≤ j → j < 8 → has s₃ j i ≡ has s₁ j i
   hit-word j i f g = after j i f ∙ beside j i (λ a b. omega arith)
 
-  pub laid-to-rest : Resting heads words order n state table s₃
-  laid-to-rest =
+  lying : Lying heads words order n state table s₃
+  lying =
       record {
         roomy = roomy-kept n s s₃ size roomy;
         testing = record {
@@ -156,6 +156,14 @@ module _ (heads words order : List ℕ) (n : ℕ) (state table s s₁ s₂ s₃ 
         sleeping = λ k h. inl (awake (k / 64) (k % 64) (omega (arith, roomy .few)) (omega arith));
       }
 
+  not-sure : (k : ℕ) → isSure s₃ k ≡ false
+  not-sure k =
+      after (48 + k / 64) (k % 64) (omega arith) ∙ beside (48 + k / 64) (k % 64) (λ a b. omega arith) ∙ hits-beside (48 + k / 64) (k % 64) (λ a b. omega arith)
+      ∙ clear (48 + k / 64) (k % 64)
+
+  pub laid-to-rest : Resting heads words order n state table s₃
+  laid-to-rest = record { lying = lying; sure = λ k h is clock. absurd (no-true (sym is ∙ not-sure k)) }
+
 -- ---- words that are cleared
 
 zero-word : (n j : ℕ) → getD {A = ℕ} (replicate n 0) j 0 ≡ 0
@@ -168,8 +176,8 @@ pub no-bit : (n j i : ℕ) → has (replicate n 0) j i ≡ false
 no-bit n j i = ap (λ (x : ℕ). bit x i) (zero-word n j) ∙ bit-zero i
 
 -- room for any number of rules, and for at most 64
-pub roomy-large : (n : ℕ) → n ≤ 256 → Roomy n (replicate 1072 0)
-roomy-large n h = let e : length {A = ℕ} (replicate 1072 0) ≡ 1072 = length-replicate {A = ℕ} 1072 0 in record { few = h; least = omega arith; beds = λ k l. omega arith }
+pub roomy-large : (n : ℕ) → n ≤ 256 → Roomy n (replicate 1076 0)
+roomy-large n h = let e : length {A = ℕ} (replicate 1076 0) ≡ 1076 = length-replicate {A = ℕ} 1076 0 in record { few = h; least = omega arith; beds = λ k l. omega arith }
 
-pub roomy-small : (n : ℕ) → n ≤ 64 → Roomy n (replicate 304 0)
-roomy-small n h = let e : length {A = ℕ} (replicate 304 0) ≡ 304 = length-replicate {A = ℕ} 304 0 in record { few = omega arith; least = omega arith; beds = λ k l. omega arith }
+pub roomy-small : (n : ℕ) → n ≤ 64 → Roomy n (replicate 308 0)
+roomy-small n h = let e : length {A = ℕ} (replicate 308 0) ≡ 308 = length-replicate {A = ℕ} 308 0 in record { few = omega arith; least = omega arith; beds = λ k l. omega arith }

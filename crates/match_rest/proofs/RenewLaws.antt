@@ -2,12 +2,13 @@
 use Prim.Native.Nat.{ℕ, _+_, _-_, _*_, _/_, _%_, _^_, _≤_, _<_}
 use mathlib.Core.Path.{_≡_, refl, sym, ap, ap₂, _∙_}
 use mathlib.Core.Logic.{_⊎_, inl, inr, ⊎-elim}
-use mathlib.Core.Bool.{Bool, true, false, _&&_}
+use mathlib.Core.Bool.{Bool, true, false, _&&_, _||_}
 use mathlib.Core.List.{List, map}
 use native.Mathlib.Omega.{arith}
 use native.Mathlib.Decide.{ℕ-discrete}
-use lib.Bits.{bitAnd}
-use lib.ListN.{length, getD, replicate, List·getD-eq-default}
+use lib.Bits.{bitAnd, bitOr}
+use lib.ListN.{length, getD, set, replicate, List·getD-eq-default}
+use lib.Seq.{getD-set-same, getD-set-other}
 use Rattle.meaning.specs.Base.{bit, if_then_else_, weigh, upFrom}
 use Rattle.meaning.specs.Image.{isTested}
 use Rattle.meaning.specs.Match.{entryOf}
@@ -20,10 +21,13 @@ use Rattle.layout.specs.StateWords.{stateIn}
 use Rattle.match_sets.specs.Sets.{has, member}
 use Rattle.match_order.specs.Order.{Ranked, Hitting, HitAt, placeOf}
 use Rattle.match_table.proofs.TableLaws.{mark-meets, mark-misses}
-use Rattle.match_rest.specs.Rest.{isAwake, isUsed, inBed, bedOf, tests, entryAt, Asleep, Sleeping, Testing, Roomy, Resting, Kept, Stepped}
+use Rattle.match_rest.specs.Rest.{isAwake, isUsed, inBed, bedOf, tests, entryAt, Asleep, Sleeping, Testing, Roomy, Lying, isSure, Sure, Kept}
 use Rattle.match_rest.specs.Woken.{Woke, Called, CalledBy}
 use Rattle.match_rest.specs.Visits.{Touch, Touches, Visitable, Among, VisitedAll}
 use Rattle.match_rest.proofs.WakeLaws.{roomy-kept}
+use Rattle.laws.specs.MarkLaws.{entry-unmarked}
+use Rattle.match_sets.proofs.BitLaws.{bit-or}
+use Rattle.match_rest.proofs.VisitLaws.{by-or}
 use Rattle.match_rest.proofs.WalkLaws.{bit-below}
 
 -- by whether a test passes
@@ -95,7 +99,7 @@ module _ (heads words order : List ℕ) (n mark : ℕ) (before state table sets 
         only = λ b k l h t. x .only b k l h (sym (woke .kept (8 + 8 * (k / 64) + b) (k % 64) (omega arith) (omega arith)) ∙ t);
       }
 
-  pub woken-rests : Ranked heads order n → Resting heads words order n before table sets → Resting heads words order n state table sets′
+  pub woken-rests : Ranked heads order n → Lying heads words order n before table sets → Lying heads words order n state table sets′
   woken-rests ranked x =
       record {
         roomy = roomy-kept n sets sets′ (woke .size) (x .roomy);
@@ -142,7 +146,7 @@ pub renewed-none : (heads words : List ℕ) (n : ℕ) (state : List ℕ) (mark :
 renewed-none heads words n state mark table = record { made = λ k h l clock. absurd (omega arith); left = λ k l. refl }
 
 module _ (heads words order : List ℕ) (n : ℕ) (state : List ℕ) (mark w r : ℕ) (table sets : List ℕ) (laid : Laid heads words n) (ranked : Ranked heads order n) (fits : length table ≡ 9 * n)
-    (rests : Resting heads words order n state table sets) (touches : Touches sets w mark 8 r) (word : 64 * w < n) (small : bitAnd r (getD sets w 0) < 2 ^ 64) where
+    (rests : Lying heads words order n state table sets) (touches : Touches sets w mark 8 r) (word : 64 * w < n) (small : bitAnd r (getD sets w 0) < 2 ^ 64) where
   abbrev todo : ℕ
   todo = bitAnd r (getD sets w 0)
 
@@ -184,7 +188,7 @@ module _ (heads words order : List ℕ) (n : ℕ) (state : List ℕ) (mark w r :
         let g : q % 64 ≡ q - 64 * w = omega (arith, a .from, a .below) in
         (rw e at (one-of (q - 64 * w) (a .chosen)), rw (f, g) (and-right (bit r (q - 64 * w)) (has sets w (q - 64 * w)) (both (q - 64 * w) (a .chosen))))
 
-    pub rests-on : Resting heads words order n state table′ sets′
+    pub rests-on : Lying heads words order n state table′ sets′
     rests-on =
         let good : Hitting table′ order sets′ n × Sleeping heads words n state table′ sets′ = v .rests n fits ranked chosen (rests .hitting, rests .sleeping) in
         record {
@@ -237,3 +241,77 @@ module _ (heads words order : List ℕ) (n : ℕ) (state : List ℕ) (mark w r :
               (λ g. by-test (bit todo (k - 64 * w)) (seen k h g (omega arith) clock) (unseen k h g (omega arith) clock));
           left = λ k l. v .left k (λ a. omega (arith, a .below)) ∙ so-far .left k (omega arith);
         }
+
+-- ---- the entries that are known to be fresh
+
+-- whose entry is known to be fresh was so before, or tests a marked buffer
+abbrev pub Surer : List ℕ → List ℕ → ℕ → ℕ → List ℕ → List ℕ → Type 0
+Surer heads words n mark sets sets′ = (k : ℕ) → k < n → isSure sets′ k ≡ true → (isSure sets k ≡ true) ⊎ (testsMarked mark (ruleIn heads words k) ≡ true)
+
+-- a set of words 48 to 51 is none of what the rules rest by
+pub lying-beside : (heads words order : List ℕ) (n : ℕ) (state table s s′ : List ℕ) → length s′ ≡ length s → ((j i : ℕ) → (48 ≤ j → j < 52 → ⊥) → has s′ j i ≡ has s j i)
+    → Ranked heads order n → Lying heads words order n state table s → Lying heads words order n state table s′
+lying-beside heads words order n state table s s′ size same ranked x =
+    record {
+      roomy = roomy-kept n s s′ size (x .roomy);
+      testing = record {
+        all = λ b k l h. same (8 + 8 * (k / 64) + b) (k % 64) (λ f g. omega (arith, x .roomy .few)) ∙ x .testing .all b k l h;
+        only = λ b k l h t. x .testing .only b k l h (sym (same (8 + 8 * (k / 64) + b) (k % 64) (λ f g. omega arith)) ∙ t);
+      };
+      hitting = record {
+        all = λ k h m. same (4 + placeOf order k / 64) (placeOf order k % 64) (λ f g. omega (arith, ranked .low k h, ranked .few)) ∙ x .hitting .all k h m;
+        only = λ p h m. x .hitting .only p h (sym (same (4 + p / 64) (p % 64) (λ f g. omega arith)) ∙ m);
+      };
+      sleeping = λ k h. ⊎-elim
+          (λ (w : isAwake s k ≡ true). inl (same (k / 64) (k % 64) (λ f g. omega (arith, x .roomy .few)) ∙ w))
+          (λ (a : Asleep heads words state table s k). inr (record {
+            place = a .place;
+            value = a .value;
+            low = a .low;
+            shuts = a .shuts;
+            differs = a .differs;
+            delay = a .delay;
+            bed = same (52 + 256 * (k / 64) + bedOf (a .place) (a .value)) (k % 64) (λ f g. omega arith) ∙ a .bed;
+            used = same (40 + a .place / 10) (a .place % 10) (λ f g. omega (arith, a .low)) ∙ a .used;
+            zeros = a .zeros;
+          }))
+          (x .sleeping k h);
+    }
+
+-- the rules of word w that test a marked buffer are sure from now on
+module _ (heads words : List ℕ) (n : ℕ) (mark w r : ℕ) (sets₀ sets : List ℕ) (laid : Laid heads words n) (testing : Testing heads n sets) (touches : Touches sets w mark 8 r)
+    (surer : Surer heads words n mark sets₀ sets) (sets′ : List ℕ) (same : (j i : ℕ) → 48 ≤ j → j < 52 → has sets′ j i ≡ has sets j i) (room : 48 + w < length sets′) where
+  abbrev pub joined : List ℕ
+  joined = set sets′ (48 + w) (bitOr (getD sets′ (48 + w) 0) r)
+
+  pub joined-beside : (j i : ℕ) → (j ≡ 48 + w → ⊥) → has joined j i ≡ has sets′ j i
+  joined-beside j i d = ap (λ (x : ℕ). bit x i) (getD-set-other sets′ (48 + w) j _ 0 d)
+
+  joined-own : (i : ℕ) → has joined (48 + w) i ≡ (has sets′ (48 + w) i || bit r i)
+  joined-own i = ap (λ (x : ℕ). bit x i) (getD-set-same sets′ (48 + w) _ 0 room) ∙ bit-or (getD sets′ (48 + w) 0) r i
+
+  pub surer-turn : n ≤ 256 → Surer heads words n mark sets₀ joined
+  surer-turn few k h is =
+      elim (ℕ-discrete (k / 64) w) [
+        | yes e ↦
+            let both : (has sets′ (48 + w) (k % 64) || bit r (k % 64)) ≡ true = sym (joined-own (k % 64)) ∙ (rw e at is) in
+            by-or (has sets′ (48 + w) (k % 64)) (bit r (k % 64)) both
+            (λ old. surer k h (rw e (sym (same (48 + w) (k % 64) (omega arith) (omega arith)) ∙ old)))
+            (λ new. inr (touch-marked heads words n sets laid testing w mark k h e (touches .some (k % 64) new)))
+        | no e ↦
+            surer k h (sym (same (48 + k / 64) (k % 64) (omega arith) (omega arith)) ∙ sym (joined-beside (48 + k / 64) (k % 64) (λ q. e (omega arith))) ∙ is)
+      ]
+
+-- SURE AFTER THE REFRESH
+pub sure-on : (heads words : List ℕ) (n : ℕ) (before state : List ℕ) (mark : ℕ) (table table′ sets sets′ : List ℕ) → Kept before state mark → Sure heads words n before table sets
+    → Surer heads words n mark sets sets′
+    → ((k : ℕ) → k < n → (clock : ℕ) → entryAt table′ k ≡ (if testsMarked mark (ruleIn heads words k) then entryOf (ruleIn heads words k) (stateIn state clock) else entryAt table k))
+    → Sure heads words n state table′ sets′
+sure-on heads words n before state mark table table′ sets sets′ kept sure surer made k h is clock =
+    let r = ruleIn heads words k in
+    by-test (testsMarked mark r)
+    (λ m. made k h clock ∙ ap (λ (t : Bool). if t then entryOf r (stateIn state clock) else entryAt table k) m)
+    (λ m.
+    let old : isSure sets k ≡ true = ⊎-elim (λ (o : isSure sets k ≡ true). o) (λ (t : testsMarked mark r ≡ true). absurd (no-true (sym t ∙ m))) (surer k h is) in
+    made k h clock ∙ ap (λ (t : Bool). if t then entryOf r (stateIn state clock) else entryAt table k) m ∙ sure k h old clock
+    ∙ entry-unmarked r (stateIn before clock) (stateIn state clock) mark (kept .marks clock clock) m)

@@ -163,6 +163,7 @@ module _ (heads words order state : List ℕ) (w todo : ℕ) (table sets : List 
         entries = refl;
         size = refl;
         testers = λ j b f g. refl;
+        sure = λ j b f g. refl;
         awake = λ q l d. refl;
         made = λ q a clock. absurd (omega (arith, a .from, a .below));
         left = λ q d. refl;
@@ -176,6 +177,7 @@ module _ (heads words order state : List ℕ) (w todo : ℕ) (table sets : List 
           entries = so-far .entries;
           size = so-far .size;
           testers = so-far .testers;
+          sure = so-far .sure;
           awake = λ q l d. so-far .awake q l (λ a. d (among-more w todo i m q up a));
           made = λ q a clock. so-far .made q (among-less w todo i m up none q a) clock;
           left = λ q d. so-far .left q (λ a. d (among-more w todo i m q up a));
@@ -208,6 +210,7 @@ module _ (heads words order state : List ℕ) (w todo : ℕ) (table sets : List 
             entries = ap length (v .fresh 0) ∙ with-length table′ k (entryOf (ruleIn heads words k) (stateIn state 0)) (long 0) room′ ∙ so-far .entries;
             size = v .besides .size ∙ so-far .size;
             testers = λ j b f g. v .besides .testers j b f g ∙ so-far .testers j b f g;
+            sure = λ j b f g. v .besides .sure j b f g ∙ so-far .sure j b f g;
             awake = λ q l d.
                 v .besides .awake q l (λ e. d (rw e (among-own w todo m here))) ∙ so-far .awake q l (λ a. d (among-more w todo i (m + 1) q (omega arith) a));
             made = λ q a clock. elim (ℕ-discrete q k) [

@@ -33,6 +33,7 @@ besides-both k s s′ s″ x y =
     record {
       size = y .size ∙ x .size;
       testers = λ j i a b. y .testers j i a b ∙ x .testers j i a b;
+      sure = λ j i a b. y .sure j i a b ∙ x .sure j i a b;
       awake = λ q l d. y .awake q l d ∙ x .awake q l d;
       beds = λ h q l m b. y .beds h q l m (x .beds h q l m b);
       used = λ p l u. y .used p l (x .used p l u);
@@ -42,19 +43,19 @@ besides-both k s s′ s″ x y =
 
 module _ (s s₁ s₂ s₃ : List ℕ) (k place value : ℕ) (few : k < 256) (low : place < 80)
     (one : length s₁ ≡ length s) (two : length s₂ ≡ length s₁) (three : length s₃ ≡ length s₂)
-    (bedded : PutIn (48 + 255 * (k / 64) + bedOf place value) k s s₁) (noted : PutIn (40 + place / 10) (place % 10) s₁ s₂) (risen : TakenOut 0 k s₂ s₃) where
+    (bedded : PutIn (52 + 255 * (k / 64) + bedOf place value) k s s₁) (noted : PutIn (40 + place / 10) (place % 10) s₁ s₂) (risen : TakenOut 0 k s₂ s₃) where
   -- a word that is none of the three
-  same : (j i : ℕ) → (j < 40 → 4 ≤ j) → j < 40 → has s₃ j i ≡ has s j i
-  same j i a b =
-      remove-word s₂ s₃ 0 k risen j i (λ e. omega (arith, a b))
-      ∙ put-word s₁ s₂ (40 + place / 10) (place % 10) noted j i (λ e. omega arith)
-      ∙ put-word s s₁ (48 + 255 * (k / 64) + bedOf place value) k bedded j i (λ e. omega arith)
+  same : (j i : ℕ) → 4 ≤ j → j < 52 → (40 ≤ j → 48 ≤ j) → has s₃ j i ≡ has s j i
+  same j i a b c =
+      remove-word s₂ s₃ 0 k risen j i (λ e. omega arith)
+      ∙ put-word s₁ s₂ (40 + place / 10) (place % 10) noted j i (λ e. omega (arith, c (omega arith)))
+      ∙ put-word s s₁ (52 + 255 * (k / 64) + bedOf place value) k bedded j i (λ e. omega arith)
 
   -- what is set in a word from 40 on stays so
   stays : (j i : ℕ) → 40 ≤ j → has s j i ≡ true → has s₃ j i ≡ true
   stays j i a b =
       remove-word s₂ s₃ 0 k risen j i (λ e. omega arith)
-      ∙ put-kept s₁ s₂ (40 + place / 10) (place % 10) noted j i (put-kept s s₁ (48 + 255 * (k / 64) + bedOf place value) k bedded j i b)
+      ∙ put-kept s₁ s₂ (40 + place / 10) (place % 10) noted j i (put-kept s s₁ (52 + 255 * (k / 64) + bedOf place value) k bedded j i b)
 
   awake-other : (q : ℕ) → q < 256 → (q ≡ k → ⊥) → isAwake s₃ q ≡ isAwake s q
   awake-other q l d =
@@ -62,24 +63,25 @@ module _ (s s₁ s₂ s₃ : List ℕ) (k place value : ℕ) (few : k < 256) (lo
       ∙ remove-other s₂ s₃ 0 k risen q d
       ∙ ap (λ (j : ℕ). has s₂ j (q % 64)) (zero-add (q / 64))
       ∙ put-word s₁ s₂ (40 + place / 10) (place % 10) noted (q / 64) (q % 64) (λ e. omega arith)
-      ∙ put-word s s₁ (48 + 255 * (k / 64) + bedOf place value) k bedded (q / 64) (q % 64) (λ e. omega arith)
+      ∙ put-word s s₁ (52 + 255 * (k / 64) + bedOf place value) k bedded (q / 64) (q % 64) (λ e. omega arith)
 
   pub lain : Lain k place value s s₃
   lain =
       record {
         besides = record {
           size = three ∙ two ∙ one;
-          testers = λ j i a b. same j i (λ _. omega arith) b;
+          testers = λ j i a b. same j i (omega arith) (omega arith) (λ c. absurd (omega arith));
+          sure = λ j i a b. same j i (omega arith) b (λ c. a);
           awake = awake-other;
-          beds = λ h q l m b. stays (48 + 256 * (q / 64) + h) (q % 64) (omega arith) b;
+          beds = λ h q l m b. stays (52 + 256 * (q / 64) + h) (q % 64) (omega arith) b;
           used = λ p l u. stays (40 + p / 10) (p % 10) (omega arith) u;
         };
-        hits = λ j i a b. same j i (λ _. a) (omega arith);
+        hits = λ j i a b. same j i a (omega arith) (λ c. absurd (omega arith));
         bed =
-            let e : 48 + 255 * (k / 64) + bedOf place value + k / 64 ≡ 48 + 256 * (k / 64) + bedOf place value = omega arith in
-            let here : inBed s₁ (bedOf place value) k ≡ true = rw e at (put-in s s₁ (48 + 255 * (k / 64) + bedOf place value) k bedded) in
-            remove-word s₂ s₃ 0 k risen (48 + 256 * (k / 64) + bedOf place value) (k % 64) (λ z. omega arith)
-            ∙ put-kept s₁ s₂ (40 + place / 10) (place % 10) noted (48 + 256 * (k / 64) + bedOf place value) (k % 64) here;
+            let e : 52 + 255 * (k / 64) + bedOf place value + k / 64 ≡ 52 + 256 * (k / 64) + bedOf place value = omega arith in
+            let here : inBed s₁ (bedOf place value) k ≡ true = rw e at (put-in s s₁ (52 + 255 * (k / 64) + bedOf place value) k bedded) in
+            remove-word s₂ s₃ 0 k risen (52 + 256 * (k / 64) + bedOf place value) (k % 64) (λ z. omega arith)
+            ∙ put-kept s₁ s₂ (40 + place / 10) (place % 10) noted (52 + 256 * (k / 64) + bedOf place value) (k % 64) here;
         down =
             let e : 40 + place / 10 + place % 10 / 64 ≡ 40 + place / 10 = omega arith in
             let f : place % 10 % 64 ≡ place % 10 = omega arith in
@@ -95,8 +97,9 @@ besides-hits k at s s′ low size same =
     record {
       size = size;
       testers = λ j i a b. same j i (λ e. omega arith);
+      sure = λ j i a b. same j i (λ e. omega arith);
       awake = λ q l d. same (q / 64) (q % 64) (λ e. omega arith);
-      beds = λ h q l m b. same (48 + 256 * (q / 64) + h) (q % 64) (λ e. omega arith) ∙ b;
+      beds = λ h q l m b. same (52 + 256 * (q / 64) + h) (q % 64) (λ e. omega arith) ∙ b;
       used = λ p l u. same (40 + p / 10) (p % 10) (λ e. omega arith) ∙ u;
     }
 
@@ -130,7 +133,7 @@ module _ (k at : ℕ) (s s′ : List ℕ) (few : k < 256) (low : at < 256) (size
 
 -- ---- the rules of a word that test a marked buffer
 
-by-or : {C : Type 0} (a b : Bool) → (a || b) ≡ true → (a ≡ true → C) → (b ≡ true → C) → C
+pub by-or : {C : Type 0} (a b : Bool) → (a || b) ≡ true → (a ≡ true → C) → (b ≡ true → C) → C
 by-or true b e f g = f refl
 by-or false b e f g = g e
 

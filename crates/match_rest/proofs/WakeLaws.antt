@@ -54,32 +54,32 @@ Word w h g k = (g ≡ h) × (k / 64 ≡ w)
 pub earlier-or : (h w g k : ℕ) → (g ≡ h) × (k / 64 < w + 1) → ((g ≡ h) × (k / 64 < w)) ⊎ Word w h g k
 earlier-or h w g k x = by-lt (k / 64) w (λ l. inl (x .0, l)) (λ l. inr (x .0, omega (arith, x .1)))
 
-module _ (n w h : ℕ) (sets : List ℕ) (low : h < 256) (room : 48 + 256 * w + h < length sets) (small : w < 4) (few : n ≤ 256) where
+module _ (n w h : ℕ) (sets : List ℕ) (low : h < 256) (room : 52 + 256 * w + h < length sets) (small : w < 4) (few : n ≤ 256) where
   abbrev pub lifted : List ℕ
-  lifted = set (set sets w (bitOr (getD sets w 0) (getD sets (48 + 256 * w + h) 0))) (48 + 256 * w + h) 0
+  lifted = set (set sets w (bitOr (getD sets w 0) (getD sets (52 + 256 * w + h) 0))) (52 + 256 * w + h) 0
 
   first : List ℕ
-  first = set sets w (bitOr (getD sets w 0) (getD sets (48 + 256 * w + h) 0))
+  first = set sets w (bitOr (getD sets w 0) (getD sets (52 + 256 * w + h) 0))
 
   size-first : length first ≡ length sets
   unfolding first
-  size-first = length-set sets w (bitOr (getD sets w 0) (getD sets (48 + 256 * w + h) 0))
+  size-first = length-set sets w (bitOr (getD sets w 0) (getD sets (52 + 256 * w + h) 0))
 
   -- another word is as it was
-  same : (j i : ℕ) → (j ≡ w → ⊥) → (j ≡ 48 + 256 * w + h → ⊥) → has lifted j i ≡ has sets j i
+  same : (j i : ℕ) → (j ≡ w → ⊥) → (j ≡ 52 + 256 * w + h → ⊥) → has lifted j i ≡ has sets j i
   unfolding first
-  same j i a b = ap (λ (x : ℕ). bit x i) (getD-set-other first (48 + 256 * w + h) j 0 0 b ∙ getD-set-other sets w j _ 0 a)
+  same j i a b = ap (λ (x : ℕ). bit x i) (getD-set-other first (52 + 256 * w + h) j 0 0 b ∙ getD-set-other sets w j _ 0 a)
 
   -- the awake rules of the word
-  both : (i : ℕ) → has lifted w i ≡ (has sets w i || has sets (48 + 256 * w + h) i)
+  both : (i : ℕ) → has lifted w i ≡ (has sets w i || has sets (52 + 256 * w + h) i)
   unfolding first
   both i =
-      ap (λ (x : ℕ). bit x i) (getD-set-other first (48 + 256 * w + h) w 0 0 (λ e. omega arith) ∙ getD-set-same sets w _ 0 (omega arith))
-      ∙ bit-or (getD sets w 0) (getD sets (48 + 256 * w + h) 0) i
+      ap (λ (x : ℕ). bit x i) (getD-set-other first (52 + 256 * w + h) w 0 0 (λ e. omega arith) ∙ getD-set-same sets w _ 0 (omega arith))
+      ∙ bit-or (getD sets w 0) (getD sets (52 + 256 * w + h) 0) i
 
   risen : (k : ℕ) → k / 64 ≡ w → inBed sets h k ≡ true → isAwake lifted k ≡ true
   risen k e b =
-      let q : has sets (48 + 256 * w + h) (k % 64) ≡ true = rw e at b in
+      let q : has sets (52 + 256 * w + h) (k % 64) ≡ true = rw e at b in
       rw e (both (k % 64) ∙ ap (λ (x : Bool). has sets w (k % 64) || x) q ∙ or-true (has sets w (k % 64)))
 
   awake : (k : ℕ) → k < n → isAwake sets k ≡ true → isAwake lifted k ≡ true
@@ -87,7 +87,7 @@ module _ (n w h : ℕ) (sets : List ℕ) (low : h < 256) (room : 48 + 256 * w + 
       elim (ℕ-discrete (k / 64) w) [
         | yes e ↦
             let q : has sets w (k % 64) ≡ true = rw e at a in
-            rw e (both (k % 64) ∙ ap (λ (x : Bool). x || has sets (48 + 256 * w + h) (k % 64)) q)
+            rw e (both (k % 64) ∙ ap (λ (x : Bool). x || has sets (52 + 256 * w + h) (k % 64)) q)
         | no e ↦ same (k / 64) (k % 64) e (λ z. omega arith) ∙ a
       ]
 
@@ -95,15 +95,15 @@ module _ (n w h : ℕ) (sets : List ℕ) (low : h < 256) (room : 48 + 256 * w + 
   unfolding first
   woke-word =
       record {
-        size = length-set first (48 + 256 * w + h) 0 ∙ size-first;
+        size = length-set first (52 + 256 * w + h) 0 ∙ size-first;
         kept = λ j i a b. same j i (λ e. omega arith) (λ e. omega arith);
         grows = awake;
         stays = λ g k u l b. elim (ℕ-discrete g h) [
           | yes e ↦ elim (ℕ-discrete (k / 64) w) [
             | yes q ↦ inr (risen k q (rw e at b))
-            | no q ↦ inl (same (48 + 256 * (k / 64) + g) (k % 64) (λ z. omega arith) (λ z. q (omega arith)) ∙ b)
+            | no q ↦ inl (same (52 + 256 * (k / 64) + g) (k % 64) (λ z. omega arith) (λ z. q (omega arith)) ∙ b)
           ]
-          | no e ↦ inl (same (48 + 256 * (k / 64) + g) (k % 64) (λ z. omega arith) (λ z. e (omega arith)) ∙ b)
+          | no e ↦ inl (same (52 + 256 * (k / 64) + g) (k % 64) (λ z. omega arith) (λ z. e (omega arith)) ∙ b)
         ];
         wakes = λ g k u l x b. risen k (x .1) (rw (x .0) at b);
       }
@@ -156,7 +156,7 @@ module _ (state sets : List ℕ) (mark x b : ℕ) (is : x ≡ mark % 256) (h m :
       (λ l. absurd (unmarked (c .buffer) (c .low) l (c .below) (c .marked)))
 
 -- the places of a buffer are used or not as they were before some were woken
-pub called-kept : (state sets sets′ : List ℕ) (b i h : ℕ) → b < 8 → ((j k : ℕ) → 4 ≤ j → j < 48 → has sets′ j k ≡ has sets j k) → Called state sets b i h → Called state sets′ b i h
+pub called-kept : (state sets sets′ : List ℕ) (b i h : ℕ) → b < 8 → ((j k : ℕ) → 4 ≤ j → j < 52 → has sets′ j k ≡ has sets j k) → Called state sets b i h → Called state sets′ b i h
 called-kept state sets sets′ b i h low kept c =
     record {
       at = c .at;

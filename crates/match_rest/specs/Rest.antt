@@ -7,12 +7,16 @@ use mathlib.Core.Bool.{Bool, true, false}
 use mathlib.Core.List.{List}
 use lib.ListN.{length, getD, take, drop, replicate}
 use Rattle.meaning.specs.Base.{bit}
+use Rattle.meaning.specs.Match.{entryOf}
+use Rattle.laws.specs.MarkLaws.{Marks}
 use Rattle.layout.specs.Rows.{ruleIn, Laid}
-use Rattle.match_sets.specs.Sets.{has}
+use Rattle.layout.specs.StateWords.{stateIn}
+use Rattle.match_sets.specs.Sets.{has, member}
 use Rattle.match_rule.specs.Shut.{Shuts}
 use Rattle.match_order.specs.Order.{Ranked, Hitting}
 
--- ---- the words: 0 to 3 the awake rules, 4 to 7 the matching ones, 8 to 39 the testers, 40 to 47 the used places, from 48 on the beds
+-- ---- the words: 0 to 3 the awake rules, 4 to 7 the matching ones, 8 to 39 the testers, 40 to 47 the used places, 48 to 51 the rules whose entry is known to be fresh,
+-- from 52 on the beds
 
 abbrev pub isAwake : List ℕ → ℕ → Bool
 isAwake sets k = has sets (k / 64) (k % 64)
@@ -27,7 +31,11 @@ isUsed sets place = has sets (40 + place / 10) (place % 10)
 
 -- rule k sleeps in bed h
 abbrev pub inBed : List ℕ → ℕ → ℕ → Bool
-inBed sets h k = has sets (48 + 256 * (k / 64) + h) (k % 64)
+inBed sets h k = has sets (52 + 256 * (k / 64) + h) (k % 64)
+
+-- the entry of rule k is known to be fresh, since a step of this call marked a buffer that it tests
+abbrev pub isSure : List ℕ → ℕ → Bool
+isSure sets k = member sets 48 k
 
 -- the bed for a word of the state and the value wanted there; any number below 256 would do
 abbrev pub bedOf : ℕ → ℕ → ℕ
@@ -63,24 +71,34 @@ pub record Testing (heads : List ℕ) (n : ℕ) (sets : List ℕ) : Type 0 where
 -- there are words for all of it
 pub record Roomy (n : ℕ) (sets : List ℕ) : Type 0 where
   pub few : n ≤ 256
-  pub least : 304 ≤ length sets
-  pub beds : (k : ℕ) → k < n → 304 + 256 * (k / 64) ≤ length sets
+  pub least : 308 ≤ length sets
+  pub beds : (k : ℕ) → k < n → 308 + 256 * (k / 64) ≤ length sets
 
 -- no bit is set
 abbrev pub Cleared : List ℕ → Type 0
 Cleared sets = (j i : ℕ) → has sets j i ≡ false
 
--- WHAT HOLDS BETWEEN TWO STEPS
-pub record Resting (heads words order : List ℕ) (n : ℕ) (state table sets : List ℕ) : Type 0 where
+-- who sleeps, who matches and who tests what
+pub record Lying (heads words order : List ℕ) (n : ℕ) (state table sets : List ℕ) : Type 0 where
   pub roomy : Roomy n sets
   pub testing : Testing heads n sets
   pub hitting : Hitting table order sets n
   pub sleeping : Sleeping heads words n state table sets
 
--- ---- what a step leaves of the buffers that it does not mark: their words but the delay, and a delay above 0 stays above 0
+-- an entry that is known to be fresh is
+abbrev pub Sure : List ℕ → List ℕ → ℕ → List ℕ → List ℕ → List ℕ → Type 0
+Sure heads words n state table sets = (k : ℕ) → k < n → isSure sets k ≡ true → (clock : ℕ) → entryAt table k ≡ entryOf (ruleIn heads words k) (stateIn state clock)
+
+-- WHAT HOLDS BETWEEN TWO STEPS
+pub record Resting (heads words order : List ℕ) (n : ℕ) (state table sets : List ℕ) : Type 0 where
+  pub lying : Lying heads words order n state table sets
+  pub sure : Sure heads words n state table sets
+
+-- ---- what a step leaves of the buffers that it does not mark: their words but the delay, a delay above 0 stays above 0, and no test tells them from what they were
 pub record Kept (before after : List ℕ) (mark : ℕ) : Type 0 where
   pub words : (p : ℕ) → p < 80 → bit mark (p / 10) ≡ false → (p % 10 ≡ 9 → ⊥) → getD after p 0 ≡ getD before p 0
   pub delays : (p : ℕ) → p < 80 → bit mark (p / 10) ≡ false → p % 10 ≡ 9 → (getD before p 0 ≡ 0 → ⊥) → getD after p 0 ≡ 0 → ⊥
+  pub marks : (clock clock′ : ℕ) → Marks (stateIn before clock) (stateIn after clock′) mark
 
 -- after a step with that mark, before the refresh
 pub record Stepped (heads words order : List ℕ) (n : ℕ) (state : List ℕ) (mark : ℕ) (table sets : List ℕ) : Type 0 where

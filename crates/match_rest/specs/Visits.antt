@@ -31,10 +31,11 @@ pub record Touches (sets : List ℕ) (w mark b r : ℕ) : Type 0 where
   pub some : (i : ℕ) → bit r i ≡ true → Touch sets w mark b i
   pub all : (i : ℕ) → Touch sets w mark b i → bit r i ≡ true
 
--- what is the same of all rules but k, and of the words that say who tests what
+-- what is the same of all rules but k, and of the words that say who tests what and whose entry is known to be fresh
 pub record Besides (k : ℕ) (sets sets′ : List ℕ) : Type 0 where
   pub size : length sets′ ≡ length sets
   pub testers : (j i : ℕ) → 8 ≤ j → j < 40 → has sets′ j i ≡ has sets j i
+  pub sure : (j i : ℕ) → 48 ≤ j → j < 52 → has sets′ j i ≡ has sets j i
   pub awake : (q : ℕ) → q < 256 → (q ≡ k → ⊥) → isAwake sets′ q ≡ isAwake sets q
   pub beds : (h q : ℕ) → h < 256 → q < 256 → inBed sets h q ≡ true → inBed sets′ h q ≡ true
   pub used : (p : ℕ) → p < 80 → isUsed sets p ≡ true → isUsed sets′ p ≡ true
@@ -72,7 +73,7 @@ pub record Visitable (heads words order : List ℕ) (entries sets k : ℕ) : Typ
   pub tests : getD heads (4 * k) 0 ≤ 8
   pub rows : 176 * k + 176 ≤ length words
   pub entry : 9 * k + 9 ≤ entries
-  pub bed : 304 + 256 * (k / 64) ≤ sets
+  pub bed : 308 + 256 * (k / 64) ≤ sets
   pub ordered : 2 * k + 2 ≤ length order
   pub place : placeOf order k < 256
 
@@ -95,6 +96,7 @@ pub record VisitedAll (heads words order state : List ℕ) (w todo i : ℕ) (tab
   pub entries : length table′ ≡ length table
   pub size : length sets′ ≡ length sets
   pub testers : (j b : ℕ) → 8 ≤ j → j < 40 → has sets′ j b ≡ has sets j b
+  pub sure : (j b : ℕ) → 48 ≤ j → j < 52 → has sets′ j b ≡ has sets j b
   pub awake : (q : ℕ) → q < 256 → (Among w todo i q → ⊥) → isAwake sets′ q ≡ isAwake sets q
   pub made : (q : ℕ) → Among w todo i q → (clock : ℕ) → entryAt table′ q ≡ entryOf (ruleIn heads words q) (stateIn state clock)
   pub left : (q : ℕ) → (Among w todo i q → ⊥) → entryAt table′ q ≡ entryAt table q

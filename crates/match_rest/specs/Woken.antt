@@ -12,7 +12,7 @@ use Rattle.match_rest.specs.Rest.{isAwake, isUsed, inBed, bedOf}
 -- the rules of the beds that `which` names are awake; all others stay in their beds, or are awake; nobody falls asleep
 pub record Woke (n : ℕ) (which : ℕ → ℕ → Type 0) (sets sets′ : List ℕ) : Type 0 where
   pub size : length sets′ ≡ length sets
-  pub kept : (j i : ℕ) → 4 ≤ j → j < 48 → has sets′ j i ≡ has sets j i
+  pub kept : (j i : ℕ) → 4 ≤ j → j < 52 → has sets′ j i ≡ has sets j i
   pub grows : (k : ℕ) → k < n → isAwake sets k ≡ true → isAwake sets′ k ≡ true
   pub stays : (h k : ℕ) → h < 256 → k < n → inBed sets h k ≡ true → (inBed sets′ h k ≡ true) ⊎ (isAwake sets′ k ≡ true)
   pub wakes : (h k : ℕ) → h < 256 → k < n → which h k → inBed sets h k ≡ true → isAwake sets′ k ≡ true

@@ -18,9 +18,9 @@ ghost use Rattle.match_order.specs.Order.{Ranked, placeOf};
 use match_rule::Tried;
 
 // The words that a run keeps of its rules: of at most 64, which cost little to clear, and of the most that an image can have.
-pub const SMALL_SETS: usize = 304;
+pub const SMALL_SETS: usize = 308;
 
-pub const LARGE_SETS: usize = 1072;
+pub const LARGE_SETS: usize = 1076;
 
 // The bed for a word of the state and the value wanted there.
 fn bed(place: usize, value: u16) -> usize
@@ -37,7 +37,7 @@ fn wake_bed(sets: &mut [u64], n: usize, h: usize)
 {
     let mut w = 0;
     while 64 * w < n {
-        let at = 48 + 256 * w + h;
+        let at = 52 + 256 * w + h;
         sets[w] = sets[w] | sets[at];
         sets[at] = 0;
         w += 1;
@@ -77,7 +77,7 @@ fn wake_all(sets: &mut [u64], n: usize, state: &[u16], mark: u16)
 
 // Of rules 64 w to 64 w + 63, those that test a marked buffer.
 fn touched(sets: &[u64], w: usize, mark: u16) -> u64
-    requires { ⌜ (w < 4) × (304 ≤ length (now sets)) ⌝ }
+    requires { ⌜ (w < 4) × (308 ≤ length (now sets)) ⌝ }
     ensures { λ r. ⌜ Touches (now (sets .entry)) w mark 8 r ⌝ }
 {
     let mut all = 0;
@@ -94,18 +94,18 @@ fn touched(sets: &[u64], w: usize, mark: u16) -> u64
 
 // Rule k goes to sleep in the bed for a word of the state and the value wanted there.
 fn lay_down(sets: &mut [u64], k: usize, place: usize, value: u16)
-    requires { ⌜ (k < 256) × (place < 80) × (304 + 256 * (k / 64) ≤ length (now sets)) ⌝ }
+    requires { ⌜ (k < 256) × (place < 80) × (308 + 256 * (k / 64) ≤ length (now sets)) ⌝ }
     ensures { λ _. ⌜ Lain k place value (now (sets .entry)) (now (sets .exit)) ⌝ }
 {
     let h = bed(place, value);
-    match_sets::put(sets, 48 + 255 * (k / 64) + h, k);
+    match_sets::put(sets, 52 + 255 * (k / 64) + h, k);
     match_sets::put(sets, 40 + place / 10, place % 10);
     match_sets::remove(sets, 0, k);
 }
 
 // What a match of rule k gave is noted: whether it matches, by its place in the order; and it sleeps if one word of the state told that it does not.
 fn settle(sets: &mut [u64], order: &[u16], k: usize, tried: Tried)
-    requires { ⌜ (k < 256) × (2 * k + 2 ≤ length (now order)) × (placeOf (now order) k < 256) × (304 + 256 * (k / 64) ≤ length (now sets)) × LowPlace tried ⌝ }
+    requires { ⌜ (k < 256) × (2 * k + 2 ≤ length (now order)) × (placeOf (now order) k < 256) × (308 + 256 * (k / 64) ≤ length (now sets)) × LowPlace tried ⌝ }
     ensures { λ _. ⌜ Settled tried k (placeOf (now (order .entry)) k) (now (sets .entry)) (now (sets .exit)) ⌝ }
 {
     let at = order[2 * k + 1] as usize;
@@ -181,15 +181,17 @@ pub fn renew(
     wake_all(sets, n, state, mark);
     let mut w = 0;
     while 64 * w < n {
-        let todo = touched(sets, w, mark) & sets[w];
+        let all = touched(sets, w, mark);
+        let todo = all & sets[w];
         visit_all(table, sets, order, heads, words, state, w, todo);
+        sets[48 + w] = sets[48 + w] | all;
         w += 1;
     }
 }
 
 // All rules are awake.
 fn lay_awake(sets: &mut [u64])
-    requires { ⌜ 304 ≤ length (now sets) ⌝ }
+    requires { ⌜ 308 ≤ length (now sets) ⌝ }
     ensures { λ _. ⌜ ((j i : ℕ) → j < 4 → i < 64 → has (now (sets .exit)) j i ≡ true) × ((j i : ℕ) → 4 ≤ j → has (now (sets .exit)) j i ≡ has (now (sets .entry)) j i) ⌝ }
 {
     let mut w = 0;
@@ -201,7 +203,7 @@ fn lay_awake(sets: &mut [u64])
 
 // Rule k tests the buffers of a mask.
 fn lay_tester(sets: &mut [u64], k: usize, mask: u16)
-    requires { ⌜ (k < 256) × (304 ≤ length (now sets)) ⌝ }
+    requires { ⌜ (k < 256) × (308 ≤ length (now sets)) ⌝ }
     ensures { λ _. ⌜ Joins k mask 8 (now (sets .entry)) (now (sets .exit)) ⌝ }
 {
     let mut rest = mask as u64 % 256;
@@ -216,7 +218,7 @@ fn lay_tester(sets: &mut [u64], k: usize, mask: u16)
 
 // The testers of n rules.
 fn lay_testers(sets: &mut [u64], heads: &[u16], n: usize)
-    requires { ⌜ (n ≤ 256) × (304 ≤ length (now sets)) × (4 * n ≤ length (now heads)) × ((j i : ℕ) → 8 ≤ j → j < 40 → has (now sets) j i ≡ false) ⌝ }
+    requires { ⌜ (n ≤ 256) × (308 ≤ length (now sets)) × (4 * n ≤ length (now heads)) × ((j i : ℕ) → 8 ≤ j → j < 40 → has (now sets) j i ≡ false) ⌝ }
     ensures { λ _. ⌜ Testing (now (heads .entry)) n (now (sets .exit)) × ((j i : ℕ) → (8 ≤ j → j < 40 → ⊥) → has (now (sets .exit)) j i ≡ has (now (sets .entry)) j i) ⌝ }
 {
     let mut k = 0;

@@ -5,7 +5,7 @@ ghost use Prim.Native.Nat.{ℕ, _+_, _/_, _%_, _≤_, _<_};
 ghost use lib.Dec.{eqb};
 ghost use lib.ListN.{length};
 ghost use Rattle.meaning.specs.Base.{bit};
-ghost use Rattle.match_sets.specs.Sets.{has};
+ghost use Rattle.match_sets.specs.Sets.{has, member};
 
 // The number of the lowest bit that is set in x.
 pub fn lowest(x: u64) -> usize
@@ -48,4 +48,12 @@ pub fn remove(sets: &mut [u64], at: usize, k: usize)
 {
     let j = at + k / 64;
     sets[j] = without(sets[j], k % 64);
+}
+
+// Whether number k is in the set that starts at word `at`.
+pub fn holds(sets: &[u64], at: usize, k: usize) -> bool
+    requires { ⌜ at + k / 64 < length (now sets) ⌝ }
+    ensures { λ r. ⌜ r ≡ member (now (sets .entry)) at k ⌝ }
+{
+    (sets[at + k / 64] >> (k % 64)) % 2 == 1
 }

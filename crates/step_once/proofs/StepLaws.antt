@@ -1,6 +1,6 @@
 -- A step by its cases: what each answer of the code needs to be the step that the definitions give.
 use Prim.Native.Nat.{ℕ, zero, suc, _+_, _-_, _*_, _≤_, _<_}
-use mathlib.Core.Path.{_≡_, refl, sym, _∙_}
+use mathlib.Core.Path.{_≡_, refl, sym, ap, _∙_}
 use mathlib.Core.Bool.{Bool, true, false}
 use mathlib.Core.List.{List, []}
 use native.Mathlib.Omega.{arith}
@@ -37,23 +37,25 @@ rule-below e h = rw e at h
 stopped : {step : meaning.Step} {w : List ℕ} {clock : ℕ} (number : ℕ) → step ≡ meaning.Stopped number → StepMet step (Stopped number) w w clock
 stopped number e = record { is-step = sym e; kept = λ _ _. refl; clock-fits = tt }
 
--- ---- a firing, with the nine words that the code has of the chosen entry, and its word on whether they are fresh
+-- ---- a firing, with the code's word on whether the chosen entry is fresh
 
-module _ (failure : ℕ) (memory : List Fact) (c : Candidate) (w : List ℕ) (clock : ℕ) {nine : List ℕ} (part : nine ≡ c .entry) {fresh : Bool}
-    (f : fresh ≡ same nine (entryOf (c .rule) (stateIn w clock))) where
+module _ (failure : ℕ) (memory : List Fact) (c : Candidate) (w : List ℕ) (clock : ℕ) {fresh : Bool} (f : fresh ≡ same (c .entry) (entryOf (c .rule) (stateIn w clock))) where
   pub not-fresh : fresh ≡ false → StepMet (meaning.fireStep failure memory (stateIn w clock) c) (Stopped numbers.not-fresh) w w clock
   unfolding meaning.fireStep
-  not-fresh e = stopped numbers.not-fresh (rw (← part, ← f, e))
+  not-fresh e = stopped numbers.not-fresh (rw (← f, e))
 
   pub full : fresh ≡ true → meaning.largest < clock + 50 → StepMet (meaning.fireStep failure memory (stateIn w clock) c) (Stopped numbers.clock-full) w w clock
   unfolding meaning.fireStep fire
-  full e h = stopped numbers.clock-full (rw (← part, ← f, e, lt-leb (clock + 50) meaning.largest h))
+  full e h = stopped numbers.clock-full (rw (← f, e, lt-leb (clock + 50) meaning.largest h))
 
-  pub fired : fresh ≡ true → clock + 50 ≤ meaning.largest → (mark : ℕ) (w′ : List ℕ)
+  -- fired with nine words that are the chosen entry's
+  pub fired : fresh ≡ true → clock + 50 ≤ meaning.largest → {nine : List ℕ} → nine ≡ c .entry → (mark : ℕ) (w′ : List ℕ)
       → stateIn w′ (clock + 50) ≡ fire failure memory (c .rule) nine (stateIn w clock) → mark ≡ markOf (c .rule .actions) (stateIn w clock) (stateIn w′ (clock + 50))
       → StepMet (meaning.fireStep failure memory (stateIn w clock) c) (Fired (c .number) mark) w w′ clock
   unfolding meaning.fireStep
-  fired e h mark w′ s m = record { is-step = rw (← part, ← f, e, ← s, m, le-leb (clock + 50) meaning.largest h); kept = λ number z. (cc); clock-fits = h }
+  fired e h part mark w′ s m =
+      let state = s ∙ ap (λ (nine : List ℕ). fire failure memory (c .rule) nine (stateIn w clock)) part in
+      record { is-step = rw (← f, e, ← state, m, le-leb (clock + 50) meaning.largest h); kept = λ number z. (cc); clock-fits = h }
 
 -- ---- a wait
 

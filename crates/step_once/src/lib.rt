@@ -13,7 +13,8 @@ ghost use Rattle.layout.specs.Plans.{factsOn, headsOn, rowsOn, modelOn, Planned
 ghost use Rattle.match_choice.specs.Chosen.{candidateAt};
 ghost use Rattle.step_retrieve.specs.Chains.{ChainsOn};
 ghost use Rattle.step_once.specs.Done.{StepMet};
-ghost use Rattle.step_once.specs.Choosing.{RankedOn, HittingOn};
+ghost use Rattle.step_once.specs.Choosing.{ruleOn, RankedOn, HittingOn, SureOn};
+ghost use Rattle.match_rest.specs.Rest.{entryAt};
 use layout::ENTRY_WORDS;
 use layout::HEAD_WORDS;
 use layout::Plan;
@@ -41,6 +42,29 @@ fn is_fresh(nine: &[u16], words: &[u16], o: usize, n: usize, state: &[u16]) -> b
     match_rule::same_entry(nine, &fresh)
 }
 
+// Whether the nine words of rule k are its fresh entry: as a step of this call left them, or held against the fresh ones.
+fn chosen_fresh(
+    table: &[u16],
+    sets: &[u64],
+    k: usize,
+    plan: Plan,
+    tape: &[u16],
+    state: &[u16],
+) -> bool
+    requires { ⌜ Planned plan (now tape) × (k < plan .rules) × (length (now table) ≡ 9 * plan .rules) × (80 ≤ length (now state)) × SureOn plan (now tape) (now state) (now table) (now sets) ⌝ }
+    ensures { λ b. ⌜ ((clock : ℕ) → b ≡ same (entryAt (now (table .entry)) k) (entryOf (ruleOn plan (now (tape .entry)) k) (stateIn (now (state .entry)) clock))) ⌝ }
+{
+    if match_sets::holds(sets, 48, k) {
+        return true;
+    }
+    let heads = plan.heads;
+    let rows = plan.rows;
+    let tests = tape[heads + HEAD_WORDS * k] as usize;
+    let a = ENTRY_WORDS * k;
+    let e = a + ENTRY_WORDS;
+    is_fresh(&table[a..e], &tape[rows..], RULE_WORDS * k, tests, state)
+}
+
 // Fires rule k with its nine words of the table, unless these are not its fresh entry or the clock would pass its limit.
 fn fire_step(
     state: &mut [u16],
@@ -49,18 +73,13 @@ fn fire_step(
     k: usize,
     plan: Plan,
     tape: &[u16],
+    sets: &[u64],
 ) -> StepDone
-    requires { ⌜ Planned plan (now tape) × (k < plan .rules) × (length (now table) ≡ 9 * plan .rules) × (80 ≤ length (now state)) × ChainsOn plan (now tape) ⌝ }
-    ensures { λ r. ⌜ StepMet (fireStep (plan .failure) (factsOn plan (now (tape .entry))) (stateIn (now (state .entry)) clock) (candidateAt (headsOn plan (now (tape .entry))) (rowsOn plan (now (tape .entry))) (now (table .entry)) k)) r (now (state .entry)) (now (state .exit)) clock ⌝ }
+    requires { ⌜ Planned plan (now tape) × (k < plan .rules) × (length (now table) ≡ 9 * plan .rules) × (80 ≤ length (now state)) × ChainsOn plan (now tape) × SureOn plan (now tape) (now state) (now table) (now sets) ⌝ }
+    ensures { λ r. ⌜ StepMet (fireStep (plan .failure) (factsOn plan (now (tape .entry))) (stateIn (now (state .entry)) clock)
+        (candidateAt (headsOn plan (now (tape .entry))) (rowsOn plan (now (tape .entry))) (now (table .entry)) k)) r (now (state .entry)) (now (state .exit)) clock ⌝ }
 {
-    let heads_at = plan.heads;
-    let heads = &tape[heads_at..];
-    let rows_at = plan.rows;
-    let rows = &tape[rows_at..];
-    let a = ENTRY_WORDS * k;
-    let e = a + ENTRY_WORDS;
-    let tests = heads[HEAD_WORDS * k] as usize;
-    let stale = !is_fresh(&table[a..e], rows, RULE_WORDS * k, tests, state);
+    let stale = !chosen_fresh(table, sets, k, plan, tape, state);
     let full = 4294967245 < clock;
     if stale {
         return StepDone::Stopped(NOT_FRESH);
@@ -68,8 +87,11 @@ fn fire_step(
     if full {
         return StepDone::Stopped(CLOCK_FULL);
     }
+    let heads = plan.heads;
+    let actions = tape[heads + HEAD_WORDS * k + 1] as usize;
     let o = RULE_WORDS * k + SIDE_WORDS;
-    let actions = heads[HEAD_WORDS * k + 1] as usize;
+    let a = ENTRY_WORDS * k;
+    let e = a + ENTRY_WORDS;
     let mark = step_fire::fire(state, plan, tape, o, actions, &table[a..e]);
     StepDone::Fired(k as u16, mark)
 }
@@ -99,12 +121,13 @@ pub fn step(
     tape: &[u16],
     sets: &[u64],
 ) -> StepDone
-    requires { ⌜ Planned plan (now tape) × (length (now table) ≡ 9 * plan .rules) × (80 ≤ length (now state)) × ChainsOn plan (now tape) × RankedOn plan (now tape) × HittingOn plan (now tape) (now table) (now sets) ⌝ }
+    requires { ⌜ Planned plan (now tape) × (length (now table) ≡ 9 * plan .rules) × (80 ≤ length (now state)) × ChainsOn plan (now tape)
+        × RankedOn plan (now tape) × HittingOn plan (now tape) (now table) (now sets) × SureOn plan (now tape) (now state) (now table) (now sets) ⌝ }
     ensures { λ r. ⌜ StepMet (stepOf (modelOn plan (now (tape .entry))) (stateIn (now (state .entry)) clock) (now (table .entry))) r (now (state .entry)) (now (state .exit)) clock ⌝ }
 {
     let order = plan.order;
     match match_order::pick(sets, &tape[order..], plan.rules as usize) {
-        Chosen::Rule(k) => fire_step(state, clock, table, k, plan, tape),
+        Chosen::Rule(k) => fire_step(state, clock, table, k, plan, tape, sets),
         Chosen::NoRule => wait_step(state, clock),
     }
 }

@@ -28,7 +28,7 @@ slice-aggregate-run-on-2 c = search needs
 run-on-requires : tie.Need-run-on-requires
 run-on-requires c κs =
     let b = begun (c .before .before .before .before) .begin .ensures in
-    (b, search needs, roomy-small _ (omega (arith, b .long, c .before .before .before .before .if1 .taken)), no-bit 304)
+    (b, search needs, roomy-small _ (omega (arith, b .long, c .before .before .before .before .if1 .taken)), no-bit 308)
 
 same-length : tie.Need-same-length
 same-length c = search needs
@@ -49,7 +49,7 @@ slice-aggregate-run-on-4 c = search needs
 run-on-requires-2 : tie.Need-run-on-requires-2
 run-on-requires-2 c κs =
     let b = begun-2 (c .before .before .before .before) .begin .ensures in
-    (b, search needs, roomy-large _ (b .few-rules), no-bit 1072)
+    (b, search needs, roomy-large _ (b .few-rules), no-bit 1076)
 
 same-length-3 : tie.Need-same-length-3
 same-length-3 c = search needs

@@ -56,7 +56,7 @@ returns c words state =
     let s = start (h .before) in
     let size = a .lay-awake .kept .0 ∙ t .lay-testers .kept .0 ∙ h .lay-hits .kept .0 in
     laid-to-rest (s .args .heads .now) words (s .args .order .now) (s .args .n) state (s .args .table .now) (s .args .sets .now) _ _ _ (s .pre .0) size (s .pre .1)
-    (h .lay-hits .ensures .0)
+    (s .pre .4) (h .lay-hits .ensures .0) (h .lay-hits .ensures .1)
     (t .lay-testers .ensures .0) (t .lay-testers .ensures .1)
     (a .lay-awake .ensures .0) (a .lay-awake .ensures .1)
 

@@ -69,7 +69,7 @@ loop-again c =
     let l = c .before .before .before .loop in
     let start = c .before .before .before .before in
     let args = start .args in
-    let room : 48 + 256 * l .w + args .h < length (l .sets) = omega (arith, start .pre .0 .beds (64 * l .w) (c .before .before .loop-test .taken), l .inv .1 .size, start .pre .1) in
+    let room : 52 + 256 * l .w + args .h < length (l .sets) = omega (arith, start .pre .0 .beds (64 * l .w) (c .before .before .loop-test .taken), l .inv .1 .size, start .pre .1) in
     let word = woke-word (args .n) (l .w) (args .h) (l .sets) (start .pre .1) room (omega (arith, start .pre .0 .few)) (start .pre .0 .few) in
     (search needs, woke-both (args .n) _ (Word (l .w) (args .h)) _ (args .sets .now) (l .sets) _ (l .inv .1) word (λ g k x. earlier-or (args .h) (l .w) g k x))
 

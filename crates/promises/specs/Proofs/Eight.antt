@@ -13,7 +13,7 @@ use Rattle.meaning.specs.Wait.{wait}
 use Rattle.meaning.specs.Step.{Event, Fired, Waited, Made, stepOf}
 use Rattle.meaning.specs.Calls.{opens, openState}
 use Rattle.promises.specs.Proofs.Decoded.{Decoded}
-use Rattle.promises.specs.Proofs.Marks.{length-change}
+use Rattle.laws.specs.MarkLaws.{length-change}
 use Rattle.promises.specs.Proofs.Steps.{FiredBy, WaitedBy, step-fired, step-waited}
 
 abbrev pub Eight : State → Type 0

@@ -23,7 +23,7 @@ use Rattle.meaning.specs.Step.{Event, Fired, Waited, Made, step}
 use Rattle.laws.specs.BaseLaws.{and-left, and-right, every-member}
 use Rattle.laws.specs.ChoiceLaws.{Chosen, choose-best}
 use Rattle.promises.specs.Words.{At, Matching}
-use Rattle.promises.specs.Proofs.Marks.{getD-change}
+use Rattle.laws.specs.MarkLaws.{getD-change}
 use Rattle.promises.specs.Proofs.Selection.{Stands, candidate-stands, first-word, at-same}
 use Rattle.promises.specs.Proofs.Steps.{FiredBy, WaitedBy, step-fired, step-waited}
 

@@ -12,7 +12,8 @@ use Rattle.meaning.specs.Choice.{utilities}
 use Rattle.meaning.specs.Step.{Event, Step, Stopped, Made, stepOf}
 use Rattle.meaning.specs.Refresh.{refresh}
 use Rattle.promises.specs.Words.{Reached}
-use Rattle.promises.specs.Proofs.Marks.{Marks, StepMarks, step-marks, refresh-fresh}
+use Rattle.laws.specs.MarkLaws.{Marks}
+use Rattle.promises.specs.Proofs.Marks.{StepMarks, step-marks, refresh-fresh}
 use Rattle.promises.specs.Proofs.Steps.{no-made}
 use Rattle.promises.specs.Proofs.Chains.{chain-keeps}
 

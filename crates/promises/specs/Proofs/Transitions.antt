@@ -28,7 +28,7 @@ use Rattle.laws.specs.ChoiceLaws.{choose-best}
 use Rattle.promises.specs.Words.{At}
 use Rattle.promises.specs.Published.{Binds, Selected, NoneSelected, Aged, Applied, LeastDelay, Passed, Transition, apply, no-rule, Final}
 use Rattle.promises.specs.Proofs.Decoded.{Decoded, rises, goodDeed, goodAction, goodRule}
-use Rattle.promises.specs.Proofs.Marks.{getD-change, length-change}
+use Rattle.laws.specs.MarkLaws.{getD-change, length-change}
 use Rattle.promises.specs.Proofs.Selection.{Stands, candidate-stands, fresh-entry-at, chosen-selected, chosen-none, selected-once}
 use Rattle.promises.specs.Proofs.Steps.{fire-fresh}
 use Rattle.promises.specs.Proofs.WellFormed.{all-at}

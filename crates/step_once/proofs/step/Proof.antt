@@ -76,7 +76,7 @@ fire-step-requires c κs =
     let k = fires c in
     let picked = k .before .before in
     let s = begun picked in
-    (s .pre .0, rule-below (k .k .given .1) (chosen picked .1), s .pre .1, s .pre .2, s .pre .3)
+    (s .pre .0, rule-below (k .k .given .1) (chosen picked .1), s .pre .1, s .pre .2, s .pre .3, s .pre .6)
 
 enum-told : tie.Need-enum-told
 enum-told c = search needs

@@ -99,7 +99,8 @@ step-requires c κs =
     let pre = start at .pre in
     let turning = at .loop .inv in
     let rests = turning .rests in
-    (pre .0, turning .table-size, omega (arith, turning .state-size, pre .2), pre .3 .chains, pre .3 .order, (omega (arith, rests .roomy .least), rests .hitting))
+    let room = rests .lying .roomy .least in
+    (pre .0, turning .table-size, omega (arith, turning .state-size, pre .2), pre .3 .chains, pre .3 .order, (omega (arith, room), rests .lying .hitting), (omega (arith, room), rests .sure))
 
 tell-requires : tie.Need-tell-requires Inv-loop μ-loop
 tell-requires c κs = search needs
