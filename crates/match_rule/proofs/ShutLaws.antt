@@ -1,17 +1,17 @@
 -- Where a word of the state has not the value that a test wants, the tests are given up, whatever the variables are.
-use Prim.Native.Nat.{ℕ, zero, suc, _+_, _-_, _*_, _/_, _%_, _^_, _≤_, _<_}
+use Prim.Native.Nat.{ℕ, zero, suc, _+_, _-_, _*_, _%_, _≤_, _<_}
 use mathlib.Core.Path.{_≡_, refl, sym, ap, _∙_}
 use mathlib.Core.Bool.{Bool, true, false}
 use mathlib.Core.List.{List}
 use native.Mathlib.Omega.{arith}
 use native.Mathlib.Decide.{ℕ-discrete}
-use lib.Bits.{bitAnd}
 use lib.ListN.{getD, replicate}
 use borrow.Author.Tests.{lt-ltb, le-ltb, ne-eqb}
 use Rattle.meaning.specs.declared.Buffer.{Buffer}
 use Rattle.meaning.specs.Base.{if_then_else_}
 use Rattle.meaning.specs.Model.{Rule}
 use Rattle.meaning.specs.State.{nothing}
+use Rattle.meaning.specs.Image.{names}
 use Rattle.meaning.specs.Match.{entryOf}
 use Rattle.laws.specs.BaseLaws.{by-lt}
 use Rattle.layout.specs.Rows.{wordTerm, testIn, testsIn}
@@ -25,7 +25,7 @@ use Rattle.match_rule.proofs.Link.{entry-words}
 
 -- ---- a slot that must have a symbol and has not
 
-module _ (w xs : List ℕ) (q m b : ℕ) (h : b < 8) (named : bitAnd (m / 2 ^ (7 - b)) 1 ≡ 1) (symbol : getD w (q + 3 + b) 0 < 4096) (differs : getD xs b 0 ≡ getD w (q + 3 + b) 0 → ⊥) where
+module _ (w xs : List ℕ) (q m b : ℕ) (h : b < 8) (named : names m b ≡ true) (symbol : getD w (q + 3 + b) 0 < 4096) (differs : getD xs b 0 ≡ getD w (q + 3 + b) 0 → ⊥) where
   -- the slots from i on, of which slot b is one
   given-up : (d i : ℕ) → i + d ≡ b → (v : Vars) (k : Vars → Run) → thenOn (termsRun xs (left w q m i) v) k ≡ stop
   unfolding termRun
@@ -33,15 +33,15 @@ module _ (w xs : List ℕ) (q m b : ℕ) (h : b < 8) (named : bitAnd (m / 2 ^ (7
       let same : i ≡ b = omega arith in
       rw same (sym (slot-over w xs q m b v k h named false v (rw (lt-ltb (getD w (q + 3 + b) 0) 4096 symbol, ne-eqb (getD xs b 0) (getD w (q + 3 + b) 0) differs)) refl))
   given-up (suc d) i e v k =
-      elim (ℕ-discrete (bitAnd (m / 2 ^ (7 - i)) 1) 1) [
-        | yes z ↦ (
+      (elim (names m i) as (λ (t : Bool). names m i ≡ t → thenOn (termsRun xs (left w q m i) v) k ≡ stop) [
+        | true ↦ λ z. (
             elim (termRun (getD xs i 0) (wordTerm (getD w (q + 3 + i) 0)) v) as
             (λ (r : Run). r ≡ termRun (getD xs i 0) (wordTerm (getD w (q + 3 + i) 0)) v → thenOn (termsRun xs (left w q m i) v) k ≡ stop) [
               | stop ↦ λ s. sym (slot-over w xs q m i v k (omega arith) z false v s refl)
               | on u ↦ λ s. sym (slot-on w xs q m i v k (omega arith) z true u s u refl refl) ∙ given-up d (i + 1) (omega arith) u k
             ]) refl
-        | no z ↦ sym (slot-skip w xs q m i v k (omega arith) v refl z) ∙ given-up d (i + 1) (omega arith) v k
-      ]
+        | false ↦ λ z. sym (slot-skip w xs q m i v k (omega arith) v refl z) ∙ given-up d (i + 1) (omega arith) v k
+      ]) refl
 
 -- ---- a test that does not hold, with any variables
 
@@ -63,7 +63,7 @@ module _ (w st : List ℕ) (o n i q : ℕ) (at : q ≡ o + 11 * i) (h : i < n) w
         | no d ↦ still-pending d v
       ]
 
-  pub other-symbol : (b : ℕ) → b < 8 → bitAnd (getD w (q + 2) 0 / 2 ^ (7 - b)) 1 ≡ 1 → getD w (q + 3 + b) 0 < 4096 → (getD st (10 * buffer + 1 + b) 0 ≡ getD w (q + 3 + b) 0 → ⊥) → (v : Vars)
+  pub other-symbol : (b : ℕ) → b < 8 → names (getD w (q + 2) 0) b ≡ true → getD w (q + 3 + b) 0 < 4096 → (getD st (10 * buffer + 1 + b) 0 ≡ getD w (q + 3 + b) 0 → ⊥) → (v : Vars)
       → come v ≡ stop
   other-symbol b l named symbol z v =
       let xs : List ℕ = getD (buffersIn st) buffer nothing .slots in
@@ -108,7 +108,7 @@ module _ (w : List ℕ) (o n i q : ℕ) (at : q ≡ o + 11 * i) (h : i < n) (r :
   pub type-shuts : Shuts r (10 * (getD w q 0 % 8)) (getD w (q + 1) 0)
   type-shuts st clock z = shut st clock (other-type w st o n i q at h z)
 
-  pub symbol-shuts : (b : ℕ) → b < 8 → bitAnd (getD w (q + 2) 0 / 2 ^ (7 - b)) 1 ≡ 1 → getD w (q + 3 + b) 0 < 4096 → Shuts r (10 * (getD w q 0 % 8) + 1 + b) (getD w (q + 3 + b) 0)
+  pub symbol-shuts : (b : ℕ) → b < 8 → names (getD w (q + 2) 0) b ≡ true → getD w (q + 3 + b) 0 < 4096 → Shuts r (10 * (getD w q 0 % 8) + 1 + b) (getD w (q + 3 + b) 0)
   symbol-shuts b l named symbol st clock z = shut st clock (other-symbol w st o n i q at h b l named symbol z)
 
 -- ---- and the word at which the match was given up is one of them
@@ -120,7 +120,7 @@ module _ (w st : List ℕ) (o n i q : ℕ) (at : q ≡ o + 11 * i) (h : i < n) w
   pub because-type : (getD st (10 * (getD w q 0 % 8)) 0 ≡ getD w (q + 1) 0 → ⊥) → Differing w o n st (10 * (getD w q 0 % 8)) (getD w (q + 1) 0)
   because-type z = record { low = omega arith; delay = λ d. absurd (omega arith); differs = z; shuts = λ r e. type-shuts w o n i q at h r e }
 
-  pub because-slot : (b : ℕ) → b < 8 → bitAnd (getD w (q + 2) 0 / 2 ^ (7 - b)) 1 ≡ 1
+  pub because-slot : (b : ℕ) → b < 8 → names (getD w (q + 2) 0) b ≡ true
       → (getD w (q + 3 + b) 0 < 4096 → getD st (10 * (getD w q 0 % 8) + 1 + b) 0 ≡ getD w (q + 3 + b) 0 → ⊥)
       → Because (whyOf (10 * (getD w q 0 % 8) + 1 + b) (getD w (q + 3 + b) 0)) w o n st
   because-slot b l named differs =

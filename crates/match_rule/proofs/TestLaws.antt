@@ -1,19 +1,19 @@
 -- Laws of the match for a loop over tests with one over mask bits inside.
-use Prim.Native.Nat.{ℕ, zero, suc, _+_, _*_, _-_, _/_, _%_, _^_, _≤_, _<_}
+use Prim.Native.Nat.{ℕ, zero, suc, _+_, _*_, _-_, _%_, _≤_, _<_}
 use mathlib.Core.Path.{_≡_, refl, sym, ap, _∙_}
 use mathlib.Core.Bool.{Bool, true, false}
 use mathlib.Core.List.{List, [], _∷_, map}
 use native.Mathlib.Omega.{arith}
 use lib.ListN.{length, getD}
-use lib.Bits.{bitAnd}
 use borrow.Author.Tests.{eq-eqb, ne-eqb}
 use Rattle.meaning.specs.declared.Buffer.{Buffer}
 use Rattle.meaning.specs.Base.{if_then_else_}
 use Rattle.meaning.specs.Model.{Named, Test}
 use Rattle.meaning.specs.State.{nothing}
+use Rattle.meaning.specs.Image.{names}
 use Rattle.layout.specs.Rows.{rowsIn, wordTerm, namedIn, maskedIn, testIn, testsIn}
 use Rattle.layout.proofs.RowLaws.{rows-left}
-use Rattle.read_terms.proofs.MaskBits.{names-on, names-off, rest, rest-start, rest-on, rest-off, rest-end}
+use Rattle.read_terms.proofs.MaskBits.{rest, rest-start, rest-on, rest-off}
 use Rattle.match_rule.specs.Run.{Vars, Run, stop, on, thenOn, termRun, termsRun, testRun, testsRun}
 
 -- the named slots of a row from slot b on
@@ -21,17 +21,17 @@ unfoldable pub left : List ℕ → ℕ → ℕ → ℕ → List Named
 left w q m b = map (namedIn w q) (rest m b)
 
 module _ (w : List ℕ) (q m b : ℕ) (h : b < 8) where
-  left-on : bitAnd (m / 2 ^ (7 - b)) 1 ≡ 1 → left w q m b ≡ namedIn w q b ∷ left w q m (b + 1)
+  left-on : names m b ≡ true → left w q m b ≡ namedIn w q b ∷ left w q m (b + 1)
   unfolding left
-  left-on z = rw (rest-on m b h (names-on m b z))
+  left-on z = rw (rest-on m b h z)
 
-  left-off : (bitAnd (m / 2 ^ (7 - b)) 1 ≡ 1 → ⊥) → left w q m b ≡ left w q m (b + 1)
+  left-off : names m b ≡ false → left w q m b ≡ left w q m (b + 1)
   unfolding left
-  left-off z = rw (rest-off m b h (names-off m b z))
+  left-off z = rw (rest-off m b h z)
 
-left-end : (w : List ℕ) (q m b : ℕ) → 8 ≤ b → left w q m b ≡ []
+left-end : (w : List ℕ) (q m b : ℕ) → rest m b ≡ [] → left w q m b ≡ []
 unfolding left
-left-end w q m b h = rw (rest-end m b h)
+left-end w q m b h = rw h
 
 left-start : (w : List ℕ) (q m : ℕ) → maskedIn w q ≡ left w q (getD w (q + 2) 0) 0
 unfolding left
@@ -40,11 +40,11 @@ left-start w q m = rw (rest-start (getD w (q + 2) 0))
 -- ---- one slot
 
 module _ (w xs : List ℕ) (q m b : ℕ) (v : Vars) (k : Vars → Run) (h : b < 8) where
-  pub slot-skip : (v′ : Vars) → v′ ≡ v → (bitAnd (m / 2 ^ (7 - b)) 1 ≡ 1 → ⊥)
+  pub slot-skip : (v′ : Vars) → v′ ≡ v → names m b ≡ false
       → thenOn (termsRun xs (left w q m (b + 1)) v′) k ≡ thenOn (termsRun xs (left w q m b) v) k
   slot-skip v′ e z = rw (e, left-off w q m b h z)
 
-  module _ (z : bitAnd (m / 2 ^ (7 - b)) 1 ≡ 1) (r : Bool) (u : Vars) (er : (if r then on u else stop) ≡ termRun (getD xs b 0) (wordTerm (getD w (q + 3 + b) 0)) v) where
+  module _ (z : names m b ≡ true) (r : Bool) (u : Vars) (er : (if r then on u else stop) ≡ termRun (getD xs b 0) (wordTerm (getD w (q + 3 + b) 0)) v) where
     pub slot-on : (v′ : Vars) → v′ ≡ u → r ≡ true → thenOn (termsRun xs (left w q m (b + 1)) v′) k ≡ thenOn (termsRun xs (left w q m b) v) k
     unfolding termsRun
     slot-on v′ e o = rw (e, left-on w q m b h z, ← er, o)
@@ -53,7 +53,7 @@ module _ (w xs : List ℕ) (q m b : ℕ) (v : Vars) (k : Vars → Run) (h : b < 
     unfolding termsRun
     slot-over o = rw (left-on w q m b h z, ← er, o)
 
-pub slots-end : (w xs : List ℕ) (q m b : ℕ) (v : Vars) (k : Vars → Run) → 8 ≤ b → k v ≡ thenOn (termsRun xs (left w q m b) v) k
+pub slots-end : (w xs : List ℕ) (q m b : ℕ) (v : Vars) (k : Vars → Run) → rest m b ≡ [] → k v ≡ thenOn (termsRun xs (left w q m b) v) k
 unfolding termsRun
 slots-end w xs q m b v k h = rw (left-end w q m b h)
 

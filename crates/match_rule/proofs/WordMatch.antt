@@ -1,17 +1,17 @@
 -- The same laws with the state and the variables in words.
-use Prim.Native.Nat.{ℕ, zero, suc, _+_, _*_, _-_, _/_, _%_, _^_, _≤_, _<_}
+use Prim.Native.Nat.{ℕ, zero, suc, _+_, _*_, _-_, _%_, _≤_, _<_}
 use mathlib.Core.Path.{_≡_, refl, sym, ap, ap₂, _∙_}
 use mathlib.Core.Bool.{Bool, true, false}
 use mathlib.Core.List.{List, [], _∷_}
 use native.Mathlib.Omega.{arith}
 use lib.ListN.{length, getD, take, drop, set, length-drop}
 use lib.Seq.{getD-take, getD-drop, take-set-le, take-set-lt, drop-set-lt, drop-set-add}
-use lib.Bits.{bitAnd}
 use lib.Dec.{eqb, ltb}
 use borrow.Author.Tests.{lt-ltb, le-ltb, eq-eqb, ne-eqb}
 use Rattle.meaning.specs.declared.Buffer.{Buffer}
 use Rattle.meaning.specs.Base.{if_then_else_}
 use Rattle.meaning.specs.State.{nothing}
+use Rattle.meaning.specs.Image.{names}
 use Rattle.layout.specs.Rows.{wordTerm}
 use Rattle.layout.specs.StateWords.{bufferIn, buffersIn}
 use Rattle.layout.proofs.StateLaws.{buffer-is, slot-is}
@@ -101,10 +101,10 @@ module _ (w st : List ℕ) (q m b : ℕ) (v : Vars) (k : Vars → Run) (h : b < 
   less : getD w q 0 % 8 < 8
   less = omega arith
 
-  pub flat-skip : (v′ : Vars) → v′ ≡ v → (bitAnd (m / 2 ^ (7 - b)) 1 ≡ 1 → ⊥) → thenOn (termsRun xs (left w q m (b + 1)) v′) k ≡ thenOn (termsRun xs (left w q m b) v) k
+  pub flat-skip : (v′ : Vars) → v′ ≡ v → names m b ≡ false → thenOn (termsRun xs (left w q m (b + 1)) v′) k ≡ thenOn (termsRun xs (left w q m b) v) k
   flat-skip v′ e z = slot-skip w xs q m b v k h v′ e z
 
-  module _ (z : bitAnd (m / 2 ^ (7 - b)) 1 ≡ 1) (r : Bool) (u : Vars)
+  module _ (z : names m b ≡ true) (r : Bool) (u : Vars)
       (e : (if r then on u else stop) ≡ termRun (getD st (10 * kq + 1 + b) 0) (wordTerm (getD w (q + 3 + b) 0)) v) where
     e′ : (if r then on u else stop) ≡ termRun (getD xs b 0) (wordTerm (getD w (q + 3 + b) 0)) v
     e′ = e ∙ ap (λ (x : ℕ). termRun x (wordTerm (getD w (q + 3 + b) 0)) v) (sym (slot-is st kq b less h))

@@ -49,7 +49,7 @@ fn why(place: u16, term: u16) -> Tried
 }
 
 // Whether the n tests that stand in words from o on hold in a state, with the variables in vars, and why not;
-// at the first slot that differs the whole rule is given up.
+// at the first slot that differs the whole rule is given up. What is left of a mask has the bit of slot b at 128, and no slot is looked at once it is 0.
 fn match_tests(words: &[u16], o: usize, n: usize, state: &[u16], vars: &mut [u16]) -> Tried
     requires { ⌜ (o + 11 * n ≤ length (now words)) × (80 ≤ length (now state)) × (length (now vars) ≡ 16) × (varsIn (now vars) ≡ noVars) ⌝ }
     ensures { λ t. ⌜ (if isHit t then on (varsIn (now (vars .exit))) else stop) ≡ testsRun (buffersIn (now (state .entry))) (testsIn (now (words .entry)) o n) noVars ⌝ }
@@ -69,15 +69,16 @@ fn match_tests(words: &[u16], o: usize, n: usize, state: &[u16], vars: &mut [u16
             tried = Tried::Differs(p, words[q + 1]);
             break;
         }
-        let mask = words[q + 2];
+        let mut rest = words[q + 2] % 256;
         let mut b = 0;
-        while b < 8 {
-            if (mask >> (7 - b)) & 1 == 1 {
+        while rest != 0 {
+            if 128 <= rest {
                 if !match_term(vars, state[k + 1 + b], words[q + 3 + b]) {
                     tried = why(p + 1 + b as u16, words[q + 3 + b]);
                     break 'tests;
                 }
             }
+            rest = rest * 2 % 256;
             b += 1;
         }
         q += 11;

@@ -1,3 +1,4 @@
 -- Laws of masks and their terms.
 pub mod MaskBits
+pub mod MaskWalk
 pub mod TermLaws

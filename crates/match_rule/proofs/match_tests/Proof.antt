@@ -1,21 +1,20 @@
 -- `match_rule::match_tests` meets its contract: what is left of the rule, with the variables so far, gives what the whole gives.
 use Rattle.match_rule.proofs.ShutLaws.{because-pending, because-type, because-slot}
-use Rattle.match_rule.specs.Shut.{isHit, Because}
+use Rattle.match_rule.specs.Shut.{isHit}
 use Rattle.match_rule.specs.declared.Tried.{Tried}
-use Prim.Native.Nat.{ℕ, suc, _≤_, _<_, _-_, _*_, _+_, _%_}
-use mathlib.Core.Path.{_≡_, refl, sym, ap, _∙_}
+use Prim.Native.Nat.{ℕ, _≤_, _<_, _-_, _*_, _+_, _%_}
+use mathlib.Core.Path.{_≡_, refl, ap, _∙_}
 use Rattle.match_rule.specs.declared.Tried.the-variants.{Hit}
-use mathlib.Core.Bool.{Bool, true, false}
-use mathlib.Core.List.{List, _∷_}
+use mathlib.Core.List.{List}
 use mathlib.Core.Logic.{⊎-elim}
 use borrow.Author.Needs.{needs}
 use borrow.Author.Tests.{not-true, not-false}
 use native.Mathlib.Omega.{arith}
-use lib.ListN.{length, getD, length-set}
+use lib.ListN.{length, getD}
 use Rattle.meaning.specs.Base.{if_then_else_}
 use Rattle.meaning.specs.State.{nothing}
-use Rattle.meaning.specs.declared.Buffer.{Buffer}
 use Rattle.layout.specs.Rows.{testsIn}
+use Rattle.read_terms.proofs.MaskWalk.{Walk, walk-start, walk-next, walk-on, walk-off, walk-end}
 use Rattle.match_rule.specs.Run.{Vars, Run, stop, on, thenOn, termsRun, testsRun, noVars}
 use Rattle.match_rule.proofs.TestLaws.{left, testsFrom, slots-end, tests-end}
 use Rattle.layout.specs.StateWords.{buffersIn}
@@ -24,13 +23,17 @@ use Rattle.match_rule.proofs.WordMatch.{term-missed, why-stops, flat-pe
 use Rattle.match_rule.proofs.match_tests.Statement.{statement}
 use Rattle.match_rule.proofs.match_tests.Tie as tie
 
+-- what the tests after test i come to
+abbrev after : List ℕ → ℕ → ℕ → List ℕ → ℕ → Vars → Run
+after words o n state i u = testsRun (buffersIn state) (testsFrom words o (i + 1) (n - (i + 1))) u
+
 abbrev Inv-loop : tie.InvT-loop
-Inv-loop words o n state vars₀ q i tried₀ p k mask b₀ vars tried b = (tried ≡ Hit) × (b ≤ 8) × (length vars ≡ 16)
-    × (thenOn (termsRun (getD (buffersIn state) (getD words q 0 % 8) nothing .slots) (left words q mask b) (varsIn vars))
-    (λ u. testsRun (buffersIn state) (testsFrom words o (i + 1) (n - (i + 1))) u) ≡ testsRun (buffersIn state) (testsIn words o n) noVars)
+Inv-loop words o n state vars₀ q i tried₀ p k rest₀ b₀ vars tried rest b = (tried ≡ Hit) × Walk (getD words (q + 2) 0) b rest × (length vars ≡ 16)
+    × (thenOn (termsRun (getD (buffersIn state) (getD words q 0 % 8) nothing .slots) (left words q (getD words (q + 2) 0) b) (varsIn vars)) (after words o n state i)
+    ≡ testsRun (buffersIn state) (testsIn words o n) noVars)
 
 abbrev μ-loop : tie.MeasureT-loop
-μ-loop words o n state vars₀ q i tried₀ p k mask b₀ vars tried b = 8 - b
+μ-loop words o n state vars₀ q i tried₀ p k rest₀ b₀ vars tried rest b = 8 - b
 
 abbrev Inv-tests : tie.InvT-tests
 Inv-tests words o n state vars₀ q₀ i₀ tried₀ vars q i tried = (tried ≡ Hit) × (i ≤ n) × (q ≡ o + 11 * i) × (length vars ≡ 16)
@@ -39,11 +42,36 @@ Inv-tests words o n state vars₀ q₀ i₀ tried₀ vars q i tried = (tried ≡
 abbrev μ-tests : tie.MeasureT-tests
 μ-tests words o n state vars₀ q₀ i₀ tried₀ vars q i tried = n - i
 
+-- ---- the places of the code, each named once
+
+abbrev start : tie.At-tests Inv-loop μ-loop Inv-tests μ-tests → tie.Start Inv-loop μ-loop Inv-tests μ-tests
+start c = c .before .before .before .before
+
+abbrev turn : tie.After-shared-slice-known4 Inv-loop μ-loop Inv-tests μ-tests → tie.In-tests Inv-loop μ-loop Inv-tests μ-tests
+turn c = c .before .before
+
+abbrev visible : tie.After-shared-slice-known6 Inv-loop μ-loop Inv-tests μ-tests → tie.Else1 Inv-loop μ-loop Inv-tests μ-tests
+visible c = c .before .before
+
+abbrev typed : tie.At-loop Inv-loop μ-loop Inv-tests μ-tests → tie.Else2 Inv-loop μ-loop Inv-tests μ-tests
+typed c = c .before .before
+
+abbrev test : tie.At-loop Inv-loop μ-loop Inv-tests μ-tests → tie.In-tests Inv-loop μ-loop Inv-tests μ-tests
+test c = turn (visible (typed c .before) .before)
+
+abbrev named : tie.After-match-term Inv-loop μ-loop Inv-tests μ-tests → tie.Then3 Inv-loop μ-loop Inv-tests μ-tests
+named c = c .before .before .before .before
+
+-- a slot is left
+low : (c : tie.In-loop Inv-loop μ-loop Inv-tests μ-tests) → c .before .loop .b < 8
+low c = omega (arith, c .loop-test .taken, c .before .loop .inv .1 .small)
+
+-- ---- what is asked
+
 tests-holds : tie.Need-tests-holds Inv-loop μ-loop Inv-tests μ-tests
 tests-holds c =
     let start = c .before .before .before in
-    let args = start .args in
-    let e : args .n - 0 ≡ args .n = omega arith in
+    let e : start .args .n - 0 ≡ start .args .n = omega arith in
     (refl, search needs, search needs, start .pre .2, rw (e, start .pre .3))
 
 mul-p : tie.Need-mul-p Inv-loop μ-loop Inv-tests μ-tests
@@ -94,37 +122,27 @@ mul-t25 c = search needs
 shared-slice-read-t27 : tie.Need-shared-slice-read-t27 Inv-loop μ-loop Inv-tests μ-tests
 shared-slice-read-t27 c = search needs
 
-add-mask : tie.Need-add-mask Inv-loop μ-loop Inv-tests μ-tests
-add-mask c = search needs
+add-rest : tie.Need-add-rest Inv-loop μ-loop Inv-tests μ-tests
+add-rest c = search needs
 
-mul-mask : tie.Need-mul-mask Inv-loop μ-loop Inv-tests μ-tests
-mul-mask c = search needs
+mul-rest : tie.Need-mul-rest Inv-loop μ-loop Inv-tests μ-tests
+mul-rest c = search needs
 
-shared-slice-read-mask : tie.Need-shared-slice-read-mask Inv-loop μ-loop Inv-tests μ-tests
-shared-slice-read-mask c = search needs
+shared-slice-read-rest : tie.Need-shared-slice-read-rest Inv-loop μ-loop Inv-tests μ-tests
+shared-slice-read-rest c = search needs
 
 loop-holds : tie.Need-loop-holds Inv-loop μ-loop Inv-tests μ-tests
 loop-holds c =
-    let tests-at = c .before .before .before .before .before .before .before .before in
-    let l = tests-at .tests in
-    let args = tests-at .before .before .before .before .args in
-    let more = c .before .before .before .before .before .before .before .tests-test .taken in
-    let visible = c .before .before .before .before .if1 .left in
-    let typed = c .before .if2 .left in (
+    let typed = c .before in
+    let visible = visible (typed .before) in
+    let t = turn (visible .before) in
+    let l = t .before .tests in
+    let a = start (t .before) .args in (
       l .inv .0,
-      search needs,
+      walk-start _,
       l .inv .3,
-      flat-on (args .words .now) (args .state .now) (args .o) (args .n) (l .i) (l .q) (varsIn (l .vars)) (l .inv .2) more visible typed ∙ l .inv .4,
+      flat-on (a .words .now) (a .state .now) (a .o) (a .n) (l .i) (l .q) (varsIn (l .vars)) (l .inv .2) (t .tests-test .taken) (visible .if1 .left) (typed .if2 .left) ∙ l .inv .4,
     )
-
-sub-if3 : tie.Need-sub-if3 Inv-loop μ-loop Inv-tests μ-tests
-sub-if3 c = search needs
-
-cast-if3 : tie.Need-cast-if3 Inv-loop μ-loop Inv-tests μ-tests
-cast-if3 c = search needs
-
-shr-if3 : tie.Need-shr-if3 Inv-loop μ-loop Inv-tests μ-tests
-shr-if3 c = search needs
 
 add-match-term : tie.Need-add-match-term Inv-loop μ-loop Inv-tests μ-tests
 add-match-term c = search needs
@@ -179,6 +197,9 @@ shared-slice-read-why c = search needs
 why-requires : tie.Need-why-requires Inv-loop μ-loop Inv-tests μ-tests
 why-requires c κs = search needs
 
+mul-rest-2 : tie.Need-mul-rest-2 Inv-loop μ-loop Inv-tests μ-tests
+mul-rest-2 c = search needs
+
 add-b : tie.Need-add-b Inv-loop μ-loop Inv-tests μ-tests
 add-b c = search needs
 
@@ -187,28 +208,29 @@ loop-less c = search needs
 
 loop-again : tie.Need-loop-again Inv-loop μ-loop Inv-tests μ-tests
 loop-again c =
-    let at-tests = c .before .before .before .before .before .before .before .before .before .before .before in
-    let l = at-tests .tests in
-    let args = at-tests .before .before .before .before .args in
-    let m = c .before .before .loop in
-    let low = c .before .loop-test .taken in
-    let w = args .words .now in
-    let rest : Vars → Run = λ u. testsRun (buffersIn (args .state .now)) (testsFrom w (args .o) (l .i + 1) (args .n - (l .i + 1))) u in
+    let turn = c .before in
+    let m = turn .before .loop in
+    let t = test (turn .before) in
+    let l = t .before .tests in
+    let a = start (t .before) .args in
+    let w = a .words .now in
+    let mask = getD w (l .q + 2) 0 in
+    let next = walk-next (m .inv .1) (low turn) in
+    let after = after w (a .o) (a .n) (a .state .now) (l .i) in
     ⊎-elim
     (λ came.
-    let n : length (c .if3 .vars) ≡ 16 = ap length (came .8) ∙ came .4 .kept .0 ∙ m .inv .2 in
-    let hit = not-false _ (came .7 .left) in (
+    let n : length (c .if3 .vars) ≡ 16 = ap length (came .8) ∙ came .4 .kept .0 ∙ m .inv .2 in (
       m .inv .0,
-      search needs,
+      next,
       n,
-      flat-slot w (args .state .now) (l .q) (getD w (l .q + 2) 0) (m .b) (varsIn (m .vars)) rest low (came .0 .taken) (came .4 .result)
-          (varsIn (came .4 .last .0)) (came .4 .ensures) (varsIn (c .if3 .vars)) (ap varsIn (came .8)) hit ∙ m .inv .3,
+      flat-slot w (a .state .now) (l .q) mask (m .b) (varsIn (m .vars)) after (low turn) (walk-on (m .inv .1) (low turn) (came .0 .taken)) (came .4 .result)
+          (varsIn (came .4 .last .0)) (came .4 .ensures) (varsIn (c .if3 .vars)) (ap varsIn (came .8)) (not-false _ (came .7 .left)) ∙ m .inv .3,
     ))
     (λ came. (
       m .inv .0,
-      search needs,
+      next,
       ap length (came .1) ∙ m .inv .2,
-      flat-skip w (args .state .now) (l .q) (getD w (l .q + 2) 0) (m .b) (varsIn (m .vars)) rest low (varsIn (c .if3 .vars)) (ap varsIn (came .1)) (came .0 .left) ∙ m .inv .3,
+      flat-skip w (a .state .now) (l .q) mask (m .b) (varsIn (m .vars)) after (low turn) (varsIn (c .if3 .vars)) (ap varsIn (came .1)) (walk-off (m .inv .1) (low turn) (came .0 .left)) ∙ m .inv .3,
     ))
     (c .if3 .came)
 
@@ -223,17 +245,16 @@ tests-less c = search needs
 
 tests-again : tie.Need-tests-again Inv-loop μ-loop Inv-tests μ-tests
 tests-again c =
-    let at-tests = c .before .before .before .before .before .before .before .before .before .before in
-    let l = at-tests .tests in
-    let args = at-tests .before .before .before .before .args in
     let m = c .before .loop in
-    let w = args .words .now in
-    let rest : Vars → Run = λ u. testsRun (buffersIn (args .state .now)) (testsFrom w (args .o) (l .i + 1) (args .n - (l .i + 1))) u in (
+    let t = test (c .before) in
+    let l = t .before .tests in
+    let a = start (t .before) .args in
+    let w = a .words .now in (
       m .inv .0,
       search needs,
       search needs,
       m .inv .2,
-      slots-end w _ (l .q) _ (m .b) (varsIn (m .vars)) rest (c .loop-test .left) ∙ m .inv .3,
+      slots-end w _ (l .q) _ (m .b) (varsIn (m .vars)) (after w (a .o) (a .n) (a .state .now) (l .i)) (walk-end (m .inv .1) (omega arith)) ∙ m .inv .3,
     )
 
 same-length : tie.Need-same-length Inv-loop μ-loop Inv-tests μ-tests
@@ -242,10 +263,9 @@ same-length c = search needs
 returns : tie.Need-returns Inv-loop μ-loop Inv-tests μ-tests
 returns c =
     let l = c .before .tests in
-    let args = c .before .before .before .before .before .args in
-    let bs = buffersIn (args .state .now) in (
+    let a = start (c .before) .args in (
       ap (λ (t : Tried). if isHit t then on (varsIn (l .vars)) else stop) (l .inv .0)
-          ∙ tests-end (args .words .now) bs (args .o) (args .n) (l .i) (l .q) (varsIn (l .vars)) (c .tests-test .left) ∙ l .inv .4,
+          ∙ tests-end (a .words .now) (buffersIn (a .state .now)) (a .o) (a .n) (l .i) (l .q) (varsIn (l .vars)) (c .tests-test .left) ∙ l .inv .4,
       rw (l .inv .0) tt,
     )
 
@@ -254,11 +274,12 @@ same-length-2 c = search needs
 
 returns-2 : tie.Need-returns-2 Inv-loop μ-loop Inv-tests μ-tests
 returns-2 c =
-    let l = c .before .before .before .before .tests in
-    let args = c .before .before .before .before .before .before .before .before .args in
-    let more = c .before .before .before .tests-test .taken in (
-      flat-pending (args .words .now) (args .state .now) (args .o) (args .n) (l .i) (l .q) (varsIn (l .vars)) (l .inv .2) more (c .if1 .taken) ∙ l .inv .4,
-      because-pending (args .words .now) (args .state .now) (args .o) (args .n) (l .i) (l .q) (l .inv .2) more (c .if1 .taken),
+    let t = turn (c .before) in
+    let l = t .before .tests in
+    let a = start (t .before) .args in
+    let more = t .tests-test .taken in (
+      flat-pending (a .words .now) (a .state .now) (a .o) (a .n) (l .i) (l .q) (varsIn (l .vars)) (l .inv .2) more (c .if1 .taken) ∙ l .inv .4,
+      because-pending (a .words .now) (a .state .now) (a .o) (a .n) (l .i) (l .q) (l .inv .2) more (c .if1 .taken),
     )
 
 same-length-3 : tie.Need-same-length-3 Inv-loop μ-loop Inv-tests μ-tests
@@ -266,14 +287,14 @@ same-length-3 c = search needs
 
 returns-3 : tie.Need-returns-3 Inv-loop μ-loop Inv-tests μ-tests
 returns-3 c =
-    let at-tests = c .before .before .before .before .before .before .before .before in
-    let l = at-tests .tests in
-    let args = at-tests .before .before .before .before .args in
-    let more = c .before .before .before .before .before .before .before .tests-test .taken in
-    let visible = c .before .before .before .before .if1 .left in
-    let other = c .before .if2 .taken in (
-      flat-other (args .words .now) (args .state .now) (args .o) (args .n) (l .i) (l .q) (varsIn (l .vars)) (l .inv .2) more visible other ∙ l .inv .4,
-      because-type (args .words .now) (args .state .now) (args .o) (args .n) (l .i) (l .q) (l .inv .2) more other,
+    let other = c .before in
+    let visible = visible (other .before) in
+    let t = turn (visible .before) in
+    let l = t .before .tests in
+    let a = start (t .before) .args in
+    let more = t .tests-test .taken in (
+      flat-other (a .words .now) (a .state .now) (a .o) (a .n) (l .i) (l .q) (varsIn (l .vars)) (l .inv .2) more (visible .if1 .left) (other .if2 .taken) ∙ l .inv .4,
+      because-type (a .words .now) (a .state .now) (a .o) (a .n) (l .i) (l .q) (l .inv .2) more (other .if2 .taken),
     )
 
 same-length-4 : tie.Need-same-length-4 Inv-loop μ-loop Inv-tests μ-tests
@@ -281,22 +302,23 @@ same-length-4 c = search needs
 
 returns-4 : tie.Need-returns-4 Inv-loop μ-loop Inv-tests μ-tests
 returns-4 c =
-    let at-loop = c .before .before .before .before .before .before .before .before .before .before .before in
-    let m = at-loop .loop in
-    let at-tests = at-loop .before .before .before .before .before .before .before .before .before in
-    let l = at-tests .tests in
-    let args = at-tests .before .before .before .before .args in
-    let more = at-loop .before .before .before .before .before .before .before .before .tests-test .taken in
-    let low = c .before .before .before .before .before .before .before .before .before .before .loop-test .taken in
-    let named = c .before .before .before .before .before .before .before .before .before .if3 .taken in
-    let term = c .before .before .before .before .before .match-term in
-    let missed = not-true _ (c .before .before .if4 .taken) in
-    let w = args .words .now in
-    let rest : Vars → Run = λ u. testsRun (buffersIn (args .state .now)) (testsFrom w (args .o) (l .i + 1) (args .n - (l .i + 1))) u in
-    let because = because-slot w (args .state .now) (args .o) (args .n) (l .i) (l .q) (l .inv .2) more (m .b) low named
-    (λ s e. term-missed _ _ (varsIn (m .vars)) (term .result) (varsIn (term .last .0)) (term .ensures) missed s e) in (
+    let missed = c .before .before in
+    let term-at = missed .before .before .before in
+    let term = term-at .match-term in
+    let slot = named term-at in
+    let m = slot .before .before .loop in
+    let t = test (slot .before .before) in
+    let l = t .before .tests in
+    let a = start (t .before) .args in
+    let w = a .words .now in
+    let st = a .state .now in
+    let low = low (slot .before) in
+    let on = walk-on (m .inv .1) low (slot .if3 .taken) in
+    let miss = not-true _ (missed .if4 .taken) in
+    let because = because-slot w st (a .o) (a .n) (l .i) (l .q) (l .inv .2) (t .tests-test .taken) (m .b) low on
+    (λ s e. term-missed _ _ (varsIn (m .vars)) (term .result) (varsIn (term .last .0)) (term .ensures) miss s e) in (
       rw (c .why .ensures) (why-stops (10 * (getD w (l .q) 0 % 8) + 1 + m .b) (getD w (l .q + 3 + m .b) 0) (varsIn (term .last .0))
-          ∙ flat-over w (args .state .now) (l .q) (getD w (l .q + 2) 0) (m .b) (varsIn (m .vars)) rest low named (term .result) (varsIn (term .last .0)) (term .ensures) missed ∙ m .inv .3),
+          ∙ flat-over w st (l .q) (getD w (l .q + 2) 0) (m .b) (varsIn (m .vars)) (after w (a .o) (a .n) st (l .i)) low on (term .result) (varsIn (term .last .0)) (term .ensures) miss ∙ m .inv .3),
       rw (c .why .ensures) because,
     )
 
@@ -325,13 +347,10 @@ match-tests-spec =
     add-t24
     mul-t25
     shared-slice-read-t27
-    add-mask
-    mul-mask
-    shared-slice-read-mask
+    add-rest
+    mul-rest
+    shared-slice-read-rest
     loop-holds
-    sub-if3
-    cast-if3
-    shr-if3
     add-match-term
     add-match-term-2
     mul-match-term
@@ -349,6 +368,7 @@ match-tests-spec =
     mul-why
     shared-slice-read-why
     why-requires
+    mul-rest-2
     add-b
     loop-less
     loop-again
