@@ -1,20 +1,19 @@
 -- Whether a fact fits, slot by slot: the slots that are left, once the type is right.
-use Prim.Native.Nat.{ℕ, _+_, _-_, _/_, _^_, _≤_, _<_}
+use Prim.Native.Nat.{ℕ, _+_, _<_}
 use mathlib.Core.Path.{_≡_, sym, ap, _∙_}
 use mathlib.Core.Bool.{Bool, true, false}
-use mathlib.Core.List.{List}
+use mathlib.Core.List.{List, []}
 use native.Mathlib.Omega.{arith}
-use lib.Bits.{bitAnd}
 use lib.Dec.{eqb}
 use lib.ListN.{getD}
 use borrow.Author.Tests.{eq-eqb, ne-eqb}
 use Rattle.meaning.specs.Base.{every}
-use Rattle.meaning.specs.Image.{slotsIn}
+use Rattle.meaning.specs.Image.{names, slotsIn}
 use Rattle.meaning.specs.Retrieval.{valueOf, fits}
 use Rattle.laws.specs.BaseLaws.{every-map}
 use Rattle.layout.specs.Rows.{rowsIn, wordTerm, namedIn, maskedIn, factIn}
 use Rattle.layout.proofs.RowLaws.{rows-get}
-use Rattle.read_terms.proofs.MaskBits.{names-on, names-off, rest, rest-start, rest-on, rest-off, rest-end}
+use Rattle.read_terms.proofs.MaskBits.{rest, rest-start, rest-on, rest-off}
 
 -- the value in a slot of a fact in words
 slot-is : (facts : List ℕ) (f b : ℕ) → b < 8 → getD (factIn facts f .chunk .slots) b 0 ≡ getD facts (f + 3 + b) 0
@@ -43,20 +42,20 @@ module _ (facts : List ℕ) (f : ℕ) (words : List ℕ) (q : ℕ) (nine : List 
       rw (eq-eqb (getD facts f 0) (getD words (q + 1) 0) e, rest-start (getD words (q + 2) 0))
       (sym (every-map (λ n. eqb (getD (factIn facts f .chunk .slots) (n .slot) 0) (valueOf nine (n .term))) (namedIn words q) (slotsIn (getD words (q + 2) 0))))
 
-  pub fits-end : (mask b : ℕ) → 8 ≤ b → true ≡ fitsFrom mask b
+  pub fits-end : (mask b : ℕ) → rest mask b ≡ [] → true ≡ fitsFrom mask b
   unfolding fitsFrom
-  fits-end mask b h = rw (rest-end mask b h)
+  fits-end mask b h = rw h
 
   module _ (mask b : ℕ) (h : b < 8) where
-    pub fits-skip : (bitAnd (mask / 2 ^ (7 - b)) 1 ≡ 1 → ⊥) → fitsFrom mask (b + 1) ≡ fitsFrom mask b
+    pub fits-skip : names mask b ≡ false → fitsFrom mask (b + 1) ≡ fitsFrom mask b
     unfolding fitsFrom
-    fits-skip z = rw (rest-off mask b h (names-off mask b z))
+    fits-skip z = rw (rest-off mask b h z)
 
-    module _ (z : bitAnd (mask / 2 ^ (7 - b)) 1 ≡ 1) (value : ℕ) (e : value ≡ valueOf nine (wordTerm (getD words (q + 3 + b) 0))) where
+    module _ (z : names mask b ≡ true) (value : ℕ) (e : value ≡ valueOf nine (wordTerm (getD words (q + 3 + b) 0))) where
       pub fits-turn : getD facts (f + 3 + b) 0 ≡ value → fitsFrom mask (b + 1) ≡ fitsFrom mask b
       unfolding fitsFrom
-      fits-turn s = rw (rest-on mask b h (names-on mask b z), eq-eqb _ _ (slot-is facts f b h ∙ s ∙ e))
+      fits-turn s = rw (rest-on mask b h z, eq-eqb _ _ (slot-is facts f b h ∙ s ∙ e))
 
       pub fits-not : (getD facts (f + 3 + b) 0 ≡ value → ⊥) → false ≡ fitsFrom mask b
       unfolding fitsFrom
-      fits-not s = rw (rest-on mask b h (names-on mask b z), ne-eqb _ _ (λ d. s (sym (slot-is facts f b h) ∙ d ∙ sym e)))
+      fits-not s = rw (rest-on mask b h z, ne-eqb _ _ (λ d. s (sym (slot-is facts f b h) ∙ d ∙ sym e)))

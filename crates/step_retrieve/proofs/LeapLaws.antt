@@ -11,6 +11,7 @@ use Rattle.meaning.specs.Base.{if_then_else_}
 use Rattle.meaning.specs.Model.{Fact}
 use Rattle.meaning.specs.Retrieval.{valueOf, fits}
 use Rattle.layout.specs.Rows.{wordTerm, maskedIn, factIn}
+use Rattle.read_terms.proofs.MaskBits.{names-on}
 use Rattle.step_retrieve.specs.declared.Found.{Found}
 use Rattle.step_retrieve.specs.Chains.{chainOf, Leap}
 use Rattle.step_retrieve.proofs.FitLaws.{fits-other, fits-start, fits-not}
@@ -40,9 +41,10 @@ module _ (facts : List ℕ) (n : ℕ) (words : List ℕ) (q : ℕ) (nine : List 
     no-fit j named out =
         let e : q + 3 + 0 ≡ q + 3 = omega arith in
         let f : 11 * j + 3 + 0 ≡ 11 * j + 3 = omega arith in
+        let mask = getD words (q + 2) 0 in
         let v = value ∙ ap (λ (i : ℕ). valueOf nine (wordTerm (getD words i 0))) (sym e) in
         by-same (getD facts (11 * j) 0) (getD words (q + 1) 0)
-        (λ s. sym (fits-start facts (11 * j) words q nine s) ∙ sym (fits-not facts (11 * j) words q nine (getD words (q + 2) 0) 0 (omega arith) named first v
+        (λ s. sym (fits-start facts (11 * j) words q nine s) ∙ sym (fits-not facts (11 * j) words q nine mask 0 (omega arith) (names-on mask 0 named) first v
         (λ same. out (ap (λ (x : ℕ). x % 64) (sym (ap (λ (i : ℕ). getD facts i 0) f) ∙ same)))))
         (λ d. sym (fits-other facts (11 * j) words q nine d))
 

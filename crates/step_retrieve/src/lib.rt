@@ -27,7 +27,7 @@ pub fn value_of(nine: &[u16], term: u16) -> u16
 }
 
 // Whether the fact whose row starts at f is of the type that the request at q names, and has the terms' values in the named slots;
-// at the first slot that differs the fact is given up.
+// at the first slot that differs the fact is given up. What is left of the mask has the bit of slot b at 128, and no slot is looked at once it is 0.
 fn fits(facts: &[u16], f: usize, words: &[u16], q: usize, nine: &[u16]) -> bool
     requires { ⌜ (f + 11 ≤ length (now facts)) × (q + 11 ≤ length (now words)) × (9 ≤ length (now nine)) ⌝ }
     ensures { λ r. ⌜ r ≡ fits (getD (now (words .entry)) (q + 1) 0) (maskedIn (now (words .entry)) q) (now (nine .entry)) (factIn (now (facts .entry)) f) ⌝ }
@@ -35,14 +35,15 @@ fn fits(facts: &[u16], f: usize, words: &[u16], q: usize, nine: &[u16]) -> bool
     if facts[f] != words[q + 1] {
         return false;
     }
-    let mask = words[q + 2];
+    let mut rest = words[q + 2] % 256;
     let mut b = 0;
-    while b < 8 {
-        if (mask >> (7 - b)) & 1 == 1 {
+    while rest != 0 {
+        if 128 <= rest {
             if facts[f + 3 + b] != value_of(nine, words[q + 3 + b]) {
                 return false;
             }
         }
+        rest = rest * 2 % 256;
         b += 1;
     }
     true
