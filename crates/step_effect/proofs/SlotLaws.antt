@@ -1,8 +1,8 @@
 -- The slots of one buffer, written one by one: all other words stay.
-use Prim.Native.Nat.{ℕ, zero, suc, _+_, _-_, _*_, _≤_, _<_}
+use Prim.Native.Nat.{ℕ, zero, suc, _+_, _*_, _≤_, _<_}
 use mathlib.Core.Path.{_≡_, refl, sym, ap, _∙_}
 use mathlib.Core.Bool.{true, false}
-use mathlib.Core.List.{List, _∷_, map}
+use mathlib.Core.List.{List, [], _∷_, map}
 use native.Mathlib.Omega.{arith}
 use lib.ListN.{length, getD, set, length-set}
 use lib.Seq.{getD-set-same, getD-set-other}
@@ -13,7 +13,7 @@ use Rattle.meaning.specs.Fire.{put}
 use Rattle.layout.specs.Rows.{rowsIn, namedIn, maskedIn, wordTerm}
 use Rattle.layout.specs.StateWords.{bufferIn}
 use Rattle.layout.proofs.RowLaws.{rows-same}
-use Rattle.read_terms.proofs.MaskBits.{rest, rest-start, rest-on, rest-off, rest-end}
+use Rattle.read_terms.proofs.MaskBits.{rest, rest-start, rest-on, rest-off}
 use Rattle.step_wait.specs.Remade.{Remade}
 use Rattle.step_wait.proofs.DelayLaws.{delay-set}
 use Rattle.step_effect.specs.Deeds.{chunkIn, modified}
@@ -103,13 +103,12 @@ putFrom words q nine b slots = put (map (namedIn words q) (rest (getD words (q +
 
 -- the words w, of which the slots of buffer k that are named below b are put, are w′
 pub record Putting (words : List ℕ) (q : ℕ) (nine w w′ : List ℕ) (k b : ℕ) : Type 0 where
-  pub within : b ≤ 8
   pub only : OnlySlots w w′ k
   pub slots : putFrom words q nine b (bufferIn w′ k .slots) ≡ put (maskedIn words q) nine (bufferIn w k .slots)
 
 pub putting-start : (words : List ℕ) (q : ℕ) (nine w : List ℕ) (k : ℕ) → Putting words q nine w w k 0
 unfolding putFrom
-putting-start words q nine w k = record { within = omega arith; only = only-none w k; slots = rw (rest-start (getD words (q + 2) 0)) }
+putting-start words q nine w k = record { only = only-none w k; slots = rw (rest-start (getD words (q + 2) 0)) }
 
 module _ {words : List ℕ} {q : ℕ} {nine w w′ : List ℕ} {k b : ℕ} (p : Putting words q nine w w′ k b) where
   module _ (h : b < 8) where
@@ -118,7 +117,6 @@ module _ {words : List ℕ} {q : ℕ} {nine w w′ : List ℕ} {k b : ℕ} (p : 
     unfolding putFrom put
     putting-on v e g l =
         record {
-          within = omega arith;
           only = only-more (p .only) b v h;
           slots =
               rw (slots-set w′ k b v h (omega (arith, p .only .size)), g)
@@ -129,13 +127,12 @@ module _ {words : List ℕ} {q : ℕ} {nine w w′ : List ℕ} {k b : ℕ} (p : 
     unfolding putFrom
     putting-off e =
         record {
-          within = omega arith;
           only = p .only;
           slots = ap (λ (bs : List ℕ). put (map (namedIn words q) bs) nine (bufferIn w′ k .slots)) (sym (rest-off (getD words (q + 2) 0) b h e)) ∙ p .slots;
         }
 
-  pub putting-end : 8 ≤ b → 10 * k + 10 ≤ length w → Remade w (set w′ (10 * k + 9) 0) k (modified (maskedIn words q) nine (bufferIn w k))
+  pub putting-end : rest (getD words (q + 2) 0) b ≡ [] → 10 * k + 10 ≤ length w → Remade w (set w′ (10 * k + 9) 0) k (modified (maskedIn words q) nine (bufferIn w k))
   unfolding putFrom put
   putting-end h l =
       only-end (p .only) 0 (put (maskedIn words q) nine (bufferIn w k .slots)) l
-      (ap (λ (bs : List ℕ). put (map (namedIn words q) bs) nine (bufferIn w′ k .slots)) (sym (rest-end (getD words (q + 2) 0) b h)) ∙ p .slots)
+      (ap (λ (bs : List ℕ). put (map (namedIn words q) bs) nine (bufferIn w′ k .slots)) (sym h) ∙ p .slots)

@@ -39,16 +39,18 @@ pub fn nil(state: &mut [u16], k: usize, delay: u16)
 }
 
 // Writes the values of the terms of the action at q into the slots of buffer k that it names, and makes it visible.
+// What is left of the mask has the bit of slot b at 128, and no slot is looked at once it is 0.
 pub fn modify(state: &mut [u16], k: usize, words: &[u16], q: usize, nine: &[u16])
     requires { ⌜ (80 ≤ length (now state)) × (k < 8) × (q + 11 ≤ length (now words)) × (9 ≤ length (now nine)) ⌝ }
     ensures { λ _. ⌜ Remade (now (state .entry)) (now (state .exit)) k (modified (maskedIn (now (words .entry)) q) (now (nine .entry)) (bufferIn (now (state .entry)) k)) ⌝ }
 {
-    let mask = words[q + 2];
+    let mut rest = words[q + 2] % 256;
     let mut b = 0;
-    while b < 8 {
-        if (mask >> (7 - b)) & 1 == 1 {
+    while rest != 0 {
+        if 128 <= rest {
             state[BUFFER_WORDS * k + 1 + b] = step_retrieve::value_of(nine, words[q + 3 + b]);
         }
+        rest = rest * 2 % 256;
         b += 1;
     }
     state[BUFFER_WORDS * k + 9] = 0;

@@ -1,39 +1,37 @@
 -- `step_effect::modify` meets its contract: what is named from here on, put into the slots as they are now, gives the whole.
 use borrow.Author.Needs.{needs}
-use Prim.Native.Nat.{_+_, _-_}
+use Prim.Native.Nat.{_+_, _-_, _<_}
 use mathlib.Core.Logic.{⊎-elim}
 use lib.ListN.{getD}
-use Rattle.read_terms.proofs.MaskBits.{names-on, names-off}
+use native.Mathlib.Omega.{arith}
+use Rattle.read_terms.proofs.MaskWalk.{Walk, walk-start, walk-next, walk-on, walk-off, walk-end}
 use Rattle.step_effect.proofs.SlotLaws.{Putting, putting-start, putting-on, putting-off, putting-end}
 use Rattle.step_effect.proofs.modify.Statement.{statement}
 use Rattle.step_effect.proofs.modify.Tie as tie
 
 abbrev Inv-loop : tie.InvT-loop
-Inv-loop state₀ k words q nine mask b₀ state b = Putting words q nine state₀ state k b
+Inv-loop state₀ k words q nine rest₀ b₀ state rest b = Walk (getD words (q + 2) 0) b rest × Putting words q nine state₀ state k b
 
 abbrev μ-loop : tie.MeasureT-loop
-μ-loop state₀ k words q nine mask b₀ state b = 8 - b
+μ-loop state₀ k words q nine rest₀ b₀ state rest b = 8 - b
 
-add-mask : tie.Need-add-mask Inv-loop μ-loop
-add-mask c = search needs
+-- a slot is left
+low : (c : tie.In-loop Inv-loop μ-loop) → c .before .loop .b < 8
+low c = omega (arith, c .loop-test .taken, c .before .loop .inv .0 .small)
 
-mul-mask : tie.Need-mul-mask Inv-loop μ-loop
-mul-mask c = search needs
+-- ---- what is asked
 
-shared-slice-read-mask : tie.Need-shared-slice-read-mask Inv-loop μ-loop
-shared-slice-read-mask c = search needs
+add-rest : tie.Need-add-rest Inv-loop μ-loop
+add-rest c = search needs
+
+mul-rest : tie.Need-mul-rest Inv-loop μ-loop
+mul-rest c = search needs
+
+shared-slice-read-rest : tie.Need-shared-slice-read-rest Inv-loop μ-loop
+shared-slice-read-rest c = search needs
 
 loop-holds : tie.Need-loop-holds Inv-loop μ-loop
-loop-holds c = putting-start _ _ _ _ _
-
-sub-if1 : tie.Need-sub-if1 Inv-loop μ-loop
-sub-if1 c = search needs
-
-cast-if1 : tie.Need-cast-if1 Inv-loop μ-loop
-cast-if1 c = search needs
-
-shr-if1 : tie.Need-shr-if1 Inv-loop μ-loop
-shr-if1 c = search needs
+loop-holds c = (walk-start _, putting-start _ _ _ _ _)
 
 add-value-of : tie.Need-add-value-of Inv-loop μ-loop
 add-value-of c = search needs
@@ -65,6 +63,9 @@ mul-state-2 c = search needs
 slice-write-state : tie.Need-slice-write-state Inv-loop μ-loop
 slice-write-state c = search needs
 
+mul-rest-2 : tie.Need-mul-rest-2 Inv-loop μ-loop
+mul-rest-2 c = search needs
+
 add-b : tie.Need-add-b Inv-loop μ-loop
 add-b c = search needs
 
@@ -74,11 +75,14 @@ loop-less c = search needs
 loop-again : tie.Need-loop-again Inv-loop μ-loop
 loop-again c =
     let l = c .before .before .loop in
-    let h = c .before .loop-test .taken in
-    let m = getD (c .before .before .before .before .before .before .before .args .words .now) (c .before .before .before .before .before .before .before .args .q + 2) 0 in
-    ⊎-elim
-    (λ w. rw (w .3) (putting-on (l .inv) h _ (names-on m (l .b) (w .0 .taken)) (w .2 .ensures) (search needs)))
-    (λ w. rw (w .1) (putting-off (l .inv) h (names-off m (l .b) (w .0 .left)))) (c .if1 .came)
+    let walk = l .inv .0 in
+    let h = low (c .before) in (
+      walk-next walk h,
+      ⊎-elim
+          (λ w. rw (w .3) (putting-on (l .inv .1) h _ (walk-on walk h (w .0 .taken)) (w .2 .ensures) (search needs)))
+          (λ w. rw (w .1) (putting-off (l .inv .1) h (walk-off walk h (w .0 .left))))
+          (c .if1 .came),
+    )
 
 mul-state-3 : tie.Need-mul-state-3 Inv-loop μ-loop
 mul-state-3 c = search needs
@@ -96,7 +100,7 @@ same-length : tie.Need-same-length Inv-loop μ-loop
 same-length c = search needs
 
 returns : tie.Need-returns Inv-loop μ-loop
-returns c = putting-end (c .before .loop .inv) (c .loop-test .left) (search needs)
+returns c = let l = c .before .loop in putting-end (l .inv .1) (walk-end (l .inv .0) (omega arith)) (search needs)
 
 pub modify-spec : {M : Type 1} → statement M
 modify-spec =
@@ -104,13 +108,10 @@ modify-spec =
     (tie.spec
     Inv-loop
     μ-loop
-    add-mask
-    mul-mask
-    shared-slice-read-mask
+    add-rest
+    mul-rest
+    shared-slice-read-rest
     loop-holds
-    sub-if1
-    cast-if1
-    shr-if1
     add-value-of
     add-value-of-2
     mul-value-of
@@ -121,6 +122,7 @@ modify-spec =
     add-state-2
     mul-state-2
     slice-write-state
+    mul-rest-2
     add-b
     loop-less
     loop-again
