@@ -5,13 +5,14 @@
 # make wheel     builds the Python module with its library as a wheel
 # make install   installs header, libraries, pkg-config file and programs (PREFIX=/usr/local; DESTDIR is put before it)
 # make dist      packs all that a user needs, built, in target/dist: libraries, programs, wheel, pages, examples
-# make bench     measures what calls cost beside an independent engine in Rust, as a table for docs/SPEED.md
+# make bench     measures what calls cost beside an independent engine in Rust, as tables for docs/SPEED.md (PEERS=1: and CLIPS)
 # make help      prints these lines
 #
 # MODEL is a text or an image; its ending .model or .image may be left out, and the text counts where both are there.
 
 MODEL = examples/counting
 PREFIX = /usr/local
+BENCH = cargo run --offline --release --manifest-path host/Cargo.toml -p jirvuntsag-bench
 
 .PHONY: run explain test lib wheel install dist bench help
 
@@ -38,7 +39,8 @@ dist:
 
 bench:
 	@tools/archive
-	@cargo run --offline --release --manifest-path host/Cargo.toml -p jirvuntsag-bench
+	@$(BENCH)
+	@$(if $(PEERS),$(BENCH) -- --peers)
 
 help:
 	@sed -n '/^#/!q; s/^# \{0,1\}//p' Makefile

@@ -33,15 +33,19 @@ impl Spread {
         let at = |quarters: usize| sorted.get(sorted.len() * quarters / 4).copied().unwrap_or(f64::NAN);
         Spread { low: at(1), median: at(2), high: at(3) }
     }
+
+    /// `median (quartile to quartile)`, with so many digits after the point.
+    pub fn shown(&self, digits: usize) -> String {
+        format!("{:.digits$} ({:.digits$} to {:.digits$})", self.median, self.low, self.high)
+    }
 }
 
 impl Times {
     /// Times each way in every round, a different one first each time.
     pub fn take(ways: &mut [&mut dyn FnMut()]) -> Times {
         let once: Vec<f64> = ways.iter_mut().map(|way| round(way, 3)).collect();
-        let calls: Vec<u32> = once.iter().map(|time| (SLICE / time).clamp(1.0, 1e6) as u32).collect();
-        let whole: f64 = once.iter().map(|time| time.max(SLICE)).sum();
-        let count = (BUDGET / whole).clamp(ROUNDS.0, ROUNDS.1) as usize;
+        let calls: Vec<u32> = once.iter().map(|&time| calls(time)).collect();
+        let count = rounds(once.iter().map(|time| time.max(SLICE)).sum());
         let mut rounds = vec![Vec::with_capacity(count); ways.len()];
         for number in 0..count {
             for turn in 0..ways.len() {
@@ -51,6 +55,19 @@ impl Times {
             }
         }
         Times { rounds }
+    }
+
+    /// Times first what another program says that it took, and then a way of ours, in every round.
+    pub fn beside<E>(mut other: impl FnMut() -> Result<f64, E>, mut way: impl FnMut()) -> Result<Times, E> {
+        let once = round(&mut way, 3);
+        other()?;
+        let count = rounds(other()? + once.max(SLICE));
+        let (mut others, mut ours) = (Vec::new(), Vec::new());
+        for _ in 0..count {
+            others.push(other()?);
+            ours.push(round(&mut way, calls(once)));
+        }
+        Ok(Times { rounds: vec![others, ours] })
     }
 
     /// Nanoseconds of one call.
@@ -67,6 +84,16 @@ impl Times {
     pub fn difference(&self, way: usize, less: usize) -> Spread {
         Spread::of(self.rounds[way].iter().zip(&self.rounds[less]).map(|(one, other)| one - other))
     }
+}
+
+/// Calls that fit into a slice, if one takes so long.
+fn calls(time: f64) -> u32 {
+    (SLICE / time).clamp(1.0, 1e6) as u32
+}
+
+/// Rounds, if one of them takes so long.
+fn rounds(whole: f64) -> usize {
+    (BUDGET / whole).clamp(ROUNDS.0, ROUNDS.1) as usize
 }
 
 /// Nanoseconds of one call, over so many calls.
