@@ -5,8 +5,8 @@ use mathlib.Core.Bool.{Bool, true, false}
 use mathlib.Core.List.{List, [], _∷_, _++_, append-nil}
 use mathlib.Core.Logic.{⊎-elim}
 use native.Mathlib.Omega.{arith}
-use lib.ListN.{length, getD, set, take, drop, replicate, length-drop}
-use lib.Seq.{sets, sets-eq, take-all, drop-length}
+use lib.ListN.{length, getD, set, drop, replicate}
+use lib.Seq.{sets, sets-eq, drop-length}
 use types.Run.{OneOf}
 use denote.Enum.Declared.{tagOf}
 use Rattle.meaning.specs.Base.{if_then_else_}
@@ -16,8 +16,7 @@ use Rattle.layout.specs.StateWords.{buffersIn, stateIn}
 use Rattle.match_rule.proofs.Tried as Declared
 use Rattle.match_rule.specs.declared.Tried.{Tried}
 use Rattle.match_rule.specs.declared.Tried.the-variants.{Hit, Differs, Varies}
-use Rattle.match_rule.specs.Run.{Run, stop, on, testsRun, noVars, entryWords}
-use Rattle.match_rule.specs.Words.{varsIn}
+use Rattle.match_rule.specs.Run.{Vars, Run, stop, on, testsRun, noVars, entryWords}
 use Rattle.match_rule.specs.Shut.{isHit, Because, Made}
 use Rattle.match_rule.proofs.Link.{entry-words}
 
@@ -35,28 +34,24 @@ none-left l n e = rw (← e) (drop-length l)
 pub all-copied : (l m : List ℕ) → length l ≡ length m → sets l 0 m ≡ m
 all-copied l m e = sets-eq m l 0 (omega arith) ∙ ap (λ (r : List ℕ). m ++ r) (none-left l (0 + length m) (omega arith)) ∙ append-nil m
 
-pub hit-words : (nine vars : List ℕ) → length nine ≡ 9 → length vars ≡ 16 → sets (set nine 0 1) 1 (take (length vars - 8) (drop 8 vars)) ≡ 1 ∷ drop 8 vars
-hit-words [] vars e f = absurd (omega arith)
-hit-words (x ∷ l) vars e f =
-    let size : length (drop 8 vars) ≡ 8 = length-drop 8 vars ∙ omega arith in
-    let all : take (length vars - 8) (drop 8 vars) ≡ drop 8 vars = take-all (length vars - 8) (drop 8 vars) (omega arith) in
-    rw all
-    (sets-eq (drop 8 vars) (1 ∷ l) 1 (omega arith)
-    ∙ ap (λ (r : List ℕ). 1 ∷ (drop 8 vars ++ r)) (none-left (1 ∷ l) (1 + length (drop 8 vars)) (omega arith))
-    ∙ ap (λ (r : List ℕ). 1 ∷ r) (append-nil (drop 8 vars)))
+-- ---- an entry that matches
+
+pub hit-words : (nine : List ℕ) → length nine ≡ 9 → set nine 0 1 ≡ 1 ∷ drop 1 nine
+hit-words [] e = absurd (omega arith)
+hit-words (x ∷ l) e = refl
 
 -- ---- what the nine words say
 
-first-of : (t : Tried) (vars : List ℕ) → getD (entryWords (if isHit t then on (varsIn vars) else stop)) 0 0 ≡ (if isHit t then 1 else 0)
-first-of Hit vars = refl
-first-of (Differs p v) vars = refl
-first-of Varies vars = refl
+first-of : (t : Tried) (u : Vars) → getD (entryWords (if isHit t then on u else stop)) 0 0 ≡ (if isHit t then 1 else 0)
+first-of Hit u = refl
+first-of (Differs p v) u = refl
+first-of Varies u = refl
 
-pub made : (t : Tried) (nine vars words : List ℕ) (o n : ℕ) (state : List ℕ) → nine ≡ entryWords (if isHit t then on (varsIn vars) else stop)
-    → (if isHit t then on (varsIn vars) else stop) ≡ testsRun (buffersIn state) (testsIn words o n) noVars → Because t words o n state → Made t nine words o n state
-made t nine vars words o n state e run because =
+pub made : (t : Tried) (nine : List ℕ) (u : Vars) (words : List ℕ) (o n : ℕ) (state : List ℕ) → nine ≡ entryWords (if isHit t then on u else stop)
+    → (if isHit t then on u else stop) ≡ testsRun (buffersIn state) (testsIn words o n) noVars → Because t words o n state → Made t nine words o n state
+made t nine u words o n state e run because =
     record {
       fresh = λ r clock q. e ∙ ap entryWords run ∙ entry-words words o n r (stateIn state clock) q;
-      first = ap (λ (l : List ℕ). getD l 0 0) e ∙ first-of t vars;
+      first = ap (λ (l : List ℕ). getD l 0 0) e ∙ first-of t u;
       because = because;
     }

@@ -4,8 +4,8 @@ use mathlib.Core.Path.{_≡_, refl, sym, ap, ap₂, _∙_}
 use mathlib.Core.Bool.{Bool, true, false}
 use mathlib.Core.List.{List, [], _∷_}
 use native.Mathlib.Omega.{arith}
-use lib.ListN.{length, getD, take, drop, set, length-drop}
-use lib.Seq.{getD-take, getD-drop, take-set-le, take-set-lt, drop-set-lt, drop-set-add}
+use lib.ListN.{getD, drop, set}
+use lib.Seq.{getD-drop, drop-set-add}
 use lib.Dec.{eqb, ltb}
 use borrow.Author.Tests.{lt-ltb, le-ltb, eq-eqb, ne-eqb}
 use Rattle.meaning.specs.declared.Buffer.{Buffer}
@@ -15,7 +15,6 @@ use Rattle.meaning.specs.Image.{names}
 use Rattle.layout.specs.Rows.{wordTerm}
 use Rattle.layout.specs.StateWords.{bufferIn, buffersIn}
 use Rattle.layout.proofs.StateLaws.{buffer-is, slot-is}
-use Rattle.layout.proofs.WordLaws.{tab, listed}
 use Rattle.match_rule.specs.Run.{Vars, Run, on, stop, thenOn, termRun, termsRun, testsRun}
 use Rattle.match_rule.specs.Words.{varsIn}
 use Rattle.match_rule.specs.declared.Tried.the-variants.{Differs, Varies}
@@ -24,36 +23,19 @@ use Rattle.match_rule.proofs.TestLaws.{left, testsFrom, slot-skip, slot
 
 -- ---- a term
 
-module _ (l : List ℕ) (x t : ℕ) where
-  pub term-symbol : t < 4096 → (r : Bool) → r ≡ eqb x t → (if r then on (varsIn l) else stop) ≡ termRun x (wordTerm t) (varsIn l)
+module _ (bound nine : List ℕ) (x t : ℕ) where
+  pub term-symbol : t < 4096 → (r : Bool) → r ≡ eqb x t → (if r then on (varsIn bound nine) else stop) ≡ termRun x (wordTerm t) (varsIn bound nine)
   unfolding termRun
   term-symbol h r e = rw (lt-ltb t 4096 h, e)
 
   module _ (h : 4096 ≤ t) where
-    abbrev k : ℕ
-    k = t % 8
-
-    below : t % 8 < 8
-    below = omega arith
-
-    bound-is : getD (take 8 l) (t % 8) 0 ≡ getD l (t % 8) 0
-    bound-is = getD-take 8 l (t % 8) 0 below
-
-    value-is : getD (drop 8 l) (t % 8) 0 ≡ getD l (8 + t % 8) 0
-    value-is = getD-drop 8 l (t % 8) 0
-
-    pub term-new : getD l (t % 8) 0 ≡ 0 → on (varsIn (set (set l (t % 8) 1) (8 + t % 8) x)) ≡ termRun x (wordTerm t) (varsIn l)
+    pub term-new : getD bound (t % 8) 0 ≡ 0 → on (varsIn (set bound (t % 8) 1) (set nine (1 + t % 8) x)) ≡ termRun x (wordTerm t) (varsIn bound nine)
     unfolding termRun
-    term-new e =
-        let le : 8 ≤ 8 + t % 8 = omega arith in
-        rw (le-ltb t 4096 h, bound-is, e)
-        (ap₂ (λ (b v : List ℕ). on (record { bound = b; values = v }))
-        (take-set-le 8 (set l (t % 8) 1) (8 + t % 8) x le ∙ take-set-lt 8 l (t % 8) 1 below)
-        (drop-set-add 8 (set l (t % 8) 1) (t % 8) x ∙ ap (λ (r : List ℕ). set r (t % 8) x) (drop-set-lt 8 l (t % 8) 1 below)))
+    term-new e = rw (le-ltb t 4096 h, e) (ap (λ (v : List ℕ). on (record { bound = set bound (t % 8) 1; values = v })) (drop-set-add 1 nine (t % 8) x))
 
-    pub term-seen : (getD l (t % 8) 0 ≡ 0 → ⊥) → (r : Bool) → r ≡ eqb (getD l (8 + t % 8) 0) x → (if r then on (varsIn l) else stop) ≡ termRun x (wordTerm t) (varsIn l)
+    pub term-seen : (getD bound (t % 8) 0 ≡ 0 → ⊥) → (r : Bool) → r ≡ eqb (getD nine (1 + t % 8) 0) x → (if r then on (varsIn bound nine) else stop) ≡ termRun x (wordTerm t) (varsIn bound nine)
     unfolding termRun
-    term-seen z r e = rw (le-ltb t 4096 h, bound-is, ne-eqb (getD l (t % 8) 0) 0 z, value-is, e)
+    term-seen z r e = rw (le-ltb t 4096 h, ne-eqb (getD bound (t % 8) 0) 0 z, getD-drop 1 nine (t % 8) 0, e)
 
 -- a symbol that was missed is another than the value
 pub term-missed : (x t : ℕ) (v : Vars) (r : Bool) (u : Vars) → (if r then on u else stop) ≡ termRun x (wordTerm t) v → r ≡ false → t < 4096 → x ≡ t → ⊥
@@ -114,12 +96,3 @@ module _ (w st : List ℕ) (q m b : ℕ) (v : Vars) (k : Vars → Run) (h : b < 
 
     pub flat-over : r ≡ false → stop ≡ thenOn (termsRun xs (left w q m b) v) k
     flat-over o = slot-over w xs q m b v k h z r u e′ o
-
--- ---- the last eight of sixteen words
-
-tab-same : (n : ℕ) (f g : ℕ → ℕ) → ((k : ℕ) → f k ≡ g k) → tab n f ≡ tab n g
-tab-same zero f g h = refl
-tab-same (suc n) f g h = ap₂ (λ (x : ℕ) (l : List ℕ). x ∷ l) (h zero) (tab-same n (λ k. f (suc k)) (λ k. g (suc k)) (λ k. h (suc k)))
-
-pub last-eight : (l : List ℕ) → length l ≡ 16 → tab 8 (λ k. getD l (8 + k) 0) ≡ drop 8 l
-last-eight l e = tab-same 8 (λ k. getD l (8 + k) 0) (λ k. getD (drop 8 l) k 0) (λ k. sym (getD-drop 8 l k 0)) ∙ listed 8 (drop 8 l) (omega (arith, length-drop 8 l))

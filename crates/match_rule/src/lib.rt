@@ -1,8 +1,7 @@
 // The match of one rule: from its rows of words, with the state in words too and the variables lent, so that nothing is copied.
 ghost use mathlib.Core.Path.{_≡_};
-ghost use mathlib.Core.List.{_∷_};
 ghost use Prim.Native.Nat.{ℕ, _+_, _*_, _≤_};
-ghost use lib.ListN.{length, replicate, drop};
+ghost use lib.ListN.{length, replicate};
 ghost use Rattle.meaning.specs.Base.{if_then_else_, same};
 ghost use Rattle.meaning.specs.Model.{Rule};
 ghost use Rattle.meaning.specs.Match.{entryOf};
@@ -21,21 +20,21 @@ pub enum Tried {
 }
 
 // One term against a slot's value: a symbol is compared; a variable is bound at its first place and compared at every later one.
-// vars: which of the eight variables are bound, and then their values.
-fn match_term(vars: &mut [u16], value: u16, term: u16) -> bool
-    requires { ⌜ length (now vars) ≡ 16 ⌝ }
-    ensures { λ r. ⌜ (if r then on (varsIn (now (vars .exit))) else stop) ≡ termRun value (wordTerm term) (varsIn (now (vars .entry))) ⌝ }
+// bound: which of the eight variables are bound; their values stand in the rule's entry, where they are to be.
+fn match_term(bound: &mut [u16], nine: &mut [u16], value: u16, term: u16) -> bool
+    requires { ⌜ (length (now bound) ≡ 8) × (length (now nine) ≡ 9) ⌝ }
+    ensures { λ r. ⌜ (if r then on (varsIn (now (bound .exit)) (now (nine .exit))) else stop) ≡ termRun value (wordTerm term) (varsIn (now (bound .entry)) (now (nine .entry))) ⌝ }
 {
     if term < 4096 {
         return value == term;
     }
     let k = (term % 8) as usize;
-    if vars[k] == 0 {
-        vars[k] = 1;
-        vars[8 + k] = value;
+    if bound[k] == 0 {
+        bound[k] = 1;
+        nine[1 + k] = value;
         return true;
     }
-    vars[8 + k] == value
+    nine[1 + k] == value
 }
 
 // Why a slot's value is not what a term wants: it is another symbol than the one wanted at that place of the state, or a variable has two values.
@@ -48,11 +47,18 @@ fn why(place: u16, term: u16) -> Tried
     Tried::Differs(place, term)
 }
 
-// Whether the n tests that stand in words from o on hold in a state, with the variables in vars, and why not;
+// Whether the n tests that stand in words from o on hold in a state, with the variables in bound and nine, and why not;
 // at the first slot that differs the whole rule is given up. What is left of a mask has the bit of slot b at 128, and no slot is looked at once it is 0.
-fn match_tests(words: &[u16], o: usize, n: usize, state: &[u16], vars: &mut [u16]) -> Tried
-    requires { ⌜ (o + 11 * n ≤ length (now words)) × (80 ≤ length (now state)) × (length (now vars) ≡ 16) × (varsIn (now vars) ≡ noVars) ⌝ }
-    ensures { λ t. ⌜ (if isHit t then on (varsIn (now (vars .exit))) else stop) ≡ testsRun (buffersIn (now (state .entry))) (testsIn (now (words .entry)) o n) noVars ⌝ }
+fn match_tests(
+    words: &[u16],
+    o: usize,
+    n: usize,
+    state: &[u16],
+    bound: &mut [u16],
+    nine: &mut [u16],
+) -> Tried
+    requires { ⌜ (o + 11 * n ≤ length (now words)) × (80 ≤ length (now state)) × (length (now bound) ≡ 8) × (length (now nine) ≡ 9) × (varsIn (now bound) (now nine) ≡ noVars) ⌝ }
+    ensures { λ t. ⌜ (if isHit t then on (varsIn (now (bound .exit)) (now (nine .exit))) else stop) ≡ testsRun (buffersIn (now (state .entry))) (testsIn (now (words .entry)) o n) noVars ⌝ }
     ensures because { λ t. ⌜ Because t (now (words .entry)) o n (now (state .entry)) ⌝ }
 {
     let mut q = o;
@@ -73,7 +79,7 @@ fn match_tests(words: &[u16], o: usize, n: usize, state: &[u16], vars: &mut [u16
         let mut b = 0;
         while rest != 0 {
             if 128 <= rest {
-                if !match_term(vars, state[k + 1 + b], words[q + 3 + b]) {
+                if !match_term(bound, nine, state[k + 1 + b], words[q + 3 + b]) {
                     tried = why(p + 1 + b as u16, words[q + 3 + b]);
                     break 'tests;
                 }
@@ -95,24 +101,16 @@ pub fn no_entry(nine: &mut [u16])
     layout::copy_into(nine, 0, &[0u16; 9]);
 }
 
-// The entry of a rule that matches, with its variables, into nine words.
-fn hit_entry(nine: &mut [u16], vars: &[u16])
-    requires { ⌜ (length (now nine) ≡ 9) × (length (now vars) ≡ 16) ⌝ }
-    ensures { λ _. ⌜ now (nine .exit) ≡ 1 ∷ drop 8 (now (vars .entry)) ⌝ }
-{
-    nine[0] = 1;
-    layout::copy_into(nine, 1, &vars[8..]);
-}
-
 // The fresh entry of the rule whose n tests stand in words from o on, into nine words; and why it does not match.
 pub fn try_into(nine: &mut [u16], words: &[u16], o: usize, n: usize, state: &[u16]) -> Tried
     requires { ⌜ (length (now nine) ≡ 9) × (o + 11 * n ≤ length (now words)) × (80 ≤ length (now state)) ⌝ }
     ensures { λ t. ⌜ Made t (now (nine .exit)) (now (words .entry)) o n (now (state .entry)) ⌝ }
 {
-    let mut vars = [0u16; 16];
-    let tried = match_tests(words, o, n, state, &mut vars);
+    no_entry(nine);
+    let mut bound = [0u16; 8];
+    let tried = match_tests(words, o, n, state, &mut bound, nine);
     if let Tried::Hit = tried {
-        hit_entry(nine, &vars);
+        nine[0] = 1;
     } else {
         no_entry(nine);
     }

@@ -90,9 +90,9 @@ fn fire_step(
     let heads = plan.heads;
     let actions = tape[heads + HEAD_WORDS * k + 1] as usize;
     let o = RULE_WORDS * k + SIDE_WORDS;
-    let a = ENTRY_WORDS * k;
-    let e = a + ENTRY_WORDS;
-    let mark = step_fire::fire(state, plan, tape, o, actions, &table[a..e]);
+    let first = ENTRY_WORDS * k;
+    let end = first + ENTRY_WORDS;
+    let mark = step_fire::fire(state, plan, tape, o, actions, &table[first..end]);
     StepDone::Fired(k as u16, mark)
 }
 

@@ -13,7 +13,7 @@ use Rattle.match_rule.proofs.match_term.Statement.{statement}
 use Rattle.match_rule.proofs.match_term.Tie as tie
 
 returns : tie.Need-returns
-returns c = let a = c .before .args in term-symbol (a .vars .now) (a .value) (a .term) (c .if1 .taken) _ refl
+returns c = let a = c .before .args in term-symbol (a .bound .now) (a .nine .now) (a .value) (a .term) (c .if1 .taken) _ refl
 
 cast-k : tie.Need-cast-k
 cast-k c = search needs
@@ -24,26 +24,29 @@ mul-if2 c = search needs
 slice-read-if2 : tie.Need-slice-read-if2
 slice-read-if2 c = search needs
 
-mul-vars : tie.Need-mul-vars
-mul-vars c = search needs
+mul-bound : tie.Need-mul-bound
+mul-bound c = search needs
 
-slice-write-vars : tie.Need-slice-write-vars
-slice-write-vars c = search needs
+slice-write-bound : tie.Need-slice-write-bound
+slice-write-bound c = search needs
 
-add-vars : tie.Need-add-vars
-add-vars c = search needs
+add-nine : tie.Need-add-nine
+add-nine c = search needs
 
-mul-vars-2 : tie.Need-mul-vars-2
-mul-vars-2 c = search needs
+mul-nine : tie.Need-mul-nine
+mul-nine c = search needs
 
-slice-write-vars-2 : tie.Need-slice-write-vars-2
-slice-write-vars-2 c = let a = c .before .before .before .args in omega (arith, length-set (a .vars .now) (a .term % 8) 1, c .before .before .before .pre)
+slice-write-nine : tie.Need-slice-write-nine
+slice-write-nine c = search needs
 
 same-length : tie.Need-same-length
 same-length c = search needs
 
+same-length-2 : tie.Need-same-length-2
+same-length-2 c = search needs
+
 returns-2 : tie.Need-returns-2
-returns-2 c = let a = c .before .before .before .args in term-new (a .vars .now) (a .value) (a .term) (c .before .before .if1 .left) (c .if2 .taken)
+returns-2 c = let a = c .before .before .before .args in term-new (a .bound .now) (a .nine .now) (a .value) (a .term) (c .before .before .if1 .left) (c .if2 .taken)
 
 add-result : tie.Need-add-result
 add-result c = search needs
@@ -55,7 +58,7 @@ slice-read-result : tie.Need-slice-read-result
 slice-read-result c = search needs
 
 returns-3 : tie.Need-returns-3
-returns-3 c = let a = c .before .before .before .before .args in term-seen (a .vars .now) (a .value) (a .term) (c .before .before .before .if1 .left) (c .before .if2 .left) _ refl
+returns-3 c = let a = c .before .before .before .before .args in term-seen (a .bound .now) (a .nine .now) (a .value) (a .term) (c .before .before .before .if1 .left) (c .before .if2 .left) _ refl
 
 pub match-term-spec : {M : Type 1} → statement M
 match-term-spec =
@@ -65,12 +68,13 @@ match-term-spec =
     cast-k
     mul-if2
     slice-read-if2
-    mul-vars
-    slice-write-vars
-    add-vars
-    mul-vars-2
-    slice-write-vars-2
+    mul-bound
+    slice-write-bound
+    add-nine
+    mul-nine
+    slice-write-nine
     same-length
+    same-length-2
     returns-2
     add-result
     mul-result

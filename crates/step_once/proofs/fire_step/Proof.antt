@@ -82,11 +82,11 @@ mul-o c = search needs
 add-o : tie.Need-add-o
 add-o c = search needs
 
-mul-a : tie.Need-mul-a
-mul-a c = search needs
+mul-first : tie.Need-mul-first
+mul-first c = search needs
 
-add-e : tie.Need-add-e
-add-e c = search needs
+add-end : tie.Need-add-end
+add-end c = search needs
 
 mul-fire : tie.Need-mul-fire
 mul-fire c = search needs
@@ -146,8 +146,8 @@ fire-step-spec =
     cast-actions
     mul-o
     add-o
-    mul-a
-    add-e
+    mul-first
+    add-end
     mul-fire
     sub-fire
     part-fire-start
