@@ -59,7 +59,8 @@ pub fn modify(state: &mut [u16], k: usize, words: &[u16], q: usize, nine: &[u16]
 // Writes over buffer k the fact that the request at q of the rows finds, with its latency as the delay; or nil with the failure latency.
 pub fn request(state: &mut [u16], k: usize, plan: Plan, tape: &[u16], q: usize, nine: &[u16])
     requires { ⌜ (80 ≤ length (now state)) × (k < 8) × (q + 11 ≤ length (rowsOn plan (now tape))) × (9 ≤ length (now nine)) × Planned plan (now tape) × ChainsOn plan (now tape) ⌝ }
-    ensures { λ _. ⌜ Remade (now (state .entry)) (now (state .exit)) k (retrieved (plan .failure) (retrieve (factsOn plan (now (tape .entry))) (getD (rowsOn plan (now (tape .entry))) (q + 1) 0) (maskedIn (rowsOn plan (now (tape .entry))) q) (now (nine .entry)))) ⌝ }
+    ensures { λ _. ⌜ Remade (now (state .entry)) (now (state .exit)) k (retrieved (plan .failure)
+        (retrieve (factsOn plan (now (tape .entry))) (getD (rowsOn plan (now (tape .entry))) (q + 1) 0) (maskedIn (rowsOn plan (now (tape .entry))) q) (now (nine .entry)))) ⌝ }
 {
     let rows = plan.rows;
     let chains = plan.chains;

@@ -36,11 +36,11 @@ sooner-second (suc ms) (suc delay) n h = rw (le-ltb ms delay (omega arith))
 -- ---- the soonest of a state, in a loop over its buffers
 
 module _ (w : List ℕ) (k ms : ℕ) where
-  pub soonest-turn : k < 8 → soonest (sooner ms (getD w (10 * k + 9) 0)) (rowsIn (bufferIn w) (k + 1) (8 - (k + 1))) ≡ soonest ms (rowsIn (bufferIn w) k (8 - k))
+  pub soonest-turn : {r : ℕ} → r ≡ sooner ms (getD w (10 * k + 9) 0) → k < 8 → soonest r (rowsIn (bufferIn w) (k + 1) (8 - (k + 1))) ≡ soonest ms (rowsIn (bufferIn w) k (8 - k))
   unfolding soonest
-  soonest-turn h =
+  soonest-turn e h =
       let n : 8 - k + k ≡ 8 = omega arith in
-      rw (rows-left (bufferIn w) k 8 h (8 - k) n)
+      rw (e, rows-left (bufferIn w) k 8 h (8 - k) n)
 
   pub soonest-end : 8 ≤ k → ms ≡ soonest ms (rowsIn (bufferIn w) k (8 - k))
   unfolding soonest rowsIn

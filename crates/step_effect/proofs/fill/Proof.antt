@@ -13,6 +13,16 @@ Inv-loop state₀ k isa from at delay b₀ state b = (b ≤ 8) × OnlySlots stat
 abbrev μ-loop : tie.MeasureT-loop
 μ-loop state₀ k isa from at delay b₀ state b = 8 - b
 
+-- ---- the places of the code, each named once
+
+abbrev start : tie.At-loop Inv-loop μ-loop → tie.Start Inv-loop μ-loop
+start c = c .before
+
+abbrev turned : tie.After-shared-slice-known Inv-loop μ-loop → tie.In-loop Inv-loop μ-loop
+turned c = c .before
+
+-- ---- what is asked
+
 loop-holds : tie.Need-loop-holds Inv-loop μ-loop
 loop-holds c = (search needs, only-none _ _, λ j l. absurd (omega arith))
 
@@ -47,7 +57,11 @@ loop-less : tie.Need-loop-less Inv-loop μ-loop
 loop-less c = search needs
 
 loop-again : tie.Need-loop-again Inv-loop μ-loop
-loop-again c = let l = c .before .before .loop in let a = c .before .before .before .args in let h = c .before .loop-test .taken in (search needs, only-more (l .inv .1) (l .b) _ h, copied-more (l .state) (a .k) (a .from .now) (a .at) (l .b) (search needs) (l .inv .2))
+loop-again c =
+    let at = turned c .before in
+    let a = start at .args in
+    let l = at .loop in
+    (search needs, only-more (l .inv .1) (l .b) _ (turned c .loop-test .taken), copied-more (l .state) (a .k) (a .from .now) (a .at) (l .b) (search needs) (l .inv .2))
 
 mul-state-4 : tie.Need-mul-state-4 Inv-loop μ-loop
 mul-state-4 c = search needs
@@ -68,13 +82,16 @@ mul-state-7 : tie.Need-mul-state-7 Inv-loop μ-loop
 mul-state-7 c = search needs
 
 slice-write-state-3 : tie.Need-slice-write-state-3 Inv-loop μ-loop
-slice-write-state-3 c = omega (arith, length-set (c .before .loop .state) (10 * c .before .before .args .k) (c .before .before .args .isa))
+slice-write-state-3 c = let a = start (c .before) .args in omega (arith, length-set (c .before .loop .state) (10 * a .k) (a .isa))
 
 same-length : tie.Need-same-length Inv-loop μ-loop
 same-length c = search needs
 
 returns : tie.Need-returns Inv-loop μ-loop
-returns c = let l = c .before .loop in let a = c .before .before .args in copied-end (l .inv .1) (a .isa) (a .from .now) (a .at) (a .delay) (l .b) (search needs) (c .loop-test .left) (l .inv .2)
+returns c =
+    let a = start (c .before) .args in
+    let l = c .before .loop in
+    copied-end (l .inv .1) (a .isa) (a .from .now) (a .at) (a .delay) (l .b) (search needs) (c .loop-test .left) (l .inv .2)
 
 pub fill-spec : {M : Type 1} → statement M
 fill-spec =

@@ -8,57 +8,82 @@ use Rattle.step_effect.proofs.FoundLaws.{fact-below, fact-made, none-ma
 use Rattle.step_effect.proofs.request.Statement.{statement}
 use Rattle.step_effect.proofs.request.Tie as tie
 
+-- ---- the places of the code, each named once
+
+abbrev start : tie.After-struct-known → tie.Start
+start c = c .before .before .before .before
+
+abbrev begun : tie.After-retrieve-arg2 → tie.Start
+begun c = start (c .before .before .before)
+
+abbrev answered : tie.After-i → tie.After-retrieve
+answered c = c .before .before
+
+abbrev fills : tie.After-shared-slice-known4 → tie.After-known-told
+fills c = c .before .before .before
+
+abbrev filled : tie.After-slice-known2 → tie.After-fill
+filled c = c .before .before
+
+abbrev nils : tie.After-nil-arg → tie.After-enum-told
+nils c = c .before
+
+abbrev nilled : tie.After-slice-known3 → tie.After-nil
+nilled c = c .before .before
+
+-- the fact that is found is one of the plan's, so its row stands on the tape
+found : (c : tie.After-known-told) → 144 + 11 * c .before .i .given .0 .0 + 11 ≤ length (begun (answered (c .before) .before) .args .tape .now)
+found c =
+    let i = c .before in
+    let answer = answered i in
+    let below = fact-below (i .i .given .1) (answer .retrieve .ensures .1) in
+    omega (arith, sections (begun (answer .before) .pre .4) .facts-end)
+
+-- ---- what is asked
+
 cast-n : tie.Need-cast-n
 cast-n c = search needs
 
 sub-facts : tie.Need-sub-facts
-sub-facts c = let s = sections (c .before .before .before .before .pre .4) in search needs
+sub-facts c = let s = sections (start c .pre .4) in search needs
 
 part-facts-start : tie.Need-part-facts-start
-part-facts-start c = let s = sections (c .before .before .before .before .pre .4) in search needs
+part-facts-start c = let s = sections (start c .pre .4) in search needs
 
 part-facts-end : tie.Need-part-facts-end
 part-facts-end c = search needs
 
 mul-retrieve : tie.Need-mul-retrieve
-mul-retrieve c = let s = sections (c .before .before .before .before .before .pre .4) in search needs
+mul-retrieve c = let s = sections (start (c .before) .pre .4) in search needs
 
 sub-retrieve : tie.Need-sub-retrieve
-sub-retrieve c = let s = sections (c .before .before .before .before .before .pre .4) in search needs
+sub-retrieve c = let s = sections (start (c .before) .pre .4) in search needs
 
 part-retrieve-start : tie.Need-part-retrieve-start
-part-retrieve-start c = let s = sections (c .before .before .before .before .before .pre .4) in search needs
+part-retrieve-start c = let s = sections (start (c .before) .pre .4) in search needs
 
 part-retrieve-end : tie.Need-part-retrieve-end
 part-retrieve-end c = search needs
 
 mul-retrieve-2 : tie.Need-mul-retrieve-2
-mul-retrieve-2 c = let s = sections (c .before .before .before .before .before .before .pre .4) in search needs
+mul-retrieve-2 c = let s = sections (start (c .before .before) .pre .4) in search needs
 
 sub-retrieve-2 : tie.Need-sub-retrieve-2
-sub-retrieve-2 c = let s = sections (c .before .before .before .before .before .before .pre .4) in search needs
+sub-retrieve-2 c = let s = sections (start (c .before .before) .pre .4) in search needs
 
 part-retrieve-start-2 : tie.Need-part-retrieve-start-2
-part-retrieve-start-2 c = let s = sections (c .before .before .before .before .before .before .pre .4) in search needs
+part-retrieve-start-2 c = let s = sections (start (c .before .before) .pre .4) in search needs
 
 part-retrieve-end-2 : tie.Need-part-retrieve-end-2
 part-retrieve-end-2 c = search needs
 
 retrieve-requires : tie.Need-retrieve-requires
 retrieve-requires c κs =
-    let pre = c .before .before .before .before .before .before .before .pre in
+    let pre = begun c .pre in
     simp to-end (pre .4 .most-facts, sections (pre .4) .facts-room, pre .2, pre .3, pre .5)
 
 enum-known-i : tie.Need-enum-known-i
 enum-known-i c = search needs
-
--- the fact that is found is one of the plan's, so its row stands on the tape
-found : (c : tie.After-known-told)
-    → let a = c .before .before .before .before .before .before .before .before .before .before .before .args in 144 + 11 * c .before .i .given .0 .0 + 11 ≤ length (a .tape .now)
-found c =
-    let start = c .before .before .before .before .before .before .before .before .before .before .before in
-    let below = fact-below (c .before .i .given .1) (c .before .before .before .retrieve .ensures .1) in
-    omega (arith, sections (start .pre .4) .facts-end)
 
 mul-f : tie.Need-mul-f
 mul-f c = let h = found c in search needs
@@ -79,10 +104,10 @@ mul-fill-2 : tie.Need-mul-fill-2
 mul-fill-2 c = let h = found (c .before .before) in search needs
 
 shared-slice-read-fill-2 : tie.Need-shared-slice-read-fill-2
-shared-slice-read-fill-2 c = let h = found (c .before .before .before) in search needs
+shared-slice-read-fill-2 c = let h = found (fills c) in search needs
 
 fill-requires : tie.Need-fill-requires
-fill-requires c κs = let h = found (c .before .before .before) in search needs
+fill-requires c κs = let h = found (fills c) in search needs
 
 enum-told : tie.Need-enum-told
 enum-told c = search needs
@@ -95,20 +120,22 @@ same-length c = search needs
 
 returns : tie.Need-returns
 returns c =
-    let a = c .before .before .before .before .before .before .before .before .before .before .before .before .before .before .before .before .before .args in
-    let answer = c .before .before .before .before .before .before .before .before .before .retrieve in
-    let is-fact = c .before .before .before .before .before .before .before .i .given .1 in
-    fact-made (drop 144 (a .tape .now)) (a .plan .failure) (simp to-end at (answer .ensures .0)) _ is-fact (simp to-end at (c .before .before .fill .ensures))
+    let f = filled c in
+    let i = fills (f .before) .before in
+    let answer = answered i in
+    let a = begun (answer .before) .args in
+    fact-made (drop 144 (a .tape .now)) (a .plan .failure) (simp to-end at (answer .retrieve .ensures .0)) _ (i .i .given .1) (simp to-end at (f .fill .ensures))
 
 same-length-2 : tie.Need-same-length-2
 same-length-2 c = search needs
 
 returns-2 : tie.Need-returns-2
 returns-2 c =
-    let a = c .before .before .before .before .before .before .before .before .before .before .before .before .before .before .args in
-    let answer = c .before .before .before .before .before .before .retrieve in
-    let is-nothing = c .before .before .before .before .enum-told .given .1 in
-    none-made (drop 144 (a .tape .now)) (a .plan .failure) (simp to-end at (answer .ensures .0)) is-nothing (c .before .before .nil .ensures)
+    let n = nilled c in
+    let t = nils (n .before) in
+    let answer = t .before .before in
+    let a = begun (answer .before) .args in
+    none-made (drop 144 (a .tape .now)) (a .plan .failure) (simp to-end at (answer .retrieve .ensures .0)) (t .enum-told .given .1) (n .nil .ensures)
 
 pub request-spec : {M : Type 1} → statement M
 request-spec =

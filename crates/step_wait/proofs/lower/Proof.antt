@@ -7,6 +7,13 @@ use Rattle.step_wait.proofs.DelayLaws.{delay-lowered, arrives-if, stays
 use Rattle.step_wait.proofs.lower.Statement.{statement}
 use Rattle.step_wait.proofs.lower.Tie as tie
 
+-- ---- the place of the code, named once
+
+abbrev start : tie.After-slice-known → tie.Start
+start c = c .before
+
+-- ---- what is asked
+
 mul-at : tie.Need-mul-at
 mul-at c = search needs
 
@@ -29,7 +36,9 @@ same-length : tie.Need-same-length
 same-length c = search needs
 
 returns : tie.Need-returns
-returns c = let a = c .before .before .args in (delay-lowered (a .state .now) (a .k) (a .ms) 0 (search needs) (omega arith), arrives-if (bufferIn (a .state .now) (a .k)) (a .ms) (c .if1 .taken))
+returns c =
+    let a = start (c .before) .args in
+    (delay-lowered (a .state .now) (a .k) (a .ms) 0 (search needs) (omega arith), arrives-if (bufferIn (a .state .now) (a .k)) (a .ms) (omega arith))
 
 sub-state : tie.Need-sub-state
 sub-state c = search needs
@@ -44,7 +53,9 @@ same-length-2 : tie.Need-same-length-2
 same-length-2 c = search needs
 
 returns-2 : tie.Need-returns-2
-returns-2 c = let a = c .before .before .args in (delay-lowered (a .state .now) (a .k) (a .ms) _ (search needs) refl, stays-if (bufferIn (a .state .now) (a .k)) (a .ms) (c .if1 .left))
+returns-2 c =
+    let a = start (c .before) .args in
+    (delay-lowered (a .state .now) (a .k) (a .ms) _ (search needs) refl, stays-if (bufferIn (a .state .now) (a .k)) (a .ms) (c .if1 .left))
 
 pub lower-spec : {M : Type 1} → statement M
 lower-spec =

@@ -15,6 +15,16 @@ Inv-loop state ms₀ k₀ ms k = (k ≤ 8) × (soonest ms (rowsIn (bufferIn stat
 abbrev μ-loop : tie.MeasureT-loop
 μ-loop state ms₀ k₀ ms k = 8 - k
 
+-- ---- the places of the code, each named once
+
+abbrev start : tie.At-loop Inv-loop μ-loop → tie.Start Inv-loop μ-loop
+start c = c .before .before
+
+abbrev turned : tie.After-sooner Inv-loop μ-loop → tie.In-loop Inv-loop μ-loop
+turned c = c .before .before
+
+-- ---- what is asked
+
 loop-holds : tie.Need-loop-holds Inv-loop μ-loop
 loop-holds c = (search needs, refl)
 
@@ -40,10 +50,17 @@ loop-less : tie.Need-loop-less Inv-loop μ-loop
 loop-less c = search needs
 
 loop-again : tie.Need-loop-again Inv-loop μ-loop
-loop-again c = let l = c .before .before .before .loop in let a = c .before .before .before .before .before .args in (search needs, rw (c .sooner .ensures) (soonest-turn (a .state .now) (l .k) (l .ms) (c .before .before .loop-test .taken)) ∙ l .inv .1)
+loop-again c =
+    let at = turned c .before in
+    let a = start at .args in
+    let l = at .loop in
+    (search needs, soonest-turn (a .state .now) (l .k) (l .ms) (c .sooner .ensures) (turned c .loop-test .taken) ∙ l .inv .1)
 
 returns : tie.Need-returns Inv-loop μ-loop
-returns c = let l = c .before .loop in let a = c .before .before .before .args in soonest-end (a .state .now) (l .k) (l .ms) (c .loop-test .left) ∙ l .inv .1
+returns c =
+    let a = start (c .before) .args in
+    let l = c .before .loop in
+    soonest-end (a .state .now) (l .k) (l .ms) (c .loop-test .left) ∙ l .inv .1
 
 pub soonest-spec : {M : Type 1} → statement M
 soonest-spec =

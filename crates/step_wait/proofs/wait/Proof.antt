@@ -1,6 +1,6 @@
 -- `step_wait::wait` meets its contract: each buffer in its turn, with its weight in the mark.
 use borrow.Author.Needs.{needs}
-use Prim.Native.Nat.{_+_, _-_}
+use Prim.Native.Nat.{_+_, _-_, _<_}
 use mathlib.Core.Path.{refl, ap}
 use mathlib.Core.List.{[]}
 use mathlib.Core.Logic.{⊎-elim}
@@ -18,18 +18,45 @@ Inv-loop state₀ ms mark₀ weight₀ k₀ state mark weight k = Going (λ i b.
 abbrev μ-loop : tie.MeasureT-loop
 μ-loop state₀ ms mark₀ weight₀ k₀ state mark weight k = 8 - k
 
+-- ---- the places of the code, each named once
+
+abbrev start : tie.At-loop Inv-loop μ-loop → tie.Start Inv-loop μ-loop
+start c = c .before .before
+
+abbrev turned : tie.After-lower-arg Inv-loop μ-loop → tie.In-loop Inv-loop μ-loop
+turned c = c .before
+
+abbrev loop-of : tie.After-lower-arg Inv-loop μ-loop → tie.At-loop Inv-loop μ-loop
+loop-of c = turned c .before
+
+abbrev lowered : tie.After-slice-known2 Inv-loop μ-loop → tie.After-lower Inv-loop μ-loop
+lowered c = c .before .before
+
+-- ---- the buffer of a turn
+
+more : (c : tie.After-lower-arg Inv-loop μ-loop) → loop-of c .loop .k < 8
+more c = omega (arith, turned c .loop-test .taken)
+
+-- ---- what is asked
+
 loop-holds : tie.Need-loop-holds Inv-loop μ-loop
 loop-holds c = going-start _ _ _
 
 lower-requires : tie.Need-lower-requires Inv-loop μ-loop
-lower-requires c κs = let g = c .before .before .loop .inv in (omega (arith, g .size, c .before .before .before .before .pre), search needs)
+lower-requires c κs = let l = loop-of c in (omega (arith, l .loop .inv .size, start l .pre), more c)
 
 add-mark : tie.Need-add-mark Inv-loop μ-loop
 unfolding deedOn
-add-mark c = let h = going-fits (c .before .before .before .before .before .before .loop .inv) (omega arith) (c .before .before .before .lower .ensures .1) (c .if1 .taken) in omega arith
+add-mark c =
+    let low = lowered (c .before) in
+    let h = going-fits (loop-of (low .before) .loop .inv) (more (low .before)) (low .lower .ensures .1) (c .if1 .taken) in
+    omega arith
 
 mul-weight : tie.Need-mul-weight Inv-loop μ-loop
-mul-weight c = let h = going-weight (c .before .before .before .before .before .before .loop .inv) (omega arith) in omega arith
+mul-weight c =
+    let low = lowered (c .before) in
+    let h = going-weight (loop-of (low .before) .loop .inv) (more (low .before)) in
+    omega arith
 
 add-k : tie.Need-add-k Inv-loop μ-loop
 add-k c = search needs
@@ -40,10 +67,11 @@ loop-less c = search needs
 loop-again : tie.Need-loop-again Inv-loop μ-loop
 unfolding deedOn
 loop-again c =
-    let g = c .before .before .before .before .before .before .loop .inv in
-    let r = c .before .before .before .lower in
-    ⊎-elim (λ w. rw (w .1) (going-on g (omega arith) (r .ensures .1) (r .kept .0) (r .ensures .0) (w .0 .taken)))
-    (λ w. rw (w .1) (going-off g (omega arith) (r .ensures .1) (r .kept .0) (r .ensures .0) (w .0 .left))) (c .if1 .came)
+    let arg = lowered (c .before) .before in
+    let going = loop-of arg .loop .inv in
+    let low = lowered (c .before) .lower in
+    ⊎-elim (λ w. rw (w .1) (going-on going (more arg) (low .ensures .1) (low .kept .0) (low .ensures .0) (w .0 .taken)))
+    (λ w. rw (w .1) (going-off going (more arg) (low .ensures .1) (low .kept .0) (low .ensures .0) (w .0 .left))) (c .if1 .came)
 
 same-length : tie.Need-same-length Inv-loop μ-loop
 same-length c = c .before .loop .inv .size
@@ -52,7 +80,7 @@ returns : tie.Need-returns Inv-loop μ-loop
 unfolding wait
 returns c =
     let g = c .before .loop .inv in
-    let a = c .before .before .before .args in
+    let a = start (c .before) .args in
     (λ clock. ap (λ bs. record { buffers = bs; clock = clock + a .ms }) (going-made g (omega arith)), λ clock clock′. going-marked g (omega arith) [] refl clock clock′)
 
 pub wait-spec : {M : Type 1} → statement M
