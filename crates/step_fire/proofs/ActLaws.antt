@@ -1,26 +1,36 @@
 -- The deed on a buffer, and what it makes of it. In a loop over the action rows: what is left of the rows gives what all give.
-use Prim.Native.Nat.{ℕ, _+_, _-_, _*_, _%_, _≤_, _<_}
-use mathlib.Core.Path.{_≡_, refl}
-use mathlib.Core.Bool.{Bool, true, _||_}
+use Prim.Native.Nat.{ℕ, _+_, _-_, _*_, _/_, _%_, _^_, _≤_, _<_}
+use mathlib.Core.Path.{_≡_, refl, sym, ap, _∙_}
+use mathlib.Core.Bool.{Bool, true, false, _||_, or-false, or-assoc}
 use mathlib.Core.List.{List}
 use mathlib.Core.Option.{Option, none, some}
+use native.Mathlib.Decide.{ℕ-discrete}
 use native.Mathlib.Omega.{arith}
 use borrow.Author.Tests.{eq-eqb, ne-eqb, lt-ltb, le-ltb}
+use lib.Bits.{bitAnd, bitOr, and-mask}
+use lib.Dec.{eqb}
 use lib.ListN.{getD}
+use lib.Pow.{pow-mono}
 use Rattle.meaning.specs.declared.Buffer.{Buffer}
+use Rattle.meaning.specs.Base.{bit}
 use Rattle.meaning.specs.Model.{Named, Deed, Action, Rule, Fact}
 use Rattle.meaning.specs.State.{nilAfter}
 use Rattle.meaning.specs.Retrieval.{retrieve, retrieved}
 use Rattle.meaning.specs.Fire.{done, later, after, deedOn, change, fire}
-use Rattle.meaning.specs.Mark.{isSome}
+use Rattle.meaning.specs.Mark.{isSome, actedOn}
 use Rattle.layout.specs.Rows.{rowsIn, deedOf, actionIn, actionsIn}
 use Rattle.layout.specs.StateWords.{buffersIn, stateIn}
 use Rattle.layout.proofs.RowLaws.{rows-left}
+use Rattle.laws.specs.BaseLaws.{by-lt, no-true, bit-zero}
+use Rattle.read_terms.proofs.MaskBits.{bit-is}
+use Rattle.match_sets.proofs.BitLaws.{bit-or, bit-power}
 use Rattle.step_wait.specs.Remade.{Remade, arrives}
 use Rattle.step_effect.specs.Deeds.{modified}
-use Rattle.step_fire.specs.declared.OnBuffer.{OnBuffer}
-use Rattle.step_fire.specs.declared.OnBuffer.the-variants.{Row, NoAction}
-use Rattle.step_fire.specs.Acts.{deedAt, RowWithin}
+use Rattle.step_fire.specs.Acts.{ActedMask}
+
+-- the buffer of row i
+abbrev pub onRow : List ℕ → ℕ → ℕ → ℕ
+onRow words o i = getD words (o + 11 * i) 0 % 8
 
 -- the deed on buffer k in the rows from i on
 unfoldable pub deedFrom : List ℕ → ℕ → ℕ → ℕ → ℕ → Option Deed
@@ -31,24 +41,72 @@ unfolding deedFrom
 deed-start words o m k = let e : m - 0 ≡ m = omega arith in rw e
 
 module _ (words : List ℕ) (o m k i : ℕ) where
-  pub deed-here : i < m → getD words (o + 11 * i) 0 % 8 ≡ k → deedFrom words o m k i ≡ some (actionIn words (o + 11 * i) .deed)
+  pub deed-here : i < m → onRow words o i ≡ k → deedFrom words o m k i ≡ some (actionIn words (o + 11 * i) .deed)
   unfolding deedFrom deedOn
   deed-here h e =
       let n : m - i + i ≡ m = omega arith in
       rw (rows-left (λ j. actionIn words (o + 11 * j)) i m h (m - i) n, eq-eqb _ _ e)
 
-  pub deed-further : i < m → (getD words (o + 11 * i) 0 % 8 ≡ k → ⊥) → deedFrom words o m k (i + 1) ≡ deedFrom words o m k i
+  pub deed-further : i < m → (onRow words o i ≡ k → ⊥) → deedFrom words o m k (i + 1) ≡ deedFrom words o m k i
   unfolding deedFrom deedOn
   deed-further h e =
       let n : m - i + i ≡ m = omega arith in
       rw (rows-left (λ j. actionIn words (o + 11 * j)) i m h (m - i) n, ne-eqb _ _ e)
 
-  pub deed-none : m ≤ i → deedFrom words o m k i ≡ none
+  deed-none : m ≤ i → deedFrom words o m k i ≡ none
   unfolding deedFrom deedOn rowsIn
   deed-none h = let e : m - i ≡ 0 = omega arith in rw e
 
-pub row-within : {r : OnBuffer} {q n : ℕ} → r ≡ Row q → RowWithin r n → q + 11 ≤ n
-row-within e h = rw e at h
+  -- where a deed is left, a row is
+  pub deed-left : isSome (deedFrom words o m k i) ≡ true → i < m
+  deed-left e = by-lt i m (λ h. h) (λ h. absurd (no-true (sym e ∙ ap isSome (deed-none h))))
+
+-- the deed that is left at the last row is its own
+pub deed-last : (words : List ℕ) (o m k i : ℕ) → m ≤ i + 1 → isSome (deedFrom words o m k i) ≡ true → deedFrom words o m k i ≡ some (actionIn words (o + 11 * i) .deed)
+deed-last words o m k i h e =
+    let l = deed-left words o m k i e in
+    elim (ℕ-discrete (onRow words o i) k) [
+      | yes on ↦ deed-here words o m k i l on
+      | no off ↦ absurd (no-true (sym e ∙ ap isSome (sym (deed-further words o m k i l off) ∙ deed-none words o m k (i + 1) h)))
+    ]
+
+-- ---- the mask of the buffers acted on, in a loop over the rows: with the rows that are left it tells of all
+
+bit-off : (x k : ℕ) → bitAnd (x / 2 ^ k) 1 ≡ 0 → bit x k ≡ false
+bit-off x k e = bit-is x k ∙ ne-eqb (x / 2 ^ k % 2) 1 (λ z. omega (arith, and-mask (x / 2 ^ k) 1))
+
+bit-on : (x k : ℕ) → (bitAnd (x / 2 ^ k) 1 ≡ 0 → ⊥) → bit x k ≡ true
+bit-on x k e = bit-is x k ∙ eq-eqb (x / 2 ^ k % 2) 1 (omega (arith, and-mask (x / 2 ^ k) 1, e))
+
+module _ (as′ : List Action) (mask k : ℕ) (h : ActedMask as′ mask) where
+  pub is-acted-on : (bitAnd (mask / 2 ^ k) 1 ≡ 0 → ⊥) → actedOn as′ k ≡ true
+  is-acted-on e = sym (h k) ∙ bit-on mask k e
+
+  pub is-left-alone : bitAnd (mask / 2 ^ k) 1 ≡ 0 → actedOn as′ k ≡ false
+  is-left-alone e = sym (h k) ∙ bit-off mask k e
+
+module _ (words : List ℕ) (o m : ℕ) where
+  abbrev pub Masked : ℕ → ℕ → Type 0
+  Masked i mask = (k : ℕ) → (bit mask k || isSome (deedFrom words o m k i)) ≡ actedOn (actionsIn words o m) k
+
+  pub masked-start : Masked 0 0
+  masked-start k = rw (bit-zero k) (ap isSome (deed-start words o m k))
+
+  pub masked-end : (i mask : ℕ) → m ≤ i → Masked i mask → ActedMask (actionsIn words o m) mask
+  masked-end i mask h f k = sym (or-false (bit mask k)) ∙ ap (λ (d : Option Deed). bit mask k || isSome d) (sym (deed-none words o m k i h)) ∙ f k
+
+  -- a row's buffer, beside those of the rows after it
+  row-more : (i k : ℕ) → i < m → (eqb k (onRow words o i) || isSome (deedFrom words o m k (i + 1))) ≡ isSome (deedFrom words o m k i)
+  row-more i k h =
+      elim (ℕ-discrete (onRow words o i) k) [
+        | yes on ↦ rw (eq-eqb k (onRow words o i) (sym on), deed-here words o m k i h on)
+        | no off ↦ rw (ne-eqb k (onRow words o i) (λ e. off (sym e))) (ap isSome (deed-further words o m k i h off))
+      ]
+
+  pub masked-turn : (i mask : ℕ) → i < m → Masked i mask → Masked (i + 1) (bitOr mask (1 * 2 ^ onRow words o i % 65536))
+  masked-turn i mask h f k =
+      let one : 1 * 2 ^ onRow words o i % 65536 ≡ 2 ^ onRow words o i = omega (arith, pow-mono {i = onRow words o i} {j = 8} (omega arith)) in
+      rw (one, bit-or, bit-power, or-assoc, row-more i k h) (f k)
 
 -- ---- a deed, by its number
 
@@ -72,12 +130,13 @@ module _ (words : List ℕ) (failure : ℕ) (memory : List Fact) (nine : List �
   abbrev pub Acted : Option Deed → List ℕ → List ℕ → ℕ → Bool → Type 0
   Acted d w w′ k t = Remade w w′ k (after failure memory nine b d) × (t ≡ (isSome d || arrives b (after failure memory nine b d)))
 
-  module _ {d : Option Deed} {r : OnBuffer} (e : d ≡ deedAt words r) {w w′ : List ℕ} {k : ℕ} where
-    pub acted-on : (q : ℕ) → r ≡ Row q → Remade w w′ k (done failure memory nine b (actionIn words q .deed)) → Acted d w w′ k true
-    acted-on q g m = rw (e, g) (m, refl)
+  module _ {w w′ : List ℕ} {k : ℕ} where
+    pub acted-on : {d : Option Deed} (q : ℕ) → d ≡ some (actionIn words q .deed) → Remade w w′ k (done failure memory nine b (actionIn words q .deed)) → Acted d w w′ k true
+    acted-on q e made = rw e (made, refl)
 
-    pub not-acted-on : (t : Bool) → r ≡ NoAction → Remade w w′ k (later 50 b) × (t ≡ arrives b (later 50 b)) → Acted d w w′ k t
-    not-acted-on t g m = rw (e, g) m
+    pub not-acted-on : (d : Option Deed) (t : Bool) → isSome d ≡ false → Remade w w′ k (later 50 b) × (t ≡ arrives b (later 50 b)) → Acted d w w′ k t
+    not-acted-on none t e made = made
+    not-acted-on (some d) t e made = absurd (no-true e)
 
 -- every buffer anew by the actions of a rule is the rule's firing
 pub fired : (failure : ℕ) (memory : List Fact) (nine : List ℕ) {as′ : List Action} (w w′ : List ℕ) → buffersIn w′ ≡ change (λ i b. after failure memory nine b (deedOn as′ i)) 0 (buffersIn w)

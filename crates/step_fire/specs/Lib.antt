@@ -1,2 +1,2 @@
--- Where the action on a buffer stands.
+-- Which buffers are acted on.
 pub mod Acts

@@ -1,7 +1,8 @@
 // Firing: what a rule's actions make of a state, in place on its eighty words.
 // Each buffer is made anew from its own words, the rule's nine words and the facts alone, so none sees what was made of another.
 ghost use mathlib.Core.Path.{_≡_};
-ghost use mathlib.Core.Bool.{_||_};
+ghost use mathlib.Core.Bool.{true, _||_};
+ghost use mathlib.Core.Option.{some};
 ghost use Prim.Native.Nat.{ℕ, _+_, _*_, _≤_, _<_};
 ghost use lib.ListN.{length};
 ghost use Rattle.meaning.specs.Model.{Rule};
@@ -12,37 +13,45 @@ ghost use Rattle.layout.specs.StateWords.{bufferIn, stateIn};
 ghost use Rattle.layout.specs.Plans.{factsOn, rowsOn, Planned};
 ghost use Rattle.step_retrieve.specs.Chains.{ChainsOn};
 ghost use Rattle.step_wait.specs.Remade.{Remade, arrives};
-ghost use Rattle.step_fire.specs.Acts.{deedAt, RowWithin};
+ghost use Rattle.step_fire.specs.Acts.{ActedMask};
 use layout::Plan;
 use layout::ROW_WORDS;
 
-// Where the row of the action on a buffer starts, if there is one.
-pub enum OnBuffer {
-    Row(usize),
-    NoAction,
-}
-
-// The first of the m action rows from o on that is on buffer k.
-fn action_on(words: &[u16], o: usize, m: usize, k: usize) -> OnBuffer
+// The buffers that the m action rows from o on are on, buffer b with weight 2 to the power b.
+fn acted_mask(words: &[u16], o: usize, m: usize) -> u16
     requires { ⌜ o + 11 * m ≤ length (now words) ⌝ }
-    ensures { λ r. ⌜ deedOn (actionsIn (now (words .entry)) o m) k ≡ deedAt (now (words .entry)) r ⌝ }
-    ensures within { λ r. ⌜ RowWithin r (length (now (words .entry))) ⌝ }
+    ensures { λ r. ⌜ ActedMask (actionsIn (now (words .entry)) o m) r ⌝ }
 {
+    let mut mask = 0;
     let mut i = 0;
     while i < m {
+        mask |= 1u16 << (words[o + ROW_WORDS * i] % 8);
+        i += 1;
+    }
+    mask
+}
+
+// Where the first of the m action rows from o on that is on buffer k starts. One of them is, so it is the last if no other is.
+fn action_on(words: &[u16], o: usize, m: usize, k: usize) -> usize
+    requires { ⌜ (o + 11 * m ≤ length (now words)) × (actedOn (actionsIn (now words) o m) k ≡ true) ⌝ }
+    ensures { λ q. ⌜ (deedOn (actionsIn (now (words .entry)) o m) k ≡ some (actionIn (now (words .entry)) q .deed)) × (q + 11 ≤ length (now (words .entry))) ⌝ }
+{
+    let mut i = 0;
+    while i + 1 < m {
         let q = o + ROW_WORDS * i;
         if (words[q] % 8) as usize == k {
-            return OnBuffer::Row(q);
+            return q;
         }
         i += 1;
     }
-    OnBuffer::NoAction
+    o + ROW_WORDS * i
 }
 
 // Does the action at q of the rows on buffer k.
 fn perform(state: &mut [u16], k: usize, plan: Plan, tape: &[u16], q: usize, nine: &[u16])
     requires { ⌜ (80 ≤ length (now state)) × (k < 8) × (q + 11 ≤ length (rowsOn plan (now tape))) × (9 ≤ length (now nine)) × Planned plan (now tape) × ChainsOn plan (now tape) ⌝ }
-    ensures { λ _. ⌜ Remade (now (state .entry)) (now (state .exit)) k (done (plan .failure) (factsOn plan (now (tape .entry))) (now (nine .entry)) (bufferIn (now (state .entry)) k) (actionIn (rowsOn plan (now (tape .entry))) q .deed)) ⌝ }
+    ensures { λ _. ⌜ Remade (now (state .entry)) (now (state .exit)) k
+        (done (plan .failure) (factsOn plan (now (tape .entry))) (now (nine .entry)) (bufferIn (now (state .entry)) k) (actionIn (rowsOn plan (now (tape .entry))) q .deed)) ⌝ }
 {
     let rows = plan.rows;
     let words = &tape[rows..];
@@ -58,7 +67,7 @@ fn perform(state: &mut [u16], k: usize, plan: Plan, tape: &[u16], q: usize, nine
     step_effect::nil(state, k, 0);
 }
 
-// What the firing of the m actions from o on makes of buffer k; whether the buffer is marked.
+// What the firing of the m actions from o on makes of buffer k, where `acted` tells the buffers that they are on; whether the buffer is marked.
 // A buffer without an action loses 50 ms from its delay.
 fn act(
     state: &mut [u16],
@@ -68,32 +77,38 @@ fn act(
     o: usize,
     m: usize,
     nine: &[u16],
+    acted: u16,
 ) -> bool
-    requires { ⌜ (80 ≤ length (now state)) × (k < 8) × (o + 11 * m ≤ length (rowsOn plan (now tape))) × (9 ≤ length (now nine)) × Planned plan (now tape) × ChainsOn plan (now tape) ⌝ }
-    ensures { λ _. ⌜ Remade (now (state .entry)) (now (state .exit)) k (after (plan .failure) (factsOn plan (now (tape .entry))) (now (nine .entry)) (bufferIn (now (state .entry)) k) (deedOn (actionsIn (rowsOn plan (now (tape .entry))) o m) k)) ⌝ }
-    ensures mark { λ r. ⌜ r ≡ (actedOn (actionsIn (rowsOn plan (now (tape .entry))) o m) k || arrives (bufferIn (now (state .entry)) k) (after (plan .failure) (factsOn plan (now (tape .entry))) (now (nine .entry)) (bufferIn (now (state .entry)) k) (deedOn (actionsIn (rowsOn plan (now (tape .entry))) o m) k))) ⌝ }
+    requires { ⌜ (80 ≤ length (now state)) × (k < 8) × (o + 11 * m ≤ length (rowsOn plan (now tape))) × (9 ≤ length (now nine)) × Planned plan (now tape) × ChainsOn plan (now tape)
+        × ActedMask (actionsIn (rowsOn plan (now tape)) o m) acted ⌝ }
+    ensures { λ _. ⌜ Remade (now (state .entry)) (now (state .exit)) k
+        (after (plan .failure) (factsOn plan (now (tape .entry))) (now (nine .entry)) (bufferIn (now (state .entry)) k) (deedOn (actionsIn (rowsOn plan (now (tape .entry))) o m) k)) ⌝ }
+    ensures mark { λ r. ⌜ r ≡ (actedOn (actionsIn (rowsOn plan (now (tape .entry))) o m) k || arrives (bufferIn (now (state .entry)) k)
+        (after (plan .failure) (factsOn plan (now (tape .entry))) (now (nine .entry)) (bufferIn (now (state .entry)) k) (deedOn (actionsIn (rowsOn plan (now (tape .entry))) o m) k))) ⌝ }
 {
-    let rows = plan.rows;
-    match action_on(&tape[rows..], o, m, k) {
-        OnBuffer::Row(q) => {
-            perform(state, k, plan, tape, q, nine);
-            true
-        }
-        OnBuffer::NoAction => step_wait::lower(state, k, 50),
+    if (acted >> k) & 1 == 0 {
+        return step_wait::lower(state, k, 50);
     }
+    let rows = plan.rows;
+    let q = action_on(&tape[rows..], o, m, k);
+    perform(state, k, plan, tape, q, nine);
+    true
 }
 
 // Fires a rule with the m actions from o on and the nine words of its entry; the mark of the buffers acted on or arrived.
 pub fn fire(state: &mut [u16], plan: Plan, tape: &[u16], o: usize, m: usize, nine: &[u16]) -> u16
     requires { ⌜ (80 ≤ length (now state)) × (o + 11 * m ≤ length (rowsOn plan (now tape))) × (m ≤ 8) × (9 ≤ length (now nine)) × Planned plan (now tape) × ChainsOn plan (now tape) ⌝ }
-    ensures { λ _. ⌜ ((clock : ℕ) (r : Rule) → r .actions ≡ actionsIn (rowsOn plan (now (tape .entry))) o m → stateIn (now (state .exit)) (clock + 50) ≡ fire (plan .failure) (factsOn plan (now (tape .entry))) r (now (nine .entry)) (stateIn (now (state .entry)) clock)) ⌝ }
+    ensures { λ _. ⌜ ((clock : ℕ) (r : Rule) → r .actions ≡ actionsIn (rowsOn plan (now (tape .entry))) o m
+        → stateIn (now (state .exit)) (clock + 50) ≡ fire (plan .failure) (factsOn plan (now (tape .entry))) r (now (nine .entry)) (stateIn (now (state .entry)) clock)) ⌝ }
     ensures mark { λ r. ⌜ ((clock clock′ : ℕ) → r ≡ markOf (actionsIn (rowsOn plan (now (tape .entry))) o m) (stateIn (now (state .entry)) clock) (stateIn (now (state .exit)) clock′)) ⌝ }
 {
+    let rows = plan.rows;
+    let acted = acted_mask(&tape[rows..], o, m);
     let mut mark = 0u16;
     let mut weight = 1u16;
     let mut k = 0;
     while k < 8 {
-        if act(state, k, plan, tape, o, m, nine) {
+        if act(state, k, plan, tape, o, m, nine, acted) {
             mark += weight;
         }
         weight *= 2;

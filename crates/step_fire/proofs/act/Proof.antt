@@ -1,38 +1,44 @@
 -- `step_fire::act` meets its contract: a buffer with an action is what the action makes of it, any other is 50 ms older.
 use borrow.Author.Needs.{needs}
+use Rattle.meaning.specs.Fire.{deedOn}
+use Rattle.layout.specs.Rows.{actionsIn}
 use Rattle.layout.specs.StateWords.{bufferIn}
 use Rattle.layout.specs.Plans.{factsOn, rowsOn}
 use Rattle.layout.proofs.PlanLaws.{sections, to-end}
-use Rattle.step_fire.proofs.ActLaws.{row-within, acted-on, not-acted-on}
+use Rattle.step_fire.proofs.ActLaws.{is-acted-on, is-left-alone, acted-on, not-acted-on}
 use Rattle.step_fire.proofs.act.Statement.{statement}
 use Rattle.step_fire.proofs.act.Tie as tie
 
-mul-action-on : tie.Need-mul-action-on
-mul-action-on c = let s = sections (c .before .before .before .pre .4) in search needs
+-- ---- the places of the code, each named once
 
-sub-action-on : tie.Need-sub-action-on
-sub-action-on c = let s = sections (c .before .before .before .pre .4) in search needs
+abbrev start : tie.After-shared-slice-known2 → tie.Start
+start c = c .before .before .before
 
-part-action-on-start : tie.Need-part-action-on-start
-part-action-on-start c = let s = sections (c .before .before .before .pre .4) in search needs
+abbrev lowers : tie.After-lower-arg → tie.Then1
+lowers c = c .before
 
-part-action-on-end : tie.Need-part-action-on-end
-part-action-on-end c = search needs
+abbrev lowered : tie.After-slice-known2 → tie.After-lower
+lowered c = c .before .before
 
-action-on-requires : tie.Need-action-on-requires
-action-on-requires c κs = simp to-end (c .before .before .before .before .pre .2)
+abbrev acts : tie.After-action-on-arg → tie.Else1
+acts c = c .before
 
-enum-known-q : tie.Need-enum-known-q
-enum-known-q c = search needs
+abbrev begun : tie.After-action-on-arg → tie.Start
+begun c = start (acts c .before)
 
-perform-requires : tie.Need-perform-requires
-perform-requires c κs =
-    let pre = c .before .before .before .before .before .before .before .before .before .pre in
-    let within = row-within (c .before .before .q .given .1) (c .before .before .before .before .action-on .ensures .1) in
-    (pre .0, pre .1, simp to-end at within, pre .3, pre .4, pre .5)
+abbrev on : tie.After-perform-arg → tie.After-action-on
+on c = c .before
 
-enum-told : tie.Need-enum-told
-enum-told c = search needs
+abbrev performed : tie.After-slice-known3 → tie.After-perform
+performed c = c .before .before
+
+-- ---- what is asked
+
+cast-if1 : tie.Need-cast-if1
+cast-if1 c = search needs
+
+shr-if1 : tie.Need-shr-if1
+shr-if1 c = search needs
 
 lower-requires : tie.Need-lower-requires
 lower-requires c κs = search needs
@@ -42,39 +48,64 @@ same-length c = search needs
 
 returns : tie.Need-returns
 returns c =
-    let a = c .before .before .before .before .before .before .before .before .before .before .before .before .args in
-    let deed = c .before .before .before .before .before .before .before .action-on .ensures .0 in
-    let is-row = c .before .before .before .before .before .q .given .1 in
-    let made = c .before .before .perform .ensures in
-    acted-on (rowsOn (a .plan) (a .tape .now)) (a .plan .failure) (factsOn (a .plan) (a .tape .now)) (a .nine .now) (bufferIn (a .state .now) (a .k))
-    (simp to-end at deed) _ is-row made
+    let l = lowered c in
+    let t = lowers (l .before) in
+    let s = start (t .before) in
+    let a = s .args in
+    let rows = rowsOn (a .plan) (a .tape .now) in
+    let actions = actionsIn rows (a .o) (a .m) in
+    not-acted-on rows (a .plan .failure) (factsOn (a .plan) (a .tape .now)) (a .nine .now) (bufferIn (a .state .now) (a .k))
+    (deedOn actions (a .k)) (l .lower .result) (is-left-alone actions (a .acted) (a .k) (s .pre .6) (t .if1 .taken)) (l .lower .ensures)
+
+mul-action-on : tie.Need-mul-action-on
+mul-action-on c = let s = sections (start (c .before) .pre .4) in search needs
+
+sub-action-on : tie.Need-sub-action-on
+sub-action-on c = let s = sections (start (c .before) .pre .4) in search needs
+
+part-action-on-start : tie.Need-part-action-on-start
+part-action-on-start c = let s = sections (start (c .before) .pre .4) in search needs
+
+part-action-on-end : tie.Need-part-action-on-end
+part-action-on-end c = search needs
+
+action-on-requires : tie.Need-action-on-requires
+action-on-requires c κs =
+    let s = begun c in
+    let a = s .args in
+    simp to-end (s .pre .2, is-acted-on (actionsIn (rowsOn (a .plan) (a .tape .now)) (a .o) (a .m)) (a .acted) (a .k) (s .pre .6) (acts c .if1 .left))
+
+perform-requires : tie.Need-perform-requires
+perform-requires c κs =
+    let found = on c in
+    let pre = begun (found .before) .pre in
+    (pre .0, pre .1, simp to-end at (found .action-on .ensures .1), pre .3, pre .4, pre .5)
 
 same-length-2 : tie.Need-same-length-2
 same-length-2 c = search needs
 
 returns-2 : tie.Need-returns-2
 returns-2 c =
-    let a = c .before .before .before .before .before .before .before .before .before .before .before .args in
-    let deed = c .before .before .before .before .before .before .action-on .ensures .0 in
-    let is-none = c .before .before .before .before .enum-told .given .1 in
-    let older = c .before .before .lower in
-    not-acted-on (rowsOn (a .plan) (a .tape .now)) (a .plan .failure) (factsOn (a .plan) (a .tape .now)) (a .nine .now) (bufferIn (a .state .now) (a .k))
-    (simp to-end at deed) (older .result) is-none (older .ensures)
+    let p = performed c in
+    let found = on (p .before) in
+    let a = begun (found .before) .args in
+    acted-on (rowsOn (a .plan) (a .tape .now)) (a .plan .failure) (factsOn (a .plan) (a .tape .now)) (a .nine .now) (bufferIn (a .state .now) (a .k))
+    (found .action-on .result) (simp to-end at (found .action-on .ensures .0)) (p .perform .ensures)
 
 pub act-spec : {M : Type 1} → statement M
 act-spec =
     tie.close
     (tie.spec
+    cast-if1
+    shr-if1
+    lower-requires
+    same-length
+    returns
     mul-action-on
     sub-action-on
     part-action-on-start
     part-action-on-end
     action-on-requires
-    enum-known-q
     perform-requires
-    enum-told
-    lower-requires
-    same-length
-    returns
     same-length-2
     returns-2)
