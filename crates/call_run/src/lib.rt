@@ -115,7 +115,8 @@ pub fn trace(
     steps: u16,
     events: &mut [u32],
 ) -> RunDone
-    ensures { λ r. ⌜ (ranBack r (now (table .exit)) ≡ runOf (now (image .entry)) state (now (table .entry)) steps) × (now (events .exit) ≡ inscribed (now (events .entry)) 0 (traceOf (now (image .entry)) state (now (table .entry)) steps .events)) ⌝ }
+    ensures { λ r. ⌜ (ranBack r (now (table .exit)) ≡ runOf (now (image .entry)) state (now (table .entry)) steps)
+        × (now (events .exit) ≡ inscribed (now (events .entry)) 0 (traceOf (now (image .entry)) state (now (table .entry)) steps .events)) ⌝ }
 {
     let begun = read_image::begin(image);
     let plan = begun.plan;

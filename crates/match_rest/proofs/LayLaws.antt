@@ -136,7 +136,8 @@ testing-turn heads k sets sets′ few t joins =
 -- ---- all of it
 
 module _ (heads words order : List ℕ) (n : ℕ) (state table s s₁ s₂ s₃ : List ℕ) (roomy : Roomy n s) (size : length s₃ ≡ length s) (ranked : Ranked heads order n)
-    (clear : Cleared s) (hitting : Hitting table order s₁ n) (hits-beside : (j i : ℕ) → (4 ≤ j → j < 8 → ⊥) → has s₁ j i ≡ has s j i) (testing : Testing heads n s₂) (beside : (j i : ℕ) → (8 ≤ j → j < 40 → ⊥) → has s₂ j i ≡ has s₁ j i)
+    (clear : Cleared s) (hitting : Hitting table order s₁ n) (hits-beside : (j i : ℕ) → (4 ≤ j → j < 8 → ⊥) → has s₁ j i ≡ has s j i)
+    (testing : Testing heads n s₂) (beside : (j i : ℕ) → (8 ≤ j → j < 40 → ⊥) → has s₂ j i ≡ has s₁ j i)
     (awake : (j i : ℕ) → j < 4 → i < 64 → has s₃ j i ≡ true) (after : (j i : ℕ) → 4 ≤ j → has s₃ j i ≡ has s₂ j i) where
   hit-word : (j i : ℕ) → 4 ≤ j → j < 8 → has s₃ j i ≡ has s₁ j i
   hit-word j i f g = after j i f ∙ beside j i (λ a b. omega arith)

@@ -151,7 +151,8 @@ fn visit_all(
     todo: u64,
 )
     requires { ⌜ (80 ≤ length (now state)) × (w < 4) × ((i : ℕ) → bit todo i ≡ true → Visitable (now heads) (now words) (now order) (length (now table)) (length (now sets)) (64 * w + i)) ⌝ }
-    ensures { λ _. ⌜ VisitedAll (now (heads .entry)) (now (words .entry)) (now (order .entry)) (now (state .entry)) w todo 64 (now (table .entry)) (now (table .exit)) (now (sets .entry)) (now (sets .exit)) ⌝ }
+    ensures { λ _. ⌜ VisitedAll (now (heads .entry)) (now (words .entry)) (now (order .entry)) (now (state .entry)) w todo 64
+        (now (table .entry)) (now (table .exit)) (now (sets .entry)) (now (sets .exit)) ⌝ }
 {
     let mut rest = todo;
     let mut i = 0;

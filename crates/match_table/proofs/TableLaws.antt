@@ -84,7 +84,8 @@ module _ (rule : ℕ → Rule) (s : State) (n : ℕ) where
         let nine : List ℕ = entryOf (rule k) s in
         rw (e, first, new-take table k nine (entry-length (rule k) s) room) (append-assoc (take (9 * k) table) nine (freshTable (rowsIn rule (k + 1) (n - (k + 1))) s))
 
-    pub doing-marked : (mark : ℕ) (table′ : List ℕ) → testsMarked mark (rule k) ≡ true → table′ ≡ withEntry table k (entryOf (rule k) s) → doing rule s n mark (k + 1) table′ ≡ doing rule s n mark k table
+    pub doing-marked : (mark : ℕ) (table′ : List ℕ) → testsMarked mark (rule k) ≡ true → table′ ≡ withEntry table k (entryOf (rule k) s)
+        → doing rule s n mark (k + 1) table′ ≡ doing rule s n mark k table
     unfolding doing refresh
     doing-marked mark table′ m e =
         let nine : List ℕ = entryOf (rule k) s in

@@ -75,7 +75,8 @@ fn fire_step(
     tape: &[u16],
     sets: &[u64],
 ) -> StepDone
-    requires { ⌜ Planned plan (now tape) × (k < plan .rules) × (length (now table) ≡ 9 * plan .rules) × (80 ≤ length (now state)) × ChainsOn plan (now tape) × SureOn plan (now tape) (now state) (now table) (now sets) ⌝ }
+    requires { ⌜ Planned plan (now tape) × (k < plan .rules) × (length (now table) ≡ 9 * plan .rules) × (80 ≤ length (now state))
+        × ChainsOn plan (now tape) × SureOn plan (now tape) (now state) (now table) (now sets) ⌝ }
     ensures { λ r. ⌜ StepMet (fireStep (plan .failure) (factsOn plan (now (tape .entry))) (stateIn (now (state .entry)) clock)
         (candidateAt (headsOn plan (now (tape .entry))) (rowsOn plan (now (tape .entry))) (now (table .entry)) k)) r (now (state .entry)) (now (state .exit)) clock ⌝ }
 {

@@ -110,7 +110,8 @@ pub fn advance(
     sets: &mut [u64],
 ) -> Went
     requires { ⌜ Planned plan (now tape) × (length (now table) ≡ 9 * plan .rules) × (80 ≤ length (now state)) × Aided plan (now tape) × RestingOn plan (now tape) (now state) (now table) (now sets) ⌝ }
-    ensures { λ r. ⌜ WentMet r (modelOn plan (now (tape .entry))) (now (state .entry)) (now (state .exit)) clock (now (table .entry)) (now (table .exit)) steps (now (events .entry)) (now (events .exit)) ⌝ }
+    ensures { λ r. ⌜ WentMet r (modelOn plan (now (tape .entry))) (now (state .entry)) (now (state .exit)) clock
+        (now (table .entry)) (now (table .exit)) steps (now (events .entry)) (now (events .exit)) ⌝ }
 {
     let mut now = clock;
     let mut made = 0;

@@ -153,7 +153,8 @@ loop-again c =
     fits (l .inv .3) (touched .ensures) more (small w) (a .table .now) (l .inv .4) (v .last .0) (v .last .1 .0) (v .ensures) in
     let surer = l .inv .5 in
     let set-first = woken (t .before) .wake-all .last .0 in
-    let beside = joined-beside (a .heads .now) (a .words .now) (a .n) (a .mark) (l .w) (touched .result) set-first (l .sets) laid (l .inv .3 .testing) (touched .ensures) surer (v .last .1 .0) (v .ensures .sure) room in (
+    let beside = joined-beside (a .heads .now) (a .words .now) (a .n) (a .mark) (l .w) (touched .result) set-first (l .sets) laid (l .inv .3 .testing) (touched .ensures)
+    surer (v .last .1 .0) (v .ensures .sure) room in (
       omega (arith, more),
       v .ensures .entries ∙ l .inv .1,
       length-set (v .last .1 .0) (48 + l .w) _ ∙ v .ensures .size ∙ l .inv .2,
@@ -161,8 +162,8 @@ loop-again c =
           (λ j i d. beside j i (λ e. d (omega arith) (omega (arith, four t)))) ranked lies,
       renewed-turn (a .heads .now) (a .words .now) (a .order .now) (a .n) (a .state .now) (a .mark) (l .w) (touched .result) (l .table) (l .sets) laid ranked
           fits (l .inv .3) (touched .ensures) more (small w) (a .table .now) (l .inv .4) (v .last .0) (v .last .1 .0) (v .ensures),
-      surer-turn (a .heads .now) (a .words .now) (a .n) (a .mark) (l .w) (touched .result) set-first (l .sets) laid (l .inv .3 .testing) (touched .ensures) surer (v .last .1 .0) (v .ensures .sure) room
-          (l .inv .3 .roomy .few),
+      surer-turn (a .heads .now) (a .words .now) (a .n) (a .mark) (l .w) (touched .result) set-first (l .sets) laid (l .inv .3 .testing) (touched .ensures) surer
+          (v .last .1 .0) (v .ensures .sure) room (l .inv .3 .roomy .few),
     )
 
 same-length : tie.Need-same-length Inv-loop μ-loop

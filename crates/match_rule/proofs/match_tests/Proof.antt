@@ -229,7 +229,8 @@ loop-again c =
       m .inv .0,
       next,
       (ap length (came .1) ∙ m .inv .2 .0, ap length (came .2) ∙ m .inv .2 .1),
-      flat-skip w (a .state .now) (l .q) mask (m .b) (varsIn (m .bound) (m .nine)) after (low turn) (varsIn (c .if3 .bound) (c .if3 .nine)) (ap₂ varsIn (came .1) (came .2)) (walk-off (m .inv .1) (low turn) (came .0 .left)) ∙ m .inv .3,
+      flat-skip w (a .state .now) (l .q) mask (m .b) (varsIn (m .bound) (m .nine)) after (low turn)
+          (varsIn (c .if3 .bound) (c .if3 .nine)) (ap₂ varsIn (came .1) (came .2)) (walk-off (m .inv .1) (low turn) (came .0 .left)) ∙ m .inv .3,
     ))
     (c .if3 .came)
 
@@ -329,7 +330,8 @@ returns-4 c =
     let because = because-slot w st (a .o) (a .n) (l .i) (l .q) (l .inv .2) (t .tests-test .taken) (m .b) low on
     (λ s e. term-missed _ _ (varsIn (m .bound) (m .nine)) (term .result) (varsIn (term .last .0) (term .last .1 .0)) (term .ensures) miss s e) in (
       rw (c .why .ensures) (why-stops (10 * (getD w (l .q) 0 % 8) + 1 + m .b) (getD w (l .q + 3 + m .b) 0) (varsIn (term .last .0) (term .last .1 .0))
-          ∙ flat-over w st (l .q) (getD w (l .q + 2) 0) (m .b) (varsIn (m .bound) (m .nine)) (after w (a .o) (a .n) st (l .i)) low on (term .result) (varsIn (term .last .0) (term .last .1 .0)) (term .ensures) miss ∙ m .inv .3),
+          ∙ flat-over w st (l .q) (getD w (l .q + 2) 0) (m .b) (varsIn (m .bound) (m .nine)) (after w (a .o) (a .n) st (l .i))
+          low on (term .result) (varsIn (term .last .0) (term .last .1 .0)) (term .ensures) miss ∙ m .inv .3),
       rw (c .why .ensures) because,
     )
 

@@ -13,6 +13,16 @@ use borrow.Author.Needs.{needs}
 use Rattle.match_table.proofs.entry_at.Statement.{statement}
 use Rattle.match_table.proofs.entry_at.Tie as tie
 
+-- ---- the places of the code, each named once
+
+abbrev start : tie.After-shared-slice-known4 → tie.Start
+start c = c .before .before .before .before .before
+
+abbrev begun : tie.After-entry-into-arg → tie.Start
+begun c = start (c .before)
+
+-- ---- what is asked
+
 mul-tests : tie.Need-mul-tests
 mul-tests c = search needs
 
@@ -23,7 +33,7 @@ shared-slice-read-tests : tie.Need-shared-slice-read-tests
 shared-slice-read-tests c = search needs
 
 cast-tests : tie.Need-cast-tests
-cast-tests c = let a = c .before .before .before .before .before .args in omega (arith, c .before .before .before .before .before .pre .0 .tests-few (a .k) (c .before .before .before .before .before .pre .1))
+cast-tests c = let s = start c in omega (arith, s .pre .0 .tests-few (s .args .k) (s .pre .1))
 
 mul-a : tie.Need-mul-a
 mul-a c = search needs
@@ -48,11 +58,12 @@ mul-entry-into-2 c = search needs
 
 entry-into-requires : tie.Need-entry-into-requires
 entry-into-requires c κs =
-    let a = c .before .before .before .before .before .before .args in
-    let laid = c .before .before .before .before .before .before .pre .0 in
+    let s = begun c in
+    let a = s .args in
+    let laid = s .pre .0 in
     let nine : 9 * a .k + 9 - 9 * a .k ≡ 9 = omega arith in
-    let fits : length (a .table .now) ≡ 9 * a .n = c .before .before .before .before .before .before .pre .2 in
-    let below : a .k < a .n = c .before .before .before .before .before .before .pre .1 in (
+    let fits : length (a .table .now) ≡ 9 * a .n = s .pre .2 in
+    let below : a .k < a .n = s .pre .1 in (
       length-take-le (9 * a .k + 9 - 9 * a .k) (drop (9 * a .k) (a .table .now)) (omega (arith, length-drop (9 * a .k) (a .table .now))) ∙ nine,
       omega (arith, laid .tests-few (a .k) below, laid .words-room),
       search needs,
@@ -63,9 +74,10 @@ same-length c = search needs
 
 returns : tie.Need-returns
 returns c clock =
-    let a = c .before .before .before .before .before .before .before .before .before .args in
+    let entered = c .before .before in
+    let a = begun (entered .before) .args in
     let nine : 9 * a .k + 9 - 9 * a .k ≡ 9 = omega arith in
-    ap₂ (λ (ys zs : List ℕ). take (9 * a .k) (a .table .now) ++ (ys ++ zs)) (c .before .before .entry-into .ensures (ruleIn (a .heads .now) (a .words .now) (a .k)) clock refl)
+    ap₂ (λ (ys zs : List ℕ). take (9 * a .k) (a .table .now) ++ (ys ++ zs)) (entered .entry-into .ensures (ruleIn (a .heads .now) (a .words .now) (a .k)) clock refl)
     (ap (λ (j : ℕ). drop j (drop (9 * a .k) (a .table .now))) nine ∙ drop-drop 9 (9 * a .k) (a .table .now))
 
 pub entry-at-spec : {M : Type 1} → statement M

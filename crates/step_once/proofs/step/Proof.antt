@@ -65,7 +65,9 @@ pick-requires c κs =
     let s = start (c .before) in
     let a = s .args in
     let ranked = s .pre .4 in
-    let below = place-below (headsOn (a .plan) (a .tape .now)) (rowsOn (a .plan) (a .tape .now)) (a .table .now) (orderOn (a .plan) (a .tape .now)) (a .sets .now) (a .plan .rules) (heads-small (c .before)) ranked (s .pre .5 .1) in
+    let heads = headsOn (a .plan) (a .tape .now) in
+    let rows = rowsOn (a .plan) (a .tape .now) in
+    let below = place-below heads rows (a .table .now) (orderOn (a .plan) (a .tape .now)) (a .sets .now) (a .plan .rules) (heads-small (c .before)) ranked (s .pre .5 .1) in
     simp to-end (ranked .few, s .pre .5 .0, ranked .room, below)
 
 enum-known-k : tie.Need-enum-known-k
