@@ -12,6 +12,8 @@ use crate::specs::{
 const RULES: u16 = 256;
 /// Steps of a long run.
 const STEPS: u16 = 1_000;
+/// Steps of a run in which a step's own cost counts, and reading the image hardly does.
+const MANY: u16 = 10_000;
 
 /// A model and the steps of a measured run.
 pub struct Measured {
@@ -46,7 +48,7 @@ pub fn models() -> Vec<Measured> {
 
 /// One model in several sizes, with the size in its name.
 fn sizes<T: Copy + Display>(name: &str, sizes: [T; 3], spec: impl Fn(T) -> ModelSpec) -> Vec<Measured> {
-    sizes.iter().map(|&size| model(&name.replace("{}", &size.to_string()), STEPS, &spec(size))).collect()
+    sizes.iter().map(|&size| model(&name.replace("{}", &size.to_string()), MANY, &spec(size))).collect()
 }
 
 /// Models with more and more of one thing: facts, rules, buffers that a step touches, tests of a rule, or steps.
