@@ -1,6 +1,6 @@
 -- What the code computes from three bytes by shifts and masks is the field that the window law cuts out of them.
 use Prim.Native.Nat.{ℕ, _+_, _*_, _-_, _/_, _%_, _^_, _≤_, _<_}
-use mathlib.Core.Path.{_≡_, sym}
+use mathlib.Core.Path.{_≡_, sym, _∙_}
 use mathlib.Core.List.{List}
 use native.Mathlib.Omega.{arith}
 use lib.ListN.{getD}
@@ -17,15 +17,19 @@ window-or a b c ha hb hc =
     let g : a * 2 ^ 16 + b * 2 ^ 8 ≡ (a * 2 ^ 8 + b) * 2 ^ 8 = omega arith in
     rw (e, f, or-shifted a 16 (b * 2 ^ 8) (omega arith), g, or-shifted (a * 2 ^ 8 + b) 8 c hc)
 
--- what the code computes from the three bytes it read
-abbrev pub cutOf : ℕ → ℕ → ℕ → ℕ → ℕ → ℕ
-cutOf p w a b c = bitAnd (bitOr (bitOr (a * 65536 % 4294967296) (b * 256 % 4294967296)) c / 2 ^ (24 - p % 8 - w)) (1 * 2 ^ w % 4294967296 - 1)
+-- three bytes that were read, put together
+pub together : (s : List ℕ) (i a b c : ℕ) → (a ≡ getD s i 0) × (a < 256) → (b ≡ getD s (i + 1) 0) × (b < 256) → (c ≡ getD s (i + 2) 0) × (c < 256)
+    → bitOr (bitOr (a * 65536 % 4294967296) (b * 256 % 4294967296)) c ≡ window s i
+together s i a b c ha hb hc =
+    let g : (a * 2 ^ 8 + b) * 2 ^ 8 + c ≡ window s i = cc in
+    window-or a b c (ha .1) (hb .1) (hc .1) ∙ g
 
-pub cut : (s : List ℕ) (p w a b c : ℕ) → w ≤ 16 → (a ≡ getD s (p / 8) 0) × (a < 256) → (b ≡ getD s (p / 8 + 1) 0) × (b < 256) → (c ≡ getD s (p / 8 + 2) 0) × (c < 256)
-    → cutOf p w a b c ≡ fieldAt s p w
-cut s p w a b c hw ha hb hc =
+-- what the code cuts out of them
+abbrev pub cutOf : ℕ → ℕ → ℕ → ℕ
+cutOf p w x = bitAnd (x / 2 ^ (24 - p % 8 - w)) (1 * 2 ^ w % 4294967296 - 1)
+
+pub cut : (s : List ℕ) (p w x : ℕ) → w ≤ 16 → x ≡ window s (p / 8) → getD s (p / 8 + 1) 0 < 256 → getD s (p / 8 + 2) 0 < 256 → cutOf p w x ≡ fieldAt s p w
+cut s p w x hw is hb hc =
     let e : 24 - p % 8 - w ≡ 24 - (p % 8 + w) = omega arith in
     let f : 1 * 2 ^ w % 4294967296 ≡ 2 ^ w = omega (arith, pow-mono {i = w} {j = 16} hw) in
-    let g : (a * 2 ^ 8 + b) * 2 ^ 8 + c ≡ window s (p / 8) = cc in
-    rw (window-or a b c (ha .1) (hb .1) (hc .1), e, f, and-mask ((((a * 2 ^ 8 + b) * 2 ^ 8) + c) / 2 ^ (24 - (p % 8 + w))) w, g)
-    (sym (field-in s p (rw (← hb .0) (hb .1)) (rw (← hc .0) (hc .1)) w (omega arith)))
+    rw (e, f, and-mask (x / 2 ^ (24 - (p % 8 + w))) w, is) (sym (field-in s p hb hc w (omega arith)))

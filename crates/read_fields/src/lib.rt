@@ -3,6 +3,7 @@ ghost use mathlib.Core.Path.{_≡_};
 ghost use Prim.Native.Nat.{_+_, _*_, _^_, _≤_, _<_};
 ghost use lib.ListN.{length, getD};
 ghost use Rattle.meaning.specs.Bits.{fieldAt};
+ghost use Rattle.laws.specs.BitsLaws.{window};
 ghost use Rattle.meaning.specs.Read.{field};
 ghost use Rattle.meaning.specs.Image.{anything};
 ghost use Rattle.read_fields.specs.Field.{fetched};
@@ -20,18 +21,28 @@ fn byte_or_zero(image: &[u8], i: usize) -> u32
     if i < image.len() { image[i] as u32 } else { 0 }
 }
 
+// The three bytes from i on as one number, the first the most significant; by one look at the image's length where all are there.
+fn three_bytes(image: &[u8], i: usize) -> u32
+    requires { ⌜ i ≤ 2 ^ 29 ⌝ }
+    ensures { λ r. ⌜ (r ≡ window (now (image .entry)) i) × (getD (now (image .entry)) (i + 1) 0 < 256) × (getD (now (image .entry)) (i + 2) 0 < 256) ⌝ }
+{
+    if i + 2 < image.len() {
+        return ((image[i] as u32) << 16) | ((image[i + 1] as u32) << 8) | image[i + 2] as u32;
+    }
+    let first = byte_or_zero(image, i);
+    let second = byte_or_zero(image, i + 1);
+    let third = byte_or_zero(image, i + 2);
+    (first << 16) | (second << 8) | third
+}
+
 // The bits from `at` on, out of the three bytes that hold them: fetched, shifted and cut. Bytes past the end count as zeros.
 pub fn bits(image: &[u8], at: usize, width: usize) -> u16
     requires { ⌜ (width ≤ 16) × (at ≤ 2 ^ 32) ⌝ }
     ensures { λ r. ⌜ r ≡ fieldAt (now (image .entry)) at width ⌝ }
 {
-    let i = at / 8;
     let skipped = at % 8;
-    let first = byte_or_zero(image, i);
-    let second = byte_or_zero(image, i + 1);
-    let third = byte_or_zero(image, i + 2);
-    let window = (first << 16) | (second << 8) | third;
-    ((window >> (24 - skipped - width)) & ((1u32 << width) - 1)) as u16
+    let bytes = three_bytes(image, at / 8);
+    ((bytes >> (24 - skipped - width)) & ((1u32 << width) - 1)) as u16
 }
 
 // The field of `width` bits at bit `at`, or that it is not wholly there.

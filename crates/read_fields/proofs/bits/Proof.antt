@@ -10,23 +10,18 @@ use Rattle.read_fields.proofs.bits.Statement.{statement}
 use Rattle.read_fields.proofs.bits.Tie as tie
 
 -- where the code begins, once the three bytes are there
-abbrev start : tie.After-byte-or-zero3 → tie.Start
-start c = c .before .before .before .before
+abbrev start : tie.After-three-bytes → tie.Start
+start c = c .before .before
 
-byte-or-zero-requires : tie.Need-byte-or-zero-requires
-byte-or-zero-requires c κs = search needs
+-- what is cut out is the field
+is-field : (c : tie.After-three-bytes) → let a = start c .args in cutOf (a .at) (a .width) (c .three-bytes .result) ≡ fieldAt (a .image .now) (a .at) (a .width)
+is-field c =
+    let a = start c .args in
+    let bytes = c .three-bytes .ensures in
+    cut (a .image .now) (a .at) (a .width) (c .three-bytes .result) (start c .pre .0) (bytes .0) (bytes .1) (bytes .2)
 
-add-byte-or-zero : tie.Need-add-byte-or-zero
-add-byte-or-zero c = search needs
-
-byte-or-zero-requires-2 : tie.Need-byte-or-zero-requires-2
-byte-or-zero-requires-2 c κs = search needs
-
-add-byte-or-zero-2 : tie.Need-add-byte-or-zero-2
-add-byte-or-zero-2 c = search needs
-
-byte-or-zero-requires-3 : tie.Need-byte-or-zero-requires-3
-byte-or-zero-requires-3 c κs = search needs
+three-bytes-requires : tie.Need-three-bytes-requires
+three-bytes-requires c κs = search needs
 
 sub-result : tie.Need-sub-result
 sub-result c = search needs
@@ -49,15 +44,6 @@ shl-result c = search needs
 sub-result-3 : tie.Need-sub-result-3
 sub-result-3 c = let s = start c in omega (arith, pow-pos (s .args .width), pow-mono {i = s .args .width} {j = 16} (s .pre .0))
 
--- what is cut out is the field
-is-field : (c : tie.After-byte-or-zero3)
-    → let a = start c .args in
-    cutOf (a .at) (a .width) (c .before .before .byte-or-zero .result) (c .before .byte-or-zero2 .result) (c .byte-or-zero3 .result) ≡ fieldAt (a .image .now) (a .at) (a .width)
-is-field c =
-    let a = start c .args in
-    cut (a .image .now) (a .at) (a .width) (c .before .before .byte-or-zero .result) (c .before .byte-or-zero2 .result) (c .byte-or-zero3 .result) (start c .pre .0)
-    (c .before .before .byte-or-zero .ensures) (c .before .byte-or-zero2 .ensures) (c .byte-or-zero3 .ensures)
-
 cast-result-3 : tie.Need-cast-result-3
 cast-result-3 c =
     let a = start c .args in
@@ -70,11 +56,7 @@ pub bits-spec : {M : Type 1} → statement M
 bits-spec =
     tie.close
     (tie.spec
-    byte-or-zero-requires
-    add-byte-or-zero
-    byte-or-zero-requires-2
-    add-byte-or-zero-2
-    byte-or-zero-requires-3
+    three-bytes-requires
     sub-result
     sub-result-2
     cast-result
