@@ -62,8 +62,11 @@ returns-2 c =
     let first = c .before .before .byte-or-zero in
     let second = c .before .byte-or-zero2 in
     let third = c .byte-or-zero3 in
-    let a = c .before .before .before .before .before .args in
-    (together (a .image .now) (a .i) _ _ _ (first .ensures) (second .ensures) (third .ensures), omega (arith, second .ensures .0, second .ensures .1), omega (arith, third .ensures .0, third .ensures .1))
+    let a = c .before .before .before .before .before .args in (
+      together (a .image .now) (a .i) _ _ _ (first .ensures) (second .ensures) (third .ensures),
+      omega (arith, second .ensures .0, second .ensures .1),
+      omega (arith, third .ensures .0, third .ensures .1),
+    )
 
 pub three-bytes-spec : {M : Type 1} → statement M
 three-bytes-spec =
