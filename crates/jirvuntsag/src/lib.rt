@@ -10,6 +10,7 @@ ghost use Rattle.step_run.specs.Events.{inscribed};
 ghost use Rattle.jirvuntsag.specs.Words.{wordsOf, fits, unfitState, givenBy};
 ghost use Rattle.jirvuntsag.specs.Told.{told, openIn, runIn, refreshIn, eventsIn};
 ghost use Rattle.jirvuntsag.specs.Told.{answer as Told·answer};
+use layout::STATE_WORDS;
 use meaning::Buffer;
 use meaning::State;
 
@@ -75,7 +76,7 @@ fn given(words: &[u32]) -> Handed
     requires { ⌜ length (now words) ≡ 81 ⌝ }
     ensures { λ r. ⌜ (r .fitting ≡ fits (now (words .entry))) × (r .state ≡ givenBy (now (words .entry))) ⌝ }
 {
-    let mut buffers = [0u16; 80];
+    let mut buffers = [0u16; STATE_WORDS];
     if !narrow(words, &mut buffers) {
         let unfit = unfit_state();
         return Handed {
@@ -95,7 +96,7 @@ fn lay(state: State, words: &mut [u32])
     requires { ⌜ length (now words) ≡ 81 ⌝ }
     ensures { λ _. ⌜ now (words .exit) ≡ wordsOf state ⌝ }
 {
-    let mut buffers = [0u16; 80];
+    let mut buffers = [0u16; STATE_WORDS];
     layout_state::lay_state(state, &mut buffers);
     widen(&buffers, words);
     words[0] = state.clock;

@@ -7,6 +7,8 @@ ghost use Rattle.meaning.specs.Base.{every};
 ghost use Rattle.meaning.specs.State.{wellBuffer};
 ghost use Rattle.layout.specs.StateWords.{bufferIn, buffersIn, stateIn};
 ghost use Rattle.layout_state.specs.Words.{bufferAt, stretch, wellIn};
+use layout::BUFFER_WORDS;
+use layout::STATE_WORDS;
 use meaning::Buffer;
 use meaning::State;
 
@@ -15,7 +17,7 @@ fn lay_buffer(buffer: Buffer, words: &mut [u16], k: usize)
     requires { ⌜ 10 * k + 10 ≤ length (now words) ⌝ }
     ensures { λ _. ⌜ (bufferIn (now (words .exit)) k ≡ buffer) × (take (10 * k) (now (words .exit)) ≡ take (10 * k) (now (words .entry))) ⌝ }
 {
-    let o = 10 * k;
+    let o = BUFFER_WORDS * k;
     let slots = buffer.slots;
     words[o] = buffer.isa;
     let mut i = 0;
@@ -100,7 +102,7 @@ fn well_buffer(words: &[u16], types: &[u16], k: usize) -> bool
     requires { ⌜ 10 * k + 10 ≤ length (now words) ⌝ }
     ensures { λ r. ⌜ r ≡ wellBuffer (now (types .entry)) (bufferIn (now (words .entry)) k) ⌝ }
 {
-    let o = 10 * k;
+    let o = BUFFER_WORDS * k;
     let isa = words[o] as usize;
     if types.len() <= isa {
         return false;
@@ -124,5 +126,5 @@ pub fn well_formed(words: &[u16], types: &[u16], buffers: usize) -> bool
         }
         k += 1;
     }
-    at_most(words, 10 * buffers, 80, 0)
+    at_most(words, BUFFER_WORDS * buffers, STATE_WORDS, 0)
 }

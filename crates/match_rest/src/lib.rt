@@ -15,7 +15,24 @@ ghost use Rattle.match_rest.specs.Visits.{Touches, Lain, LowPlace, Settl
 ghost use Rattle.match_sets.specs.Sets.{has};
 ghost use Rattle.meaning.specs.Base.{bit};
 ghost use Rattle.match_order.specs.Order.{Ranked, placeOf};
+use layout::BUFFER_WORDS;
+use layout::ENTRY_WORDS;
+use layout::HEAD_WORDS;
+use layout::RULE_WORDS;
+use match_order::HITS_AT;
 use match_rule::Tried;
+
+// Where the sets begin in these words: the awake rules, the matching ones by their places (in the order of rules), the testers of each buffer,
+// the used places of each buffer, the rules whose entry is known to be fresh, and the beds.
+const AWAKE_AT: usize = 0;
+
+const TESTERS_AT: usize = 8;
+
+const USED_AT: usize = 40;
+
+pub const SURE_AT: usize = 48;
+
+const BEDS_AT: usize = 52;
 
 // The words that a run keeps of its rules: of at most 64, which cost little to clear, and of the most that an image can have.
 pub const SMALL_SETS: usize = 308;
@@ -37,7 +54,7 @@ fn wake_bed(sets: &mut [u64], n: usize, h: usize)
 {
     let mut w = 0;
     while 64 * w < n {
-        let at = 52 + 256 * w + h;
+        let at = BEDS_AT + 256 * w + h;
         sets[w] = sets[w] | sets[at];
         sets[at] = 0;
         w += 1;
@@ -49,11 +66,11 @@ fn wake(sets: &mut [u64], n: usize, state: &[u16], b: usize)
     requires { ⌜ Roomy n (now sets) × (80 ≤ length (now state)) × (b < 8) ⌝ }
     ensures { λ _. ⌜ Woke n (λ (g k : ℕ). Called (now (state .entry)) (now (sets .entry)) b 10 g) (now (sets .entry)) (now (sets .exit)) ⌝ }
 {
-    let mut rest = sets[40 + b] % 1024;
+    let mut rest = sets[USED_AT + b] % 1024;
     let mut i = 0;
     while rest != 0 {
         let z = match_sets::lowest(rest);
-        let p = 10 * b + (i + z);
+        let p = BUFFER_WORDS * b + (i + z);
         wake_bed(sets, n, bed(p, state[p]));
         rest = rest >> z >> 1;
         i = i + z + 1;
@@ -85,7 +102,7 @@ fn touched(sets: &[u64], w: usize, mark: u16) -> u64
     let mut b = 0;
     while rest != 0 {
         let z = match_sets::lowest(rest);
-        all = all | sets[8 + 8 * w + (b + z)];
+        all = all | sets[TESTERS_AT + 8 * w + (b + z)];
         rest = rest >> z >> 1;
         b = b + z + 1;
     }
@@ -98,9 +115,9 @@ fn lay_down(sets: &mut [u64], k: usize, place: usize, value: u16)
     ensures { λ _. ⌜ Lain k place value (now (sets .entry)) (now (sets .exit)) ⌝ }
 {
     let h = bed(place, value);
-    match_sets::put(sets, 52 + 255 * (k / 64) + h, k);
-    match_sets::put(sets, 40 + place / 10, place % 10);
-    match_sets::remove(sets, 0, k);
+    match_sets::put(sets, BEDS_AT + 255 * (k / 64) + h, k);
+    match_sets::put(sets, USED_AT + place / BUFFER_WORDS, place % BUFFER_WORDS);
+    match_sets::remove(sets, AWAKE_AT, k);
 }
 
 // What a match of rule k gave is noted: whether it matches, by its place in the order; and it sleeps if one word of the state told that it does not.
@@ -110,10 +127,10 @@ fn settle(sets: &mut [u64], order: &[u16], k: usize, tried: Tried)
 {
     let at = order[2 * k + 1] as usize;
     match tried {
-        Tried::Hit => match_sets::put(sets, 4, at),
-        Tried::Varies => match_sets::remove(sets, 4, at),
+        Tried::Hit => match_sets::put(sets, HITS_AT, at),
+        Tried::Varies => match_sets::remove(sets, HITS_AT, at),
         Tried::Differs(place, value) => {
-            match_sets::remove(sets, 4, at);
+            match_sets::remove(sets, HITS_AT, at);
             lay_down(sets, k, place as usize, value);
         }
     }
@@ -132,10 +149,10 @@ fn visit(
     requires { ⌜ Visitable (now heads) (now words) (now order) (length (now table)) (length (now sets)) k × (80 ≤ length (now state)) ⌝ }
     ensures { λ _. ⌜ Visited (now (heads .entry)) (now (words .entry)) (now (order .entry)) (now (state .entry)) k (now (table .entry)) (now (table .exit)) (now (sets .entry)) (now (sets .exit)) ⌝ }
 {
-    let tests = heads[4 * k] as usize;
-    let a = 9 * k;
-    let e = a + 9;
-    let tried = match_rule::try_into(&mut table[a..e], words, 176 * k, tests, state);
+    let tests = heads[HEAD_WORDS * k] as usize;
+    let a = ENTRY_WORDS * k;
+    let e = a + ENTRY_WORDS;
+    let tried = match_rule::try_into(&mut table[a..e], words, RULE_WORDS * k, tests, state);
     settle(sets, order, k, tried);
 }
 
@@ -185,7 +202,7 @@ pub fn renew(
         let all = touched(sets, w, mark);
         let todo = all & sets[w];
         visit_all(table, sets, order, heads, words, state, w, todo);
-        sets[48 + w] = sets[48 + w] | all;
+        sets[SURE_AT + w] = sets[SURE_AT + w] | all;
         w += 1;
     }
 }
@@ -211,7 +228,7 @@ fn lay_tester(sets: &mut [u64], k: usize, mask: u16)
     let mut b = 0;
     while rest != 0 {
         let z = match_sets::lowest(rest);
-        match_sets::put(sets, 8 + 7 * (k / 64) + (b + z), k);
+        match_sets::put(sets, TESTERS_AT + 7 * (k / 64) + (b + z), k);
         rest = rest >> z >> 1;
         b = b + z + 1;
     }
@@ -224,7 +241,7 @@ fn lay_testers(sets: &mut [u64], heads: &[u16], n: usize)
 {
     let mut k = 0;
     while k < n {
-        lay_tester(sets, k, heads[4 * k + 3]);
+        lay_tester(sets, k, heads[HEAD_WORDS * k + 3]);
         k += 1;
     }
 }

@@ -7,16 +7,19 @@ ghost use Rattle.meaning.specs.Refresh.{refresh, refreshCount};
 ghost use Rattle.layout.specs.Rows.{ruleIn, rulesIn, Laid};
 ghost use Rattle.layout.specs.StateWords.{stateIn};
 ghost use Rattle.match_table.specs.Entries.{withEntry};
+use layout::ENTRY_WORDS;
+use layout::HEAD_WORDS;
+use layout::RULE_WORDS;
 
 // Rule k's entry, made afresh, into its nine words of the table.
 fn entry_at(table: &mut [u16], k: usize, heads: &[u16], words: &[u16], n: usize, state: &[u16])
     requires { ⌜ Laid (now heads) (now words) n × (k < n) × (length (now table) ≡ 9 * n) × (80 ≤ length (now state)) ⌝ }
     ensures { λ _. ⌜ ((clock : ℕ) → now (table .exit) ≡ withEntry (now (table .entry)) k (entryOf (ruleIn (now (heads .entry)) (now (words .entry)) k) (stateIn (now (state .entry)) clock))) ⌝ }
 {
-    let tests = heads[4 * k] as usize;
-    let a = 9 * k;
-    let e = a + 9;
-    match_rule::entry_into(&mut table[a..e], words, 176 * k, tests, state);
+    let tests = heads[HEAD_WORDS * k] as usize;
+    let a = ENTRY_WORDS * k;
+    let e = a + ENTRY_WORDS;
+    match_rule::entry_into(&mut table[a..e], words, RULE_WORDS * k, tests, state);
 }
 
 // The fresh table of n rules.
@@ -47,7 +50,7 @@ pub fn refresh(
     let mut count = 0;
     let mut k = 0;
     while k < n {
-        if heads[4 * k + 3] & mark != 0 {
+        if heads[HEAD_WORDS * k + 3] & mark != 0 {
             entry_at(table, k, heads, words, n, state);
             count += 1;
         }

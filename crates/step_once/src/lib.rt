@@ -21,6 +21,7 @@ use layout::Plan;
 use layout::RULE_WORDS;
 use layout::SIDE_WORDS;
 use match_choice::Chosen;
+use match_rest::SURE_AT;
 use meaning::numbers::CLOCK_FULL;
 use meaning::numbers::HALTED;
 use meaning::numbers::NOT_FRESH;
@@ -54,7 +55,7 @@ fn chosen_fresh(
     requires { ⌜ Planned plan (now tape) × (k < plan .rules) × (length (now table) ≡ 9 * plan .rules) × (80 ≤ length (now state)) × SureOn plan (now tape) (now state) (now table) (now sets) ⌝ }
     ensures { λ b. ⌜ ((clock : ℕ) → b ≡ same (entryAt (now (table .entry)) k) (entryOf (ruleOn plan (now (tape .entry)) k) (stateIn (now (state .entry)) clock))) ⌝ }
 {
-    if match_sets::holds(sets, 48, k) {
+    if match_sets::holds(sets, SURE_AT, k) {
         return true;
     }
     let heads = plan.heads;
