@@ -198,7 +198,10 @@ class Failures(unittest.TestCase):
 
 # a sweep of some minutes, which says when its first rows are there
 LONG = """\
+import signal
 import jirvuntsag as jv
+# a shell starts what runs in its background with interrupts ignored
+signal.signal(signal.SIGINT, signal.default_int_handler)
 model, said = jv.Model({!r}), []
 def told(done, total):
     if not said:
