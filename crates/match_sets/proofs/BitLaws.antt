@@ -6,16 +6,16 @@ use native.Mathlib.Nat.{max-le, pow-suc, zero-add, suc-add}
 use native.Mathlib.Numerals.{add-one}
 use native.Mathlib.Omega.{arith}
 use native.Mathlib.Decide.{ℕ-discrete}
-use lib.Bits.{bitOr, bitXor, differ, or-step, xor-step}
+use lib.Bits.{bitAnd, bitOr, bitXor, differ, or-step, xor-step, and-le-r}
 use lib.Count.{under, trailingZeros}
 use lib.Pow.{shr-shr, shr-lt, shl-exact}
 use lib.ListN.{length, getD, set}
 use lib.Seq.{getD-set-same, getD-set-other}
 use mathlib.Core.List.{List}
 use lib.Dec.{eqb}
-use borrow.Author.Tests.{eq-eqb, ne-eqb}
+use borrow.Author.Tests.{eqb-true, eq-eqb, ne-eqb}
 use Rattle.meaning.specs.Base.{bit}
-use Rattle.laws.specs.BaseLaws.{bit-zero}
+use Rattle.laws.specs.BaseLaws.{bit-and, bit-zero, no-true}
 use Rattle.match_sets.specs.Sets.{has}
 
 -- ---- one digit
@@ -149,6 +149,39 @@ trailing-none (suc k) x j h =
     let g : j < suc (trailingZeros k (x / 2)) = rw (under-zero (x % 2) (trailingZeros k (x / 2)) e) at h in
     even-bit x j (trailingZeros k (x / 2)) e g (λ i l. trailing-none k (x / 2) i l))
 
+-- ---- a number without its lowest bit: the number less 1 has ones below that bit, a zero at it, and the same bits above
+
+same-and : (b : Bool) → (b && b) ≡ (b && not false)
+same-and true = refl
+same-and false = refl
+
+odd-dropped : (x j : ℕ) → x % 2 ≡ 1 → bit (bitAnd x (x - 1)) j ≡ (bit x j && not (eqb j 0))
+odd-dropped x zero e =
+    let g : bit (x - 1) 0 ≡ false = ne-eqb ((x - 1) % 2) 1 (λ q. omega arith) in
+    bit-and x (x - 1) 0 ∙ ap (λ (b : Bool). bit x 0 && b) g
+odd-dropped x (suc j) e =
+    let g : (x - 1) / 2 ≡ x / 2 = omega arith in
+    bit-and x (x - 1) (suc j) ∙ ap (λ (y : ℕ). bit (x / 2) j && bit y j) g ∙ same-and (bit (x / 2) j) ∙ ap (λ (b : Bool). bit (x / 2) j && not b) (sym (ne-eqb (suc j) 0 (λ q. omega arith)))
+
+pub bit-dropped : (x z j : ℕ) → bit x z ≡ true → ((i : ℕ) → i < z → bit x i ≡ false) → bit (bitAnd x (x - 1)) j ≡ (bit x j && not (eqb j z))
+bit-dropped x zero j b none = odd-dropped x j (eqb-true (x % 2) 1 b)
+bit-dropped x (suc z) zero b none =
+    bit-and x (x - 1) 0
+    ∙ ap (λ (y : Bool). y && bit (x - 1) 0) (none 0 (omega arith))
+    ∙ ap (λ (y : Bool). y && not (eqb 0 (suc z))) (sym (none 0 (omega arith)))
+bit-dropped x (suc z) (suc j) b none =
+    let even : x % 2 ≡ 0 = odd-or-half x (λ e. absurd (no-true (sym (eq-eqb (x % 2) 1 e) ∙ none 0 (omega arith)))) (λ e. e) in
+    let g : (x - 1) / 2 ≡ x / 2 - 1 = omega arith in
+    let rest : bit (bitAnd (x / 2) (x / 2 - 1)) j ≡ (bit (x / 2) j && not (eqb j z)) = bit-dropped (x / 2) z j b (λ i l. none (suc i) (omega arith)) in
+    bit-and x (x - 1) (suc j)
+    ∙ ap (λ (y : ℕ). bit (x / 2) j && bit y j) g
+    ∙ sym (bit-and (x / 2) (x / 2 - 1) j)
+    ∙ rest
+    ∙ ap (λ (y : Bool). bit (x / 2) j && not y) (sym (same-suc z j))
+
+pub dropped-less : (x : ℕ) → 0 < x → bitAnd x (x - 1) < x
+dropped-less x h = omega (arith, and-le-r x (x - 1))
+
 -- ---- one bit set, one bit cleared
 
 or-same : (b : Bool) → differs (b || true) true ≡ (b && not true)
@@ -189,7 +222,7 @@ or-none : (b : Bool) → (b || false) ≡ b
 or-none true = refl
 or-none false = refl
 
-but-none : (b : Bool) → (b && not false) ≡ b
+pub but-none : (b : Bool) → (b && not false) ≡ b
 but-none true = refl
 but-none false = refl
 

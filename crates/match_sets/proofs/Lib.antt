@@ -1,3 +1,4 @@
 -- Laws of bits.
 pub mod BitLaws
+pub mod BitWalk
 pub mod SetLaws

@@ -1,4 +1,4 @@
-// Sets of rules in words of 64 bits: a bit set, a bit cleared, the lowest bit of a word.
+// Sets of rules in words of 64 bits: a bit set, a bit cleared, the lowest bit of a word, and what is left without it.
 ghost use mathlib.Core.Path.{_≡_};
 ghost use mathlib.Core.Bool.{true, false, _||_, _&&_, not};
 ghost use Prim.Native.Nat.{ℕ, _+_, _/_, _%_, _≤_, _<_};
@@ -13,6 +13,14 @@ pub fn lowest(x: u64) -> usize
     ensures { λ z. ⌜ (z < 64) × (bit x z ≡ true) × ((j : ℕ) → j < z → bit x j ≡ false) ⌝ }
 {
     u64::trailing_zeros(x) as usize
+}
+
+// x without its lowest bit.
+pub fn drop_lowest(x: u64) -> u64
+    requires { ⌜ 0 < x ⌝ }
+    ensures { λ r. ⌜ ((z j : ℕ) → bit x z ≡ true → ((i : ℕ) → i < z → bit x i ≡ false) → bit r j ≡ (bit x j && not (eqb j z))) × (r < x) ⌝ }
+{
+    x & (x - 1)
 }
 
 // x with bit i set.
