@@ -22,7 +22,7 @@ use Rattle.match_order.specs.Order.{Ranked, Hitting, placeOf}
 use Rattle.match_rest.specs.Rest.{tests, Testing, Roomy, Cleared, isSure, Lying, Resting}
 use Rattle.match_rest.proofs.WakeLaws.{roomy-kept}
 use Rattle.match_rest.specs.Visits.{Joins}
-use Rattle.match_rest.proofs.WalkLaws.{bit-low}
+use Rattle.match_sets.proofs.BitWalk.{bit-low}
 use Rattle.match_rest.proofs.VisitLaws.{PutIn}
 
 -- ---- a word of ones

@@ -28,7 +28,7 @@ use Rattle.match_rest.proofs.WakeLaws.{roomy-kept}
 use Rattle.laws.specs.MarkLaws.{entry-unmarked}
 use Rattle.match_sets.proofs.BitLaws.{bit-or}
 use Rattle.match_rest.proofs.VisitLaws.{by-or}
-use Rattle.match_rest.proofs.WalkLaws.{bit-below}
+use Rattle.match_sets.proofs.BitWalk.{bit-below}
 
 -- by whether a test passes
 by-test : {C : Type 0} (t : Bool) → (t ≡ true → C) → (t ≡ false → C) → C

@@ -20,7 +20,7 @@ use Rattle.match_rule.specs.declared.Tried.{Tried}
 use Rattle.match_rule.specs.declared.Tried.the-variants.{Hit, Differs, Varies}
 use Rattle.match_rest.specs.Rest.{isAwake, isUsed, inBed, bedOf}
 use Rattle.match_rest.specs.Visits.{Touch, Touches, Besides, Lain, Settled}
-use Rattle.match_rest.proofs.WalkLaws.{bit-low}
+use Rattle.match_sets.proofs.BitWalk.{bit-low}
 
 abbrev pub PutIn : ℕ → ℕ → List ℕ → List ℕ → Type 0
 PutIn at k sets sets′ = (j i : ℕ) → has sets′ j i ≡ (has sets j i || (eqb j (at + k / 64) && eqb i (k % 64)))

@@ -16,7 +16,7 @@ use Rattle.match_sets.specs.Sets.{has}
 use Rattle.match_sets.proofs.BitLaws.{bit-or}
 use Rattle.match_rest.specs.Rest.{isAwake, isUsed, inBed, bedOf, Roomy}
 use Rattle.match_rest.specs.Woken.{Woke, Called, CalledBy}
-use Rattle.match_rest.proofs.WalkLaws.{bit-low}
+use Rattle.match_sets.proofs.BitWalk.{bit-low}
 
 -- ---- waking again, and waking fewer
 

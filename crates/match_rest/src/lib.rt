@@ -67,13 +67,10 @@ fn wake(sets: &mut [u64], n: usize, state: &[u16], b: usize)
     ensures { λ _. ⌜ Woke n (λ (g k : ℕ). Called (now (state .entry)) (now (sets .entry)) b 10 g) (now (sets .entry)) (now (sets .exit)) ⌝ }
 {
     let mut rest = sets[USED_AT + b] % 1024;
-    let mut i = 0;
     while rest != 0 {
-        let z = match_sets::lowest(rest);
-        let p = BUFFER_WORDS * b + (i + z);
+        let p = BUFFER_WORDS * b + match_sets::lowest(rest);
         wake_bed(sets, n, bed(p, state[p]));
-        rest = rest >> z >> 1;
-        i = i + z + 1;
+        rest = match_sets::drop_lowest(rest);
     }
 }
 
@@ -83,12 +80,9 @@ fn wake_all(sets: &mut [u64], n: usize, state: &[u16], mark: u16)
     ensures { λ _. ⌜ Woke n (λ (g k : ℕ). CalledBy (now (state .entry)) (now (sets .entry)) mark 8 g) (now (sets .entry)) (now (sets .exit)) ⌝ }
 {
     let mut rest = mark as u64 % 256;
-    let mut b = 0;
     while rest != 0 {
-        let z = match_sets::lowest(rest);
-        wake(sets, n, state, b + z);
-        rest = rest >> z >> 1;
-        b = b + z + 1;
+        wake(sets, n, state, match_sets::lowest(rest));
+        rest = match_sets::drop_lowest(rest);
     }
 }
 
@@ -99,12 +93,9 @@ fn touched(sets: &[u64], w: usize, mark: u16) -> u64
 {
     let mut all = 0;
     let mut rest = mark as u64 % 256;
-    let mut b = 0;
     while rest != 0 {
-        let z = match_sets::lowest(rest);
-        all = all | sets[TESTERS_AT + 8 * w + (b + z)];
-        rest = rest >> z >> 1;
-        b = b + z + 1;
+        all = all | sets[TESTERS_AT + 8 * w + match_sets::lowest(rest)];
+        rest = match_sets::drop_lowest(rest);
     }
     all
 }
@@ -172,12 +163,10 @@ fn visit_all(
         (now (table .entry)) (now (table .exit)) (now (sets .entry)) (now (sets .exit)) ⌝ }
 {
     let mut rest = todo;
-    let mut i = 0;
     while rest != 0 {
-        let z = match_sets::lowest(rest);
-        visit(table, sets, order, heads, words, state, 64 * w + (i + z));
-        rest = rest >> z >> 1;
-        i = i + z + 1;
+        let k = 64 * w + match_sets::lowest(rest);
+        visit(table, sets, order, heads, words, state, k);
+        rest = match_sets::drop_lowest(rest);
     }
 }
 
@@ -225,12 +214,13 @@ fn lay_tester(sets: &mut [u64], k: usize, mask: u16)
     ensures { λ _. ⌜ Joins k mask 8 (now (sets .entry)) (now (sets .exit)) ⌝ }
 {
     let mut rest = mask as u64 % 256;
-    let mut b = 0;
     while rest != 0 {
-        let z = match_sets::lowest(rest);
-        match_sets::put(sets, TESTERS_AT + 7 * (k / 64) + (b + z), k);
-        rest = rest >> z >> 1;
-        b = b + z + 1;
+        match_sets::put(
+            sets,
+            TESTERS_AT + 7 * (k / 64) + match_sets::lowest(rest),
+            k,
+        );
+        rest = match_sets::drop_lowest(rest);
     }
 }
 

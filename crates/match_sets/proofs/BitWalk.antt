@@ -10,6 +10,7 @@ use lib.Pow.{field, mod-mod-pow}
 use borrow.Author.Tests.{eq-eqb, ne-eqb}
 use Rattle.meaning.specs.Base.{bit}
 use Rattle.laws.specs.BaseLaws.{bit-zero, by-lt, no-true}
+use Rattle.match_sets.specs.Sets.{Dropped}
 use Rattle.match_sets.proofs.BitLaws.{but-none, bit-high}
 
 -- the low bits of a number
@@ -31,7 +32,7 @@ pub record Left (x at rest : ℕ) : Type 0 where
   pub passed : (j : ℕ) → j < at → bit rest j ≡ false
   pub ahead : (j : ℕ) → at ≤ j → bit rest j ≡ bit x j
 
--- a walk over the bits of x, of which what is done of those below `at` holds
+-- a walk over the bits of x: what is done holds of those below `at`
 pub record Walk (x bound : ℕ) (done : ℕ → Type 0) (rest : ℕ) : Type 0 where
   pub at : ℕ
   pub low : at ≤ bound
@@ -41,35 +42,39 @@ pub record Walk (x bound : ℕ) (done : ℕ → Type 0) (rest : ℕ) : Type 0 wh
 pub walk-begins : (x bound : ℕ) (done : ℕ → Type 0) → done 0 → Walk x bound done x
 walk-begins x bound done d = record { at = 0; low = omega arith; left = record { passed = λ j h. absurd (omega arith); ahead = λ j h. refl }; so = d }
 
-module _ (x at rest : ℕ) (l : Left x at rest) where
+module _ {x bound rest : ℕ} {done : ℕ → Type 0} (w : Walk x bound done rest) where
   -- nothing is left, so x has no bit from there on
-  pub left-end : rest ≡ 0 → (j : ℕ) → at ≤ j → bit x j ≡ false
-  left-end e j h = sym (l .ahead j h) ∙ ap (λ (r : ℕ). bit r j) e ∙ bit-zero j
+  pub walk-ends : rest ≡ 0 → (j : ℕ) → w .at ≤ j → bit x j ≡ false
+  walk-ends e j h = sym (w .left .ahead j h) ∙ ap (λ (r : ℕ). bit r j) e ∙ bit-zero j
 
   module _ (z : ℕ) where
-    -- a bit that is left is ahead, and is one of x
-    pub left-ahead : bit rest z ≡ true → at ≤ z
-    left-ahead b = by-lt z at (λ h. absurd (no-true (sym b ∙ l .passed z h))) (λ h. h)
-
-    pub left-here : bit rest z ≡ true → bit x z ≡ true
-    left-here b = sym (l .ahead z (left-ahead b)) ∙ b
-
     -- below the lowest that is left, x has none from there on
-    pub left-none : ((j : ℕ) → j < z → bit rest j ≡ false) → (j : ℕ) → at ≤ j → j < z → bit x j ≡ false
-    left-none none j h g = sym (l .ahead j h) ∙ none j g
+    pub walk-none : ((j : ℕ) → j < z → bit rest j ≡ false) → (j : ℕ) → w .at ≤ j → j < z → bit x j ≡ false
+    walk-none none j h g = sym (w .left .ahead j h) ∙ none j g
 
-    pub left-next : (rest′ : ℕ) → bit rest z ≡ true → ((j : ℕ) → j < z → bit rest j ≡ false) → ((j : ℕ) → bit rest′ j ≡ (bit rest j && not (eqb j z))) → Left x (z + 1) rest′
-    left-next rest′ b none dropped =
-        record {
-          passed = λ j h.
-              dropped j
-              ∙ elim (ℕ-discrete j z) [
-                | yes e ↦ ap (λ (y : Bool). bit rest j && not y) (eq-eqb j z e) ∙ and-none (bit rest j)
-                | no e ↦ ap (λ (y : Bool). y && not (eqb j z)) (none j (omega arith))
-              ];
-          ahead = λ j h.
-              dropped j
-              ∙ ap (λ (y : Bool). bit rest j && not y) (ne-eqb j z (λ e. omega arith))
-              ∙ but-none (bit rest j)
-              ∙ l .ahead j (omega (arith, left-ahead b));
-        }
+    module _ (b : bit rest z ≡ true) where
+      -- a bit that is left is ahead, and is one of x
+      pub walk-ahead : w .at ≤ z
+      walk-ahead = by-lt z (w .at) (λ h. absurd (no-true (sym b ∙ w .left .passed z h))) (λ h. h)
+
+      pub walk-here : bit x z ≡ true
+      walk-here = sym (w .left .ahead z walk-ahead) ∙ b
+
+      module _ (none : (j : ℕ) → j < z → bit rest j ≡ false) (rest′ : ℕ) (dropped : Dropped rest rest′) where
+        passed-now : (j : ℕ) → j < z + 1 → bit rest′ j ≡ false
+        passed-now j h =
+            dropped z j b none
+            ∙ elim (ℕ-discrete j z) [
+              | yes e ↦ ap (λ (y : Bool). bit rest j && not y) (eq-eqb j z e) ∙ and-none (bit rest j)
+              | no e ↦ ap (λ (y : Bool). y && not (eqb j z)) (none j (omega arith))
+            ]
+
+        ahead-now : (j : ℕ) → z + 1 ≤ j → bit rest′ j ≡ bit x j
+        ahead-now j h =
+            dropped z j b none
+            ∙ ap (λ (y : Bool). bit rest j && not y) (ne-eqb j z (λ e. omega arith))
+            ∙ but-none (bit rest j)
+            ∙ w .left .ahead j (omega (arith, walk-ahead))
+
+        pub walk-goes-on : {now : ℕ → Type 0} → z < bound → now (z + 1) → Walk x bound now rest′
+        walk-goes-on low d = record { at = z + 1; low = omega arith; left = record { passed = passed-now; ahead = ahead-now }; so = d }

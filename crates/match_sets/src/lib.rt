@@ -5,7 +5,7 @@ ghost use Prim.Native.Nat.{ℕ, _+_, _/_, _%_, _≤_, _<_};
 ghost use lib.Dec.{eqb};
 ghost use lib.ListN.{length};
 ghost use Rattle.meaning.specs.Base.{bit};
-ghost use Rattle.match_sets.specs.Sets.{has, member};
+ghost use Rattle.match_sets.specs.Sets.{has, member, Dropped};
 
 // The number of the lowest bit that is set in x.
 pub fn lowest(x: u64) -> usize
@@ -18,7 +18,7 @@ pub fn lowest(x: u64) -> usize
 // x without its lowest bit.
 pub fn drop_lowest(x: u64) -> u64
     requires { ⌜ 0 < x ⌝ }
-    ensures { λ r. ⌜ ((z j : ℕ) → bit x z ≡ true → ((i : ℕ) → i < z → bit x i ≡ false) → bit r j ≡ (bit x j && not (eqb j z))) × (r < x) ⌝ }
+    ensures { λ r. ⌜ Dropped x r × (r < x) ⌝ }
 {
     x & (x - 1)
 }

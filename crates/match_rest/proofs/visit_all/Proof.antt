@@ -1,6 +1,6 @@
 -- `match_rest::visit_all` meets its contract: the rules of the set among the first i are visited.
 use Rattle.match_rest.proofs.RoundLaws.{visited-none, visited-turn, visited-end}
-use Rattle.match_rest.proofs.WalkLaws.{walk-here, walk-none, walk-next, walk-end, walk-less, bit-below}
+use Rattle.match_sets.proofs.BitWalk.{Walk, walk-begins, walk-ahead, walk-here, walk-none, walk-goes-on, walk-ends}
 use Rattle.match_rest.specs.Visits.{Visitable, VisitedAll}
 use lib.ListN.{length}
 use native.Mathlib.Omega.{arith}
@@ -11,89 +11,74 @@ use Rattle.match_rest.proofs.visit_all.Statement.{statement}
 use Rattle.match_rest.proofs.visit_all.Tie as tie
 
 abbrev Inv-loop : tie.InvT-loop
-Inv-loop table₀ sets₀ order heads words state w todo rest₀ i₀ table sets rest i = (i ≤ 64) × (rest ≡ todo / 2 ^ i) × VisitedAll heads words order state w todo i table₀ table sets₀ sets
+Inv-loop table₀ sets₀ order heads words state w todo rest₀ table sets rest = Walk todo 64 (λ i. VisitedAll heads words order state w todo i table₀ table sets₀ sets) rest
 
 abbrev μ-loop : tie.MeasureT-loop
-μ-loop table₀ sets₀ order heads words state w todo rest₀ i₀ table sets rest i = rest
+μ-loop table₀ sets₀ order heads words state w todo rest₀ table sets rest = rest
 
 loop-holds : tie.Need-loop-holds Inv-loop μ-loop
 loop-holds c =
     let args = c .before .before .before .before .before .before .args in
-    (search needs, omega arith, visited-none (args .heads .now) (args .words .now) (args .order .now) (args .state .now) (args .w) (args .todo) (args .table .now) (args .sets .now))
+    walk-begins (args .todo) 64 _ (visited-none (args .heads .now) (args .words .now) (args .order .now) (args .state .now) (args .w) (args .todo) (args .table .now) (args .sets .now))
+
+mul-k : tie.Need-mul-k Inv-loop μ-loop
+mul-k c = record {
+  fits =
+      let pre = c .before .before .before .before .before .before .before .before .pre in
+      omega (arith, pre .1);
+}
 
 lowest-requires : tie.Need-lowest-requires Inv-loop μ-loop
 lowest-requires c κs = search needs
 
-mul-visit : tie.Need-mul-visit Inv-loop μ-loop
-mul-visit c = record {
+add-k : tie.Need-add-k Inv-loop μ-loop
+add-k c = record {
   fits =
-      let pre = c .before .before .before .before .before .before .before .before .before .before .before .pre in
-      omega (arith, pre .1);
+      let pre = c .before .before .before .before .before .before .before .before .before .pre in
+      omega (arith, c .lowest .ensures .0, pre .1);
 }
-
-add-visit : tie.Need-add-visit Inv-loop μ-loop
-add-visit c = search needs
-
-add-visit-2 : tie.Need-add-visit-2 Inv-loop μ-loop
-add-visit-2 c = search needs
 
 visit-requires : tie.Need-visit-requires Inv-loop μ-loop
 visit-requires c κs =
     let l = c .before .before .before .before .loop in
     let start = c .before .before .before .before .before .before .before .before .before .before .before in
     let z = c .before .before .lowest in
-    let here = walk-here (start .args .todo) (l .rest) (l .i) (l .inv .1) (z .result) (z .ensures .1) in
-    let v = start .pre .2 (l .i + z .result) here in
-    (rw (l .inv .2 .entries, l .inv .2 .size) v, start .pre .0)
+    let v = start .pre .2 (z .result) (walk-here (l .inv) (z .result) (z .ensures .1)) in
+    (rw (l .inv .so .entries, l .inv .so .size) v, start .pre .0)
 
-shr-rest : tie.Need-shr-rest Inv-loop μ-loop
-shr-rest c = search needs
-
-add-i : tie.Need-add-i Inv-loop μ-loop
-add-i c = search needs
-
-add-i-2 : tie.Need-add-i-2 Inv-loop μ-loop
-add-i-2 c = search needs
+drop-lowest-requires : tie.Need-drop-lowest-requires Inv-loop μ-loop
+drop-lowest-requires c κs = search needs
 
 loop-less : tie.Need-loop-less Inv-loop μ-loop
-loop-less c =
-    let loop = c .before .before .before .before .before .before .before .before .before .loop in
-    let lowest = c .before .before .before .before .before .before .before .lowest in
-    let loop-test = c .before .before .before .before .before .before .before .before .loop-test in
-    walk-less (loop .rest) (lowest .result)
-    (loop-test .taken)
+loop-less c = c .drop-lowest .ensures .1
 
 loop-again : tie.Need-loop-again Inv-loop μ-loop
 loop-again c =
-    let l = c .before .before .before .before .before .before .before .before .before .loop in
-    let start = c .before .before .before .before .before .before .before .before .before .before .before .before .before .before .before .before in
+    let l = c .before .before .before .before .before .before .before .before .before .before .loop in
+    let start = c .before .before .before .before .before .before .before .before .before .before .before .before .before .before .before .before .before in
     let args = start .args in
-    let z = c .before .before .before .before .before .before .before .lowest in
+    let z = c .before .before .before .before .before .before .before .before .lowest in
     let x = args .todo in
-    let here = walk-here x (l .rest) (l .i) (l .inv .1) (z .result) (z .ensures .1) in
-    let low = bit-below 64 x (l .i + z .result) (search needs) here in
-    let none = walk-none x (l .rest) (l .i) (l .inv .1) (z .result) (z .ensures .2) in
-    let v = c .before .before .before .before .visit in (
-      omega (arith, low),
-      walk-next x (l .rest) (l .i) (l .inv .1) (z .result),
-      visited-turn (args .heads .now) (args .words .now) (args .order .now) (args .state .now) (args .w) x (args .table .now) (args .sets .now) (l .i) (l .i + z .result) (omega arith) none
-          (l .table) (l .sets)
-          (l .inv .2) low (start .pre .1) here (start .pre .2 (l .i + z .result) here .entry) (v .last .0) (v .last .1 .0) (v .ensures),
-    )
+    let here = walk-here (l .inv) (z .result) (z .ensures .1) in
+    let none = walk-none (l .inv) (z .result) (z .ensures .2) in
+    let v = c .before .before .before .before .before .visit in
+    walk-goes-on (l .inv) (z .result) (z .ensures .1) (z .ensures .2) _ (c .drop-lowest .ensures .0) (z .ensures .0)
+    (visited-turn (args .heads .now) (args .words .now) (args .order .now) (args .state .now) (args .w) x (args .table .now) (args .sets .now) (l .inv .at) (z .result)
+    (walk-ahead (l .inv) (z .result) (z .ensures .1)) none (l .table) (l .sets)
+    (l .inv .so) (z .ensures .0) (start .pre .1) here (start .pre .2 (z .result) here .entry) (v .last .0) (v .last .1 .0) (v .ensures))
 
 same-length : tie.Need-same-length Inv-loop μ-loop
-same-length c = c .before .loop .inv .2 .entries
+same-length c = c .before .loop .inv .so .entries
 
 same-length-2 : tie.Need-same-length-2 Inv-loop μ-loop
-same-length-2 c = c .before .loop .inv .2 .size
+same-length-2 c = c .before .loop .inv .so .size
 
 returns : tie.Need-returns Inv-loop μ-loop
 returns c =
     let l = c .before .loop in
     let args = c .before .before .before .before .before .before .before .before .args in
-    let x = args .todo in
-    visited-end (args .heads .now) (args .words .now) (args .order .now) (args .state .now) (args .w) x (args .table .now) (args .sets .now) (l .i) 64 (l .inv .0)
-    (λ j f e. walk-end x (l .rest) (l .i) (l .inv .1) (c .loop-test .left) j f) (l .table) (l .sets) (l .inv .2)
+    visited-end (args .heads .now) (args .words .now) (args .order .now) (args .state .now) (args .w) (args .todo) (args .table .now) (args .sets .now) (l .inv .at) 64 (l .inv .low)
+    (λ j f e. walk-ends (l .inv) (c .loop-test .left) j f) (l .table) (l .sets) (l .inv .so)
 
 pub visit-all-spec : {M : Type 1} → statement M
 visit-all-spec =
@@ -102,14 +87,11 @@ visit-all-spec =
     Inv-loop
     μ-loop
     loop-holds
+    mul-k
     lowest-requires
-    mul-visit
-    add-visit
-    add-visit-2
+    add-k
     visit-requires
-    shr-rest
-    add-i
-    add-i-2
+    drop-lowest-requires
     loop-less
     loop-again
     same-length
