@@ -22,6 +22,7 @@ use Rattle.match_sets.specs.Sets.{has, member}
 use Rattle.match_order.specs.Order.{Ranked, Hitting, HitAt, placeOf}
 use Rattle.match_table.proofs.TableLaws.{mark-meets, mark-misses}
 use Rattle.match_rest.specs.Rest.{isAwake, isUsed, inBed, bedOf, tests, entryAt, Asleep, Sleeping, Testing, Roomy, Lying, isSure, Sure, Kept}
+use Rattle.match_rule.specs.Shut.{delayOf}
 use Rattle.match_rest.specs.Woken.{Woke, Called, CalledBy}
 use Rattle.match_rest.specs.Visits.{Touch, Touches, Visitable, Among, VisitedAll}
 use Rattle.match_rest.proofs.WakeLaws.{roomy-kept}
@@ -35,13 +36,30 @@ by-test : {C : Type 0} (t : Bool) → (t ≡ true → C) → (t ≡ false → C)
 by-test true f g = f refl
 by-test false f g = g refl
 
+-- who sleeps does not match
+asleep-fails : {heads words state table sets : List ℕ} {k : ℕ} → Asleep heads words state table sets k → (clock : ℕ) → entryOf (ruleIn heads words k) (stateIn state clock) ≡ replicate 9 0
+asleep-fails {state = state} a clock =
+    elim (ℕ-discrete (getD state (delayOf (a .place)) 0) 0) [ yes shown ↦ a .shuts state clock (a .differs shown) | no pending ↦ a .hidden state clock pending ]
+
 -- ---- what waking keeps
 
 module _ (heads words order : List ℕ) (n mark : ℕ) (before state table sets sets′ : List ℕ) (kept : Kept before state mark) (few : n ≤ 256)
     (woke : Woke n (λ h k. CalledBy state sets mark 8 h) sets sets′) where
-  -- STILL SHUT, OR WOKEN: the word of a rule that still sleeps is still another
-  still : (k : ℕ) → k < n → isAwake sets′ k ≡ false → (a : Asleep heads words before table sets k) → getD state (a .place) 0 ≡ a .value → ⊥
-  still k h no-one a e =
+  -- a word that differed while its buffer was visible differs still if the buffer is not marked
+  unmarked-differs : (p v : ℕ) → p < 80 → bit mark (p / 10) ≡ false → (getD before (delayOf p) 0 ≡ 0 → getD before p 0 ≡ v → ⊥) → getD state (delayOf p) 0 ≡ 0 → getD state p 0 ≡ v → ⊥
+  unmarked-differs p v low off differs shown e =
+      let b : delayOf p / 10 ≡ p / 10 = omega arith in
+      elim (ℕ-discrete (getD before (delayOf p) 0) 0) [
+        | yes was ↦ elim (ℕ-discrete (p % 10) 9) [
+          | yes d ↦ let q : delayOf p ≡ p = omega arith in differs was ((rw q at was) ∙ sym (rw q at shown) ∙ e)
+          | no d ↦ differs was (sym (kept .words p low off d) ∙ e)
+        ]
+        | no was ↦ kept .delays (delayOf p) (omega arith) (rw b off) (omega arith) was shown
+      ]
+
+  -- STILL SHUT, OR WOKEN: the word of a rule that still sleeps is still another, if its buffer is visible
+  still : (k : ℕ) → k < n → isAwake sets′ k ≡ false → (a : Asleep heads words before table sets k) → getD state (delayOf (a .place)) 0 ≡ 0 → getD state (a .place) 0 ≡ a .value → ⊥
+  still k h no-one a shown e =
       by-test (bit mark (a .place / 10))
       (λ m.
       let p : 10 * (a .place / 10) + a .place % 10 ≡ a .place = omega arith in
@@ -56,14 +74,12 @@ module _ (heads words order : List ℕ) (n mark : ℕ) (before state table sets 
           below = omega arith;
           low = omega arith;
           used = rw p (a .used);
+          visible = shown;
           is = rw (p, e) refl;
         };
       } in
       no-true (sym (woke .wakes (bedOf (a .place) (a .value)) k (omega arith) h called (a .bed)) ∙ no-one))
-      (λ m. elim (ℕ-discrete (a .place % 10) 9) [
-        | yes d ↦ let z : a .value ≡ 0 = a .delay d in kept .delays (a .place) (a .low) m d (λ q. a .differs (q ∙ sym z)) (e ∙ z)
-        | no d ↦ a .differs (sym (kept .words (a .place) (a .low) m d) ∙ e)
-      ])
+      (λ m. unmarked-differs (a .place) (a .value) (a .low) m (a .differs) shown e)
 
   asleep-still : (k : ℕ) → k < n → isAwake sets′ k ≡ false → Asleep heads words before table sets k → Asleep heads words state table sets′ k
   asleep-still k h no-one a =
@@ -72,8 +88,8 @@ module _ (heads words order : List ℕ) (n mark : ℕ) (before state table sets 
         value = a .value;
         low = a .low;
         shuts = a .shuts;
+        hidden = a .hidden;
         differs = still k h no-one a;
-        delay = a .delay;
         bed = ⊎-elim (λ (b : inBed sets′ (bedOf (a .place) (a .value)) k ≡ true). b) (λ (w : isAwake sets′ k ≡ true). absurd (no-true (sym w ∙ no-one)))
             (woke .stays (bedOf (a .place) (a .value)) k (omega arith) h (a .bed));
         used = woke .kept (40 + a .place / 10) (a .place % 10) (omega arith) (omega (arith, a .low)) ∙ a .used;
@@ -230,7 +246,7 @@ module _ (heads words order : List ℕ) (n : ℕ) (state : List ℕ) (mark w r :
           (sym (ap (λ (x : Bool). x && has sets w (k - 64 * w)) (touches .all (k - 64 * w) t)) ∙ sym (bit-and r (getD sets w 0) (k - 64 * w)) ∙ b) in
           rw m
           (⊎-elim (λ (s : isAwake sets k ≡ true). absurd (no-true (sym s ∙ off)))
-          (λ (a : Asleep heads words state table sets k). same ∙ a .zeros ∙ sym (a .shuts state clock (a .differs))) (rests .sleeping k h)))
+          (λ (a : Asleep heads words state table sets k). same ∙ a .zeros ∙ sym (asleep-fails a clock)) (rests .sleeping k h)))
           (λ m. rw m (same ∙ so-far .left k from))
 
     pub renewed-turn : Renewed heads words n state mark (w + 1) table₀ table′
@@ -269,8 +285,8 @@ lying-beside heads words order n state table s s′ size same ranked x =
             value = a .value;
             low = a .low;
             shuts = a .shuts;
+            hidden = a .hidden;
             differs = a .differs;
-            delay = a .delay;
             bed = same (52 + 256 * (k / 64) + bedOf (a .place) (a .value)) (k % 64) (λ f g. omega arith) ∙ a .bed;
             used = same (40 + a .place / 10) (a .place % 10) (λ f g. omega (arith, a .low)) ∙ a .used;
             zeros = a .zeros;

@@ -50,8 +50,8 @@ module _ (heads words order state : List ℕ) (k : ℕ) (table nine sets sets′
         value = v;
         low = m .because .low;
         shuts = m .because .shuts (ruleIn heads words k) refl;
-        differs = m .because .differs;
-        delay = m .because .delay;
+        hidden = m .because .hidden (ruleIn heads words k) refl;
+        differs = λ _. m .because .differs;
         bed = lies .0;
         used = lies .1;
         zeros = entry-own table k nine size room ∙ m .fresh (ruleIn heads words k) 0 refl ∙ m .because .shuts (ruleIn heads words k) refl state 0 (m .because .differs);
@@ -118,8 +118,8 @@ module _ (heads words order state : List ℕ) (k n : ℕ) (table table′ sets s
         value = a .value;
         low = a .low;
         shuts = a .shuts;
+        hidden = a .hidden;
         differs = a .differs;
-        delay = a .delay;
         bed = v .besides .beds (bedOf (a .place) (a .value)) q (omega arith) (omega (arith, ranked .few)) (a .bed);
         used = v .besides .used (a .place) (a .low) (a .used);
         zeros = same-entry q d ∙ a .zeros;

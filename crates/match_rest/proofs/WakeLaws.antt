@@ -126,14 +126,14 @@ module _ (state sets : List ℕ) (b x i : ℕ) (is : x ≡ getD sets (40 + b) 0 
     pub called-turn : Called state sets b (m + 1) h → Called state sets b i h ⊎ (h ≡ bedOf (10 * b + m) (getD state (10 * b + m) 0))
     called-turn c =
         by-lt (c .at) i
-        (λ l. inl (record { at = c .at; below = l; low = c .low; used = c .used; is = c .is }))
+        (λ l. inl (record { at = c .at; below = l; low = c .low; used = c .used; visible = c .visible; is = c .is }))
         (λ l. by-lt (c .at) m (λ g. absurd (passed (c .at) (c .low) l g (c .used)))
         (λ g. inr (let e : c .at ≡ m = omega (arith, c .below) in c .is ∙ ap (λ (j : ℕ). bedOf (10 * b + j) (getD state (10 * b + j) 0)) e)))
 
     pub called-end : Called state sets b m h → Called state sets b i h
     called-end c =
         by-lt (c .at) i
-        (λ l. record { at = c .at; below = l; low = c .low; used = c .used; is = c .is })
+        (λ l. record { at = c .at; below = l; low = c .low; used = c .used; visible = c .visible; is = c .is })
         (λ l. absurd (passed (c .at) (c .low) l (c .below) (c .used)))
 
 -- ---- the marked buffers, one after the other
@@ -163,5 +163,6 @@ called-kept state sets sets′ b i h low kept c =
       below = c .below;
       low = c .low;
       used = kept (40 + (10 * b + c .at) / 10) ((10 * b + c .at) % 10) (omega arith) (omega (arith, c .low)) ∙ c .used;
+      visible = c .visible;
       is = c .is;
     }

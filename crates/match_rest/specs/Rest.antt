@@ -12,7 +12,7 @@ use Rattle.laws.specs.MarkLaws.{Marks}
 use Rattle.layout.specs.Rows.{ruleIn, Laid}
 use Rattle.layout.specs.StateWords.{stateIn}
 use Rattle.match_sets.specs.Sets.{has, member}
-use Rattle.match_rule.specs.Shut.{Shuts}
+use Rattle.match_rule.specs.Shut.{Shuts, delayOf}
 use Rattle.match_order.specs.Order.{Ranked, Hitting}
 
 -- ---- the words: 0 to 3 the awake rules, 4 to 7 the matching ones, 8 to 39 the testers, 40 to 47 the used places, 48 to 51 the rules whose entry is known to be fresh,
@@ -47,14 +47,14 @@ bedOf place value = (value + 23 * place) % 256
 abbrev pub entryAt : List ℕ → ℕ → List ℕ
 entryAt table k = take 9 (drop (9 * k) table)
 
--- rule k does not match, as its entry says, and it sleeps in the bed of a word that is another than the one it wants; of a delay only 0 is wanted
+-- rule k does not match, as its entry says, and it sleeps in the bed of a word that is another than the one it wants, or whose buffer is not visible
 pub record Asleep (heads words state table sets : List ℕ) (k : ℕ) : Type 0 where
   pub place : ℕ
   pub value : ℕ
   pub low : place < 80
   pub shuts : Shuts (ruleIn heads words k) place value
-  pub differs : getD state place 0 ≡ value → ⊥
-  pub delay : place % 10 ≡ 9 → value ≡ 0
+  pub hidden : Shuts (ruleIn heads words k) (delayOf place) 0
+  pub differs : getD state (delayOf place) 0 ≡ 0 → getD state place 0 ≡ value → ⊥
   pub bed : inBed sets (bedOf place value) k ≡ true
   pub used : isUsed sets place ≡ true
   pub zeros : entryAt table k ≡ replicate 9 0

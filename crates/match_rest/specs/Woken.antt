@@ -17,12 +17,13 @@ pub record Woke (n : ℕ) (which : ℕ → ℕ → Type 0) (sets sets′ : List 
   pub stays : (h k : ℕ) → h < 256 → k < n → inBed sets h k ≡ true → (inBed sets′ h k ≡ true) ⊎ (isAwake sets′ k ≡ true)
   pub wakes : (h k : ℕ) → h < 256 → k < n → which h k → inBed sets h k ≡ true → isAwake sets′ k ≡ true
 
--- bed h is the one of a used place of buffer b, of the first i, for the value that stands there
+-- buffer b is visible, and bed h is the one of a used place of it, of the first i, for the value that stands there
 pub record Called (state sets : List ℕ) (b i h : ℕ) : Type 0 where
   pub at : ℕ
   pub below : at < i
   pub low : at < 10
   pub used : isUsed sets (10 * b + at) ≡ true
+  pub visible : getD state (10 * b + 9) 0 ≡ 0
   pub is : h ≡ bedOf (10 * b + at) (getD state (10 * b + at) 0)
 
 -- the same of a marked buffer, of the first b

@@ -61,11 +61,14 @@ fn wake_bed(sets: &mut [u64], n: usize, h: usize)
     }
 }
 
-// Those who sleep by a word of buffer b that has a value of their bed are awake.
+// Those who sleep by a word of buffer b that has a value of their bed are awake, if the buffer is visible: before that none of them can match.
 fn wake(sets: &mut [u64], n: usize, state: &[u16], b: usize)
     requires { ⌜ Roomy n (now sets) × (80 ≤ length (now state)) × (b < 8) ⌝ }
     ensures { λ _. ⌜ Woke n (λ (g k : ℕ). Called (now (state .entry)) (now (sets .entry)) b 10 g) (now (sets .entry)) (now (sets .exit)) ⌝ }
 {
+    if state[BUFFER_WORDS * b + 9] != 0 {
+        return;
+    }
     let mut rest = sets[USED_AT + b] % 1024;
     while rest != 0 {
         let p = BUFFER_WORDS * b + match_sets::lowest(rest);
@@ -74,7 +77,7 @@ fn wake(sets: &mut [u64], n: usize, state: &[u16], b: usize)
     }
 }
 
-// Those who sleep by a word of a marked buffer that has a value of their bed are awake.
+// Those who sleep by a word of a marked and visible buffer that has a value of their bed are awake.
 fn wake_all(sets: &mut [u64], n: usize, state: &[u16], mark: u16)
     requires { ⌜ Roomy n (now sets) × (80 ≤ length (now state)) ⌝ }
     ensures { λ _. ⌜ Woke n (λ (g k : ℕ). CalledBy (now (state .entry)) (now (sets .entry)) mark 8 g) (now (sets .entry)) (now (sets .exit)) ⌝ }

@@ -1,5 +1,5 @@
 -- Where a word of the state has not the value that a test wants, the tests are given up, whatever the variables are.
-use Prim.Native.Nat.{ℕ, zero, suc, _+_, _-_, _*_, _%_, _≤_, _<_}
+use Prim.Native.Nat.{ℕ, zero, suc, _+_, _-_, _*_, _/_, _%_, _≤_, _<_}
 use mathlib.Core.Path.{_≡_, refl, sym, ap, _∙_}
 use mathlib.Core.Bool.{Bool, true, false}
 use mathlib.Core.List.{List}
@@ -18,7 +18,7 @@ use Rattle.layout.specs.Rows.{wordTerm, testIn, testsIn}
 use Rattle.layout.specs.StateWords.{buffersIn, stateIn}
 use Rattle.layout.proofs.StateLaws.{slot-is}
 use Rattle.match_rule.specs.Run.{Vars, Run, stop, on, thenOn, termRun, termsRun, testRun, testsRun, noVars, entryWords}
-use Rattle.match_rule.specs.Shut.{Shuts, Differing, whyOf, Because}
+use Rattle.match_rule.specs.Shut.{delayOf, Shuts, Differing, whyOf, Because}
 use Rattle.match_rule.proofs.TestLaws.{left, testsFrom, first, slot-skip, slot-on, slot-over}
 use Rattle.match_rule.proofs.WordMatch.{flat-pending, flat-other, flat-on}
 use Rattle.match_rule.proofs.Link.{entry-words}
@@ -114,11 +114,15 @@ module _ (w : List ℕ) (o n i q : ℕ) (at : q ≡ o + 11 * i) (h : i < n) (r :
 -- ---- and the word at which the match was given up is one of them
 
 module _ (w st : List ℕ) (o n i q : ℕ) (at : q ≡ o + 11 * i) (h : i < n) where
+  -- and so does the delay of the buffer that its word is of
+  hidden : (place : ℕ) → place / 10 ≡ getD w q 0 % 8 → (r : Rule) → r .tests ≡ testsIn w o n → Shuts r (delayOf place) 0
+  hidden place is r e = rw is (delay-shuts w o n i q at h r e)
+
   pub because-pending : (getD st (10 * (getD w q 0 % 8) + 9) 0 ≡ 0 → ⊥) → Differing w o n st (10 * (getD w q 0 % 8) + 9) 0
-  because-pending z = record { low = omega arith; delay = λ _. refl; differs = z; shuts = λ r e. delay-shuts w o n i q at h r e }
+  because-pending z = record { low = omega arith; differs = z; shuts = λ r e. delay-shuts w o n i q at h r e; hidden = hidden (10 * (getD w q 0 % 8) + 9) (omega arith) }
 
   pub because-type : (getD st (10 * (getD w q 0 % 8)) 0 ≡ getD w (q + 1) 0 → ⊥) → Differing w o n st (10 * (getD w q 0 % 8)) (getD w (q + 1) 0)
-  because-type z = record { low = omega arith; delay = λ d. absurd (omega arith); differs = z; shuts = λ r e. type-shuts w o n i q at h r e }
+  because-type z = record { low = omega arith; differs = z; shuts = λ r e. type-shuts w o n i q at h r e; hidden = hidden (10 * (getD w q 0 % 8)) (omega arith) }
 
   pub because-slot : (b : ℕ) → b < 8 → names (getD w (q + 2) 0) b ≡ true
       → (getD w (q + 3 + b) 0 < 4096 → getD st (10 * (getD w q 0 % 8) + 1 + b) 0 ≡ getD w (q + 3 + b) 0 → ⊥)
@@ -126,5 +130,5 @@ module _ (w st : List ℕ) (o n i q : ℕ) (at : q ≡ o + 11 * i) (h : i < n) w
   because-slot b l named differs =
       by-lt (getD w (q + 3 + b) 0) 4096
       (λ s. rw (lt-ltb (getD w (q + 3 + b) 0) 4096 s)
-      (record { low = omega arith; delay = λ d. absurd (omega arith); differs = differs s; shuts = λ r e. symbol-shuts w o n i q at h r e b l named s }))
+      (record { low = omega arith; differs = differs s; shuts = λ r e. symbol-shuts w o n i q at h r e b l named s; hidden = hidden (10 * (getD w q 0 % 8) + 1 + b) (omega arith) }))
       (λ s. rw (le-ltb (getD w (q + 3 + b) 0) 4096 s) tt)

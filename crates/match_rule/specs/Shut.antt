@@ -1,5 +1,5 @@
 -- Why a rule does not match: a word of the state that has not the value without which it cannot.
-use Prim.Native.Nat.{ℕ, _%_, _<_}
+use Prim.Native.Nat.{ℕ, _+_, _*_, _/_, _<_}
 use mathlib.Core.Path.{_≡_}
 use mathlib.Core.Bool.{Bool, true, false}
 use mathlib.Core.List.{List}
@@ -17,6 +17,10 @@ use Rattle.match_rule.specs.declared.Tried.the-variants.{Hit, Differs, V
 abbrev pub Shuts : Rule → ℕ → ℕ → Type 0
 Shuts r place value = (state : List ℕ) (clock : ℕ) → (getD state place 0 ≡ value → ⊥) → entryOf r (stateIn state clock) ≡ replicate 9 0
 
+-- the delay of the buffer that a word of the state is of
+abbrev pub delayOf : ℕ → ℕ
+delayOf place = 10 * (place / 10) + 9
+
 -- a term that is a symbol was wanted at that place; of a variable nothing is said
 abbrev pub whyOf : ℕ → ℕ → Tried
 whyOf place term = if ltb term 4096 then Differs place term else Varies
@@ -26,12 +30,12 @@ isHit Hit = true
 isHit (Differs place value) = false
 isHit Varies = false
 
--- the word at `place` is another than `value`, and as long as it is, no rule with these tests matches; of a delay only 0 is wanted
+-- the word at `place` is another than `value`, and as long as it is, or the buffer is not visible, no rule with these tests matches
 pub record Differing (words : List ℕ) (o n : ℕ) (state : List ℕ) (place value : ℕ) : Type 0 where
   pub low : place < 80
-  pub delay : place % 10 ≡ 9 → value ≡ 0
   pub differs : getD state place 0 ≡ value → ⊥
   pub shuts : (r : Rule) → r .tests ≡ testsIn words o n → Shuts r place value
+  pub hidden : (r : Rule) → r .tests ≡ testsIn words o n → Shuts r (delayOf place) 0
 
 abbrev pub Because : Tried → List ℕ → ℕ → ℕ → List ℕ → Type 0
 Because Hit words o n state = Unit {0}

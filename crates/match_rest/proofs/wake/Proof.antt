@@ -19,6 +19,25 @@ Inv-loop sets₀ n state b rest₀ sets rest = Walk (getD sets₀ (40 + b) 0 % 1
 abbrev μ-loop : tie.MeasureT-loop
 μ-loop sets₀ n state b rest₀ sets rest = rest
 
+mul-if1 : tie.Need-mul-if1 Inv-loop μ-loop
+mul-if1 c = record { fits = omega (arith, c .before .before .pre .2) }
+
+add-if1 : tie.Need-add-if1 Inv-loop μ-loop
+add-if1 c = record { fits = omega (arith, c .before .before .pre .2) }
+
+mul-if1-2 : tie.Need-mul-if1-2 Inv-loop μ-loop
+mul-if1-2 c = search needs
+
+shared-slice-read-if1 : tie.Need-shared-slice-read-if1 Inv-loop μ-loop
+shared-slice-read-if1 c =
+    let pre = c .before .before .before .pre in
+    omega (arith, pre .1, pre .2)
+
+returns : tie.Need-returns Inv-loop μ-loop
+returns c =
+    let args = c .before .before .before .before .args in
+    woke-none (args .n) _ (args .sets .now) (λ g k x. c .if1 .taken (x .visible))
+
 add-rest : tie.Need-add-rest Inv-loop μ-loop
 add-rest c = search needs
 
@@ -30,13 +49,13 @@ slice-read-rest c = search needs
 
 loop-holds : tie.Need-loop-holds Inv-loop μ-loop
 loop-holds c =
-    let args = c .before .before .before .args in
+    let args = c .before .before .before .before .before .args in
     walk-begins (getD (args .sets .now) (40 + args .b) 0 % 1024) 10 _ (woke-none (args .n) _ (args .sets .now) (λ g k x. omega (arith, x .below)))
 
 mul-p : tie.Need-mul-p Inv-loop μ-loop
 mul-p c = record {
   fits =
-      let pre = c .before .before .before .before .before .pre in
+      let pre = c .before .before .before .before .before .before .before .pre in
       omega (arith, pre .2);
 }
 
@@ -46,7 +65,7 @@ lowest-requires c κs = search needs
 add-p : tie.Need-add-p Inv-loop μ-loop
 add-p c = record {
   fits =
-      let pre = c .before .before .before .before .before .before .pre in
+      let pre = c .before .before .before .before .before .before .before .before .pre in
       omega (arith, c .lowest .ensures .0, pre .2);
 }
 
@@ -56,7 +75,7 @@ mul-bed c = search needs
 shared-slice-read-bed : tie.Need-shared-slice-read-bed Inv-loop μ-loop
 shared-slice-read-bed c =
     let l = c .before .before .before .before .loop in
-    let start = c .before .before .before .before .before .before .before .before in
+    let start = c .before .before .before .before .before .before .before .before .before .before in
     let z = c .before .before .lowest in
     let x = getD (start .args .sets .now) (40 + start .args .b) 0 % 1024 in
     let low = bit-below 10 x (z .result) (omega arith) (walk-here (l .inv) (z .result) (z .ensures .1)) in
@@ -65,7 +84,7 @@ shared-slice-read-bed c =
 bed-requires : tie.Need-bed-requires Inv-loop μ-loop
 bed-requires c κs =
     let l = c .before .before .before .before .loop in
-    let start = c .before .before .before .before .before .before .before .before in
+    let start = c .before .before .before .before .before .before .before .before .before .before in
     let z = c .before .before .lowest in
     let x = getD (start .args .sets .now) (40 + start .args .b) 0 % 1024 in
     let low = bit-below 10 x (z .result) (omega arith) (walk-here (l .inv) (z .result) (z .ensures .1)) in
@@ -74,7 +93,7 @@ bed-requires c κs =
 wake-bed-requires : tie.Need-wake-bed-requires Inv-loop μ-loop
 wake-bed-requires c κs =
     let l = c .before .before .before .before .before .loop in
-    let start = c .before .before .before .before .before .before .before .before .before in
+    let start = c .before .before .before .before .before .before .before .before .before .before .before in
     (roomy-kept (start .args .n) (start .args .sets .now) (l .sets) (l .inv .so .size) (start .pre .0), omega (arith, c .bed .ensures))
 
 drop-lowest-requires : tie.Need-drop-lowest-requires Inv-loop μ-loop
@@ -86,7 +105,7 @@ loop-less c = c .drop-lowest .ensures .1
 loop-again : tie.Need-loop-again Inv-loop μ-loop
 loop-again c =
     let l = c .before .before .before .before .before .before .before .before .before .loop in
-    let args = c .before .before .before .before .before .before .before .before .before .before .before .before .before .args in
+    let args = c .before .before .before .before .before .before .before .before .before .before .before .before .before .before .before .args in
     let x = getD (args .sets .now) (40 + args .b) 0 % 1024 in
     let z = c .before .before .before .before .before .before .before .lowest in
     let low = bit-below 10 x (z .result) (omega arith) (walk-here (l .inv) (z .result) (z .ensures .1)) in
@@ -101,10 +120,10 @@ loop-again c =
 same-length : tie.Need-same-length Inv-loop μ-loop
 same-length c = c .before .loop .inv .so .size
 
-returns : tie.Need-returns Inv-loop μ-loop
-returns c =
+returns-2 : tie.Need-returns-2 Inv-loop μ-loop
+returns-2 c =
     let l = c .before .loop in
-    let args = c .before .before .before .before .before .args in
+    let args = c .before .before .before .before .before .before .before .args in
     let x = getD (args .sets .now) (40 + args .b) 0 % 1024 in
     woke-as (args .n) _ _ (args .sets .now) (l .sets) (l .inv .so)
     (λ g k h d. called-end (args .state .now) (args .sets .now) (args .b) x (l .inv .at) refl g 10 (λ j f e. walk-ends (l .inv) (c .loop-test .left) j f) d)
@@ -115,6 +134,11 @@ wake-spec =
     (tie.spec
     Inv-loop
     μ-loop
+    mul-if1
+    add-if1
+    mul-if1-2
+    shared-slice-read-if1
+    returns
     add-rest
     mul-rest
     slice-read-rest
@@ -130,4 +154,4 @@ wake-spec =
     loop-less
     loop-again
     same-length
-    returns)
+    returns-2)
