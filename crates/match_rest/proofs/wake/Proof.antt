@@ -36,7 +36,7 @@ shared-slice-read-if1 c =
 returns : tie.Need-returns Inv-loop μ-loop
 returns c =
     let args = c .before .before .before .before .args in
-    woke-none (args .n) _ (args .sets .now) (λ g k x. c .if1 .taken (x .visible))
+    woke-none (args .n) _ (args .sets .now) (λ g k x. omega (arith, c .if1 .taken, x .visible))
 
 add-rest : tie.Need-add-rest Inv-loop μ-loop
 add-rest c = search needs
