@@ -2,6 +2,7 @@
 
 use std::error::Error;
 use std::io::{BufRead, BufReader, ErrorKind, Write};
+use std::path::Path;
 use std::process::{Child, ChildStdin, ChildStdout, Command, Stdio};
 
 /// What Debian's package of the same name installs.
@@ -48,17 +49,32 @@ pub fn version() -> Result<Option<String>, Failure> {
 }
 
 impl Clips {
-    /// Starts CLIPS and loads a program that has a function `begin`.
-    pub fn start(program: &str) -> Result<Clips, Failure> {
-        let mut child = Command::new("sh").args(["-c", TOLD]).stdin(Stdio::piped()).stdout(Stdio::piped()).spawn()?;
+    /// Starts CLIPS in a folder, without a program.
+    pub fn start(folder: &Path) -> Result<Clips, Failure> {
+        let mut shell = Command::new("sh");
+        shell.args(["-c", TOLD]).current_dir(folder).stdin(Stdio::piped()).stdout(Stdio::piped());
+        let mut child = shell.spawn()?;
         let commands = child.stdin.take();
         let answers = BufReader::new(child.stdout.take().ok_or("CLIPS has no output")?);
         let mut clips = Clips { child, commands, answers };
-        let said = clips.ask(&format!("(unwatch all)\n{program}\n{TIMED}"))?;
+        clips.ask("(unwatch all)")?;
+        Ok(clips)
+    }
+
+    /// Takes a program that has a function `begin`.
+    pub fn take(&mut self, program: &str) -> Result<(), Failure> {
+        let said = self.ask(&format!("{program}\n{TIMED}"))?;
         match said.iter().find(|line| !line.trim().is_empty()) {
-            None => Ok(clips),
+            None => Ok(()),
             Some(complaint) => Err(format!("CLIPS does not take the program: {complaint}").into()),
         }
+    }
+
+    /// Writes the program that is stored as text anew, as what CLIPS loads quicker: its own binary image.
+    pub fn save_binary(&mut self, text: &str, binary: &str) -> Result<(), Failure> {
+        // It warns of constraints, of which there are none; that all is there shows when the image is run.
+        self.ask(&format!("(clear)\n(load* \"{text}\")\n(bsave \"{binary}\")"))?;
+        Ok(())
     }
 
     /// What CLIPS tells of its first firings, and of each change of the clock.
@@ -68,11 +84,27 @@ impl Clips {
 
     /// Nanoseconds of so many firings from the start, by the clock of CLIPS.
     pub fn timed(&mut self, firings: u32) -> Result<f64, Failure> {
-        let lines = self.ask(&format!("(timed {firings})"))?;
-        match lines.first().and_then(|line| line.trim().parse::<f64>().ok()) {
-            Some(seconds) => Ok(seconds * 1e9),
-            None => Err(format!("CLIPS does not say how long it took, but '{}'", lines.join(" / ")).into()),
+        match self.numbers(&format!("(timed {firings})"))?[..] {
+            [seconds] => Ok(seconds * 1e9),
+            _ => Err("CLIPS does not say how long it took".into()),
         }
+    }
+
+    /// Nanoseconds of loading a program by a command, starting it, and so many firings; what was there is cleared before.
+    pub fn timed_whole(&mut self, load: &str, firings: u32) -> Result<f64, Failure> {
+        // `begin` is found when it is called: before it is loaded there is no such function. No variable outlives a reset.
+        let whole = format!("(printout t (time) crlf) {load} (funcall begin) (run {firings}) (printout t (time) crlf)");
+        match self.numbers(&format!("(clear)\n(progn {whole})"))?[..] {
+            [from, to] => Ok((to - from) * 1e9),
+            _ => Err("CLIPS does not say when it began and ended".into()),
+        }
+    }
+
+    /// The answers to commands that answer nothing but numbers.
+    fn numbers(&mut self, commands: &str) -> Result<Vec<f64>, Failure> {
+        let lines = self.ask(commands)?;
+        let numbers: Result<Vec<f64>, _> = lines.iter().map(|line| line.trim().parse()).collect();
+        numbers.map_err(|_| format!("CLIPS does not say how long it took, but '{}'", lines.join(" / ")).into())
     }
 
     /// Gives commands, and takes all that is said until they are done.

@@ -2,11 +2,13 @@
 
 mod clips;
 mod engine;
+mod figures;
 mod models;
 mod opened;
 mod peers;
 mod progress;
 mod specs;
+mod stored;
 mod tables;
 mod timing;
 mod traces;
@@ -18,7 +20,8 @@ Measures calls of the proved library beside those of the reference engine, in tu
 over many short rounds, and the quartiles of the ratios. Takes about a minute.
 
   --peers   instead runs the same models in CLIPS (Debian's package clips), holds every step of its trace to ours, and prints
-            both times and their ratio, in some twenty seconds; without CLIPS it says so, and that is all";
+            both times and their ratios: of the whole way from a stored model to the last step, of a run call, and of a step
+            alone. Takes about a minute; without CLIPS it says so, and that is all";
 
 fn main() -> ExitCode {
     let words: Vec<String> = std::env::args().skip(1).collect();

@@ -25,6 +25,13 @@ pub struct Measured {
     pub steps: u16,
 }
 
+impl Measured {
+    /// The same model with a run of so many steps.
+    pub fn with_steps(&self, steps: u16) -> Measured {
+        Measured { name: self.name.clone(), image: self.image.clone(), steps }
+    }
+}
+
 /// A model under a name.
 fn model(name: &str, steps: u16, spec: &ModelSpec) -> Measured {
     Measured { name: name.to_string(), image: pack(spec), steps }

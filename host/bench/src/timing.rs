@@ -6,8 +6,13 @@ use std::time::Instant;
 const SLICE: f64 = 4e5;
 /// Nanoseconds for all rounds, as far as the least number of rounds allows.
 const BUDGET: f64 = 1.5e9;
+/// The same for ways that tell what they took, of which there are more, and longer ones.
+const TOLD_BUDGET: f64 = 3e9;
 /// Fewest and most rounds, in each of which every way is timed once.
 const ROUNDS: (f64, f64) = (15.0, 301.0);
+
+/// A way that tells itself how many nanoseconds it took, or why it could not be done.
+pub type Telling<'a, E> = Box<dyn FnMut() -> Result<f64, E> + 'a>;
 
 /// A median and the quartiles around it.
 #[derive(Clone, Copy)]
@@ -45,7 +50,7 @@ impl Times {
     pub fn take(ways: &mut [&mut dyn FnMut()]) -> Times {
         let once: Vec<f64> = ways.iter_mut().map(|way| round(way, 3)).collect();
         let calls: Vec<u32> = once.iter().map(|&time| calls(time)).collect();
-        let count = rounds(once.iter().map(|time| time.max(SLICE)).sum());
+        let count = rounds(once.iter().map(|time| time.max(SLICE)).sum(), BUDGET);
         let mut rounds = vec![Vec::with_capacity(count); ways.len()];
         for number in 0..count {
             for turn in 0..ways.len() {
@@ -57,17 +62,22 @@ impl Times {
         Times { rounds }
     }
 
-    /// Times first what another program says that it took, and then a way of ours, in every round.
-    pub fn beside<E>(mut other: impl FnMut() -> Result<f64, E>, mut way: impl FnMut()) -> Result<Times, E> {
-        let once = round(&mut way, 3);
-        other()?;
-        let count = rounds(other()? + once.max(SLICE));
-        let (mut others, mut ours) = (Vec::new(), Vec::new());
-        for _ in 0..count {
-            others.push(other()?);
-            ours.push(round(&mut way, calls(once)));
+    /// Times ways that tell themselves what they took, in this order in every round.
+    pub fn told<E>(ways: &mut [Telling<E>]) -> Result<Times, E> {
+        let mut whole = 0.0;
+        for way in ways.iter_mut() {
+            // What comes first is slower than what follows.
+            way()?;
+            whole += way()?.max(SLICE);
         }
-        Ok(Times { rounds: vec![others, ours] })
+        let count = rounds(whole, TOLD_BUDGET);
+        let mut rounds = vec![Vec::with_capacity(count); ways.len()];
+        for _ in 0..count {
+            for (times, way) in rounds.iter_mut().zip(ways.iter_mut()) {
+                times.push(way()?);
+            }
+        }
+        Ok(Times { rounds })
     }
 
     /// Nanoseconds of one call.
@@ -82,8 +92,24 @@ impl Times {
 
     /// What one way takes more than another in the same round.
     pub fn difference(&self, way: usize, less: usize) -> Spread {
-        Spread::of(self.rounds[way].iter().zip(&self.rounds[less]).map(|(one, other)| one - other))
+        Spread::of(self.differences(way, less))
     }
+
+    /// A difference over another one in the same round; of each the first way less the second.
+    pub fn ratio_of_differences(&self, [way, less]: [usize; 2], [over, over_less]: [usize; 2]) -> Spread {
+        Spread::of(self.differences(way, less).zip(self.differences(over, over_less)).map(|(one, other)| one / other))
+    }
+
+    /// What one way takes more than another, round by round.
+    fn differences(&self, way: usize, less: usize) -> impl Iterator<Item = f64> + '_ {
+        self.rounds[way].iter().zip(&self.rounds[less]).map(|(one, other)| one - other)
+    }
+}
+
+/// A way of ours as one that tells what it took: what one call takes, of as many as fit into a slice.
+pub fn telling<'a, E>(mut way: impl FnMut() + 'a) -> Telling<'a, E> {
+    let calls = calls(round(&mut way, 3));
+    Box::new(move || Ok(round(&mut way, calls)))
 }
 
 /// Calls that fit into a slice, if one takes so long.
@@ -91,9 +117,9 @@ fn calls(time: f64) -> u32 {
     (SLICE / time).clamp(1.0, 1e6) as u32
 }
 
-/// Rounds, if one of them takes so long.
-fn rounds(whole: f64) -> usize {
-    (BUDGET / whole).clamp(ROUNDS.0, ROUNDS.1) as usize
+/// Rounds, if one of them takes so long and all of them have so long.
+fn rounds(whole: f64, budget: f64) -> usize {
+    (budget / whole).clamp(ROUNDS.0, ROUNDS.1) as usize
 }
 
 /// Nanoseconds of one call, over so many calls.
@@ -101,4 +127,38 @@ fn round(way: &mut impl FnMut(), calls: u32) -> f64 {
     let start = Instant::now();
     (0..calls).for_each(|_| way());
     start.elapsed().as_nanos() as f64 / f64::from(calls)
+}
+
+#[cfg(test)]
+mod tests {
+    use super::*;
+
+    #[test]
+    fn differences_are_those_within_a_round() {
+        let rounds = vec![vec![70.0, 80.0, 90.0], vec![10.0, 20.0, 30.0], vec![9.0, 5.0, 7.0], vec![3.0, 2.0, 5.0]];
+        let times = Times { rounds };
+        assert_eq!((times.difference(0, 1).low, times.difference(0, 1).high), (60.0, 60.0));
+        let ratio = times.ratio_of_differences([0, 1], [2, 3]);
+        assert_eq!((ratio.low, ratio.median, ratio.high), (10.0, 20.0, 30.0));
+    }
+
+    #[test]
+    fn ways_are_told_in_turn_until_one_fails() {
+        let asked = std::cell::RefCell::new(Vec::new());
+        let way = |name: &'static str, last: usize| -> Telling<'_, &'static str> {
+            let asked = &asked;
+            Box::new(move || {
+                asked.borrow_mut().push(name);
+                let times = asked.borrow().iter().filter(|&&one| one == name).count();
+                if times > last {
+                    Err(name)
+                } else {
+                    Ok(1e9)
+                }
+            })
+        };
+        let failed = Times::told(&mut [way("first", 99), way("second", 4)]).err();
+        assert_eq!(failed, Some("second"));
+        assert_eq!(asked.borrow()[4..], ["first", "second", "first", "second", "first", "second"]);
+    }
 }
