@@ -53,9 +53,9 @@ module _ (w : List ℕ) (q mask : ℕ) where
   unfolding below
   slots-start v = sym (or-false (bit mask v))
 
-  pub slots-end : (seen : ℕ) → Holds (λ v. bit mask v || standsBelow w q 8 v) seen → Holds (λ v. bit mask v || standsAt w q v) seen
-  unfolding rest
-  slots-end seen h v = h v ∙ ap (λ (l : List ℕ). bit mask v || anyOf (λ n. isVariable v (n .term)) (map (namedIn w q) l)) (below-all (getD w (q + 2) 0) 8 (omega arith) refl)
+  -- no slot is named from b on
+  pub slots-end : (b seen : ℕ) → b ≤ 8 → rest (getD w (q + 2) 0) b ≡ [] → Holds (λ v. bit mask v || standsBelow w q b v) seen → Holds (λ v. bit mask v || standsAt w q v) seen
+  slots-end b seen low none h v = h v ∙ ap (λ (l : List ℕ). bit mask v || anyOf (λ n. isVariable v (n .term)) (map (namedIn w q) l)) (below-all (getD w (q + 2) 0) b low none)
 
   module _ (b seen seen′ : ℕ) (h : Holds (λ v. bit mask v || standsBelow w q b v) seen) where
     pub slots-skip : names (getD w (q + 2) 0) b ≡ false → seen′ ≡ seen → Holds (λ v. bit mask v || standsBelow w q (b + 1) v) seen′

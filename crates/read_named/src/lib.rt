@@ -21,18 +21,19 @@ fn with_term(mask: u16, term: u16) -> u16
     mask | (1u16 << (term % 8))
 }
 
-// The mask with the variables of the test at q.
+// The mask with the variables of the test at q. What is left of the row's mask has the bit of slot b at 128, and no slot is looked at once it is 0.
 fn with_test(mask: u16, words: &[u16], q: usize) -> u16
     requires { ⌜ q + 11 ≤ length (now words) ⌝ }
     ensures { λ r. ⌜ Holds (λ v. bit mask v || standsAt (now (words .entry)) q v) r ⌝ }
 {
-    let named = words[q + 2];
+    let mut rest = words[q + 2] % 256;
     let mut seen = mask;
     let mut b = 0;
-    while b < 8 {
-        if (named >> (7 - b)) & 1 == 1 {
+    while rest != 0 {
+        if 128 <= rest {
             seen = with_term(seen, words[q + 3 + b]);
         }
+        rest = rest * 2 % 256;
         b += 1;
     }
     seen
@@ -52,11 +53,14 @@ fn variables_in(words: &[u16], o: usize, n: usize) -> u16
     seen
 }
 
-// Whether every variable below `variables` stands in one of the n tests from o on.
+// Whether every variable below `variables` stands in one of the n tests from o on; without variables no test is looked at.
 pub fn stood(words: &[u16], o: usize, n: usize, variables: u16) -> bool
     requires { ⌜ (o + 11 * n ≤ length (now words)) × (n ≤ 8) × (variables ≤ 8) ⌝ }
     ensures { λ r. ⌜ r ≡ every (standsIn (testsIn (now (words .entry)) o n)) (upFrom 0 variables) ⌝ }
 {
+    if variables == 0 {
+        return true;
+    }
     let every = (1u16 << variables) - 1;
     variables_in(words, o, n) & every == every
 }
