@@ -1,6 +1,3 @@
--- Laws of letters in lent bytes, of decimal digits, and of the lines that a run's answer gives.
-pub mod WrittenLaws
-pub mod DecimalLaws
-pub mod LineLaws
+-- Laws of the lines that a run's answer gives, and of an opening's.
 pub mod RunLaws
 pub mod OpenLaws

@@ -17,7 +17,7 @@ use Rattle.meaning.specs.Print.{Line, Stepped, End, lineOf, linesOf}
 use Rattle.laws.specs.CallsLaws.{made-most}
 use Rattle.step_run.specs.Events.{eventWords, noted, inscribed}
 use Rattle.step_run.specs.Told.{eventBy}
-use Rattle.actr.specs.Written.{lineIn, linesIn}
+use Rattle.actr_lines.specs.Written.{lineIn, linesIn}
 
 -- ---- the words of an event stay as later events are noted
 

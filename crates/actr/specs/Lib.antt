@@ -1,5 +1,2 @@
--- What the printing program writes, in letters.
-pub mod Text
-pub mod Examples
-pub mod Written
+-- The contract of the printing program settles what is written.
 pub mod Once

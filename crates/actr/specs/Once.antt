@@ -7,7 +7,7 @@ use native.Mathlib.Omega.{arith}
 use lib.ListN.{length, take, length-take}
 use Rattle.io.specs.Counts.{Counts}
 use Rattle.meaning.specs.Print.{printed}
-use Rattle.actr.specs.Text.{text}
+use Rattle.actr_lines.specs.Text.{text}
 
 pub print-once : (image : List ℕ) (r r′ : ℕ) (room room′ : List ℕ) → Counts r room → Counts r′ room′
     → take r room ≡ text (printed image) → take r′ room′ ≡ text (printed image) → (r ≡ r′) × (take r room ≡ take r′ room′)

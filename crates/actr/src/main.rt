@@ -1,16 +1,14 @@
 // The printing program: reads one image from standard input, opens it, runs at most 1,000 steps and prints a line for each.
-mod lines;
-
 ghost use mathlib.Core.Path.{_≡_};
 ghost use Prim.Native.Nat.{_≤_};
 ghost use lib.ListN.{length, take};
 ghost use Rattle.io.specs.Counts.{Counts};
 ghost use Rattle.meaning.specs.Print.{linesOf, printed};
 ghost use Rattle.meaning.specs.Calls.{tableLength, traceOf};
-ghost use Rattle.actr.specs.Text.{text as Text·text};
-ghost use Rattle.actr.specs.Written.{Written};
-use lines::put_end;
-use lines::put_steps;
+ghost use Rattle.actr_lines.specs.Text.{text as Text·text};
+ghost use Rattle.actr_lines.specs.Written.{Written};
+use actr_lines::put_end;
+use actr_lines::put_steps;
 use meaning::State;
 
 // Runs at most 1,000 steps from a state, and puts a line of at most 27 letters for each and the last line, of at most 26.

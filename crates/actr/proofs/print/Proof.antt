@@ -3,7 +3,7 @@ use mathlib.Core.Path.{sym, _∙_}
 use native.Mathlib.Omega.{arith}
 use lib.ListN.{replicate}
 use lib.Seq.{length-take-le}
-use Rattle.actr.proofs.WrittenLaws.{written-first, written-counts}
+use Rattle.actr_lines.proofs.WrittenLaws.{written-first, written-counts}
 use Rattle.laws.specs.CallsLaws.{table-most}
 use borrow.Author.Needs.{needs}
 use Rattle.actr.proofs.print.Statement.{statement}

@@ -1,9 +1,9 @@
 -- `actr::print_model` meets its contract: a refusal is the last line alone, and the run from what open gives has the lines of the definition.
 use mathlib.Core.Path.{ap, _∙_}
 use native.Mathlib.Omega.{arith}
-use Rattle.actr.specs.Text.{text as Text·text}
-use Rattle.actr.proofs.WrittenLaws.{written-as}
-use Rattle.actr.proofs.LineLaws.{text-one}
+use Rattle.actr_lines.specs.Text.{text as Text·text}
+use Rattle.actr_lines.proofs.WrittenLaws.{written-as}
+use Rattle.actr_lines.proofs.LineLaws.{text-one}
 use Rattle.actr.proofs.OpenLaws.{printed-run, printed-refused}
 use borrow.Author.Needs.{needs}
 use Rattle.actr.proofs.print_model.Statement.{statement}

@@ -2,9 +2,9 @@
 use Prim.Native.Nat.{_≤_}
 use mathlib.Core.Path.{ap, _∙_}
 use native.Mathlib.Omega.{arith}
-use Rattle.actr.specs.Text.{text as Text·text}
-use Rattle.actr.proofs.WrittenLaws.{written-join, written-as}
-use Rattle.actr.proofs.LineLaws.{text-last}
+use Rattle.actr_lines.specs.Text.{text as Text·text}
+use Rattle.actr_lines.proofs.WrittenLaws.{written-join, written-as}
+use Rattle.actr_lines.proofs.LineLaws.{text-last}
 use Rattle.actr.proofs.RunLaws.{traced-lines, traced-most}
 use borrow.Author.Needs.{needs}
 use Rattle.actr.proofs.print_run.Statement.{statement}

@@ -7,7 +7,7 @@ use native.Mathlib.Numerals.{add-one}
 use lib.ListN.{length, getD, set, take, length-append, length-take}
 use lib.Seq.{take-suc, take-suc-set, take-all}
 use Rattle.io.specs.Counts.{Counts}
-use Rattle.actr.specs.Written.{Written}
+use Rattle.actr_lines.specs.Written.{Written}
 
 -- nothing was put yet
 pub written-none : (text : List ℕ) (at : ℕ) → Written text at text at 0 []

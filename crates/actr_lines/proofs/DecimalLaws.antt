@@ -11,9 +11,9 @@ use lib.ListN.{length, take}
 use Rattle.meaning.specs.Base.{if_then_else_}
 use Rattle.laws.specs.BaseLaws.{by-lt}
 use Rattle.io.specs.Digits.{digits, Fewest}
-use Rattle.actr.specs.Text.{widthFrom, decimal}
-use Rattle.actr.specs.Written.{Written}
-use Rattle.actr.proofs.WrittenLaws.{written-as}
+use Rattle.actr_lines.specs.Text.{widthFrom, decimal}
+use Rattle.actr_lines.specs.Written.{Written}
+use Rattle.actr_lines.proofs.WrittenLaws.{written-as}
 
 ten-pos : (k : ℕ) → 1 ≤ 10 ^ k
 ten-pos zero = omega arith

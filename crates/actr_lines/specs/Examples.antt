@@ -3,7 +3,7 @@ use mathlib.Core.Path.{_≡_, refl}
 use mathlib.Core.List.{[], _∷_}
 use Rattle.meaning.specs.Print.{printed}
 use Rattle.meaning.specs.Examples.{modelA, everything}
-use Rattle.actr.specs.Text.{decimal, text}
+use Rattle.actr_lines.specs.Text.{decimal, text}
 
 -- 0, 9, 10, 999
 pub numbers : decimal 0 ∷ decimal 9 ∷ decimal 10 ∷ decimal 999 ∷ [] ≡ (48 ∷ []) ∷ (57 ∷ []) ∷ (49 ∷ 48 ∷ []) ∷ (57 ∷ 57 ∷ 57 ∷ []) ∷ []

@@ -1,10 +1,10 @@
--- `actr::lines::put_end` meets its contract: `end`, the number, the steps made and a newline, one after the other.
+-- `actr_lines::put_end` meets its contract: `end`, the number, the steps made and a newline, one after the other.
 use mathlib.Core.Path.{refl}
 use native.Mathlib.Omega.{arith}
-use Rattle.actr.proofs.WrittenLaws.{written-join, written-as}
+use Rattle.actr_lines.proofs.WrittenLaws.{written-join, written-as}
 use borrow.Author.Needs.{needs}
-use Rattle.actr.proofs.lines.put_end.Statement.{statement}
-use Rattle.actr.proofs.lines.put_end.Tie as tie
+use Rattle.actr_lines.proofs.put_end.Statement.{statement}
+use Rattle.actr_lines.proofs.put_end.Tie as tie
 
 slice-aggregate-put : tie.Need-slice-aggregate-put
 slice-aggregate-put c = search needs

@@ -1,14 +1,14 @@
--- `actr::lines::put_kind` meets its contract on both arms.
+-- `actr_lines::put_kind` meets its contract on both arms.
 use mathlib.Core.Path.{sym, ap}
 use native.Mathlib.Omega.{arith}
 use borrow.Author.Tests.{eq-eqb, ne-eqb}
 use mathlib.Core.Bool.{Bool}
 use Rattle.meaning.specs.Base.{if_then_else_}
-use Rattle.actr.specs.Text.{fired, waited}
-use Rattle.actr.proofs.WrittenLaws.{written-as}
+use Rattle.actr_lines.specs.Text.{fired, waited}
+use Rattle.actr_lines.proofs.WrittenLaws.{written-as}
 use borrow.Author.Needs.{needs}
-use Rattle.actr.proofs.lines.put_kind.Statement.{statement}
-use Rattle.actr.proofs.lines.put_kind.Tie as tie
+use Rattle.actr_lines.proofs.put_kind.Statement.{statement}
+use Rattle.actr_lines.proofs.put_kind.Tie as tie
 
 slice-aggregate-put : tie.Need-slice-aggregate-put
 slice-aggregate-put c = search needs

@@ -1,10 +1,10 @@
--- `actr::lines::put_step` meets its contract: clock, kind, value and newline, one after the other.
+-- `actr_lines::put_step` meets its contract: clock, kind, value and newline, one after the other.
 use native.Mathlib.Omega.{arith}
-use Rattle.actr.proofs.WrittenLaws.{written-join, written-as}
-use Rattle.actr.proofs.LineLaws.{step-letters}
+use Rattle.actr_lines.proofs.WrittenLaws.{written-join, written-as}
+use Rattle.actr_lines.proofs.LineLaws.{step-letters}
 use borrow.Author.Needs.{needs}
-use Rattle.actr.proofs.lines.put_step.Statement.{statement}
-use Rattle.actr.proofs.lines.put_step.Tie as tie
+use Rattle.actr_lines.proofs.put_step.Statement.{statement}
+use Rattle.actr_lines.proofs.put_step.Tie as tie
 
 put-number-requires : tie.Need-put-number-requires
 put-number-requires c κs = search needs

@@ -1,10 +1,10 @@
--- `actr::lines::put_number` meets its contract: the digits are as few as the definition says.
+-- `actr_lines::put_number` meets its contract: the digits are as few as the definition says.
 use Prim.Native.Nat.{ℕ}
 use native.Mathlib.Omega.{arith}
-use Rattle.actr.proofs.DecimalLaws.{few-digits, decimal-put}
+use Rattle.actr_lines.proofs.DecimalLaws.{few-digits, decimal-put}
 use borrow.Author.Needs.{needs}
-use Rattle.actr.proofs.lines.put_number.Statement.{statement}
-use Rattle.actr.proofs.lines.put_number.Tie as tie
+use Rattle.actr_lines.proofs.put_number.Statement.{statement}
+use Rattle.actr_lines.proofs.put_number.Tie as tie
 
 -- the number, where its digits have been made
 abbrev number : tie.After-decimal → ℕ

@@ -3,8 +3,8 @@ ghost use Prim.Native.Nat.{_+_, _*_, _≤_};
 ghost use lib.ListN.{length};
 ghost use Rattle.meaning.specs.Print.{Stepped, End};
 ghost use Rattle.step_run.specs.Told.{eventBy};
-ghost use Rattle.actr.specs.Text.{decimal, letters, text as Text·text};
-ghost use Rattle.actr.specs.Written.{Written, word, linesIn};
+ghost use Rattle.actr_lines.specs.Text.{decimal, letters, text as Text·text};
+ghost use Rattle.actr_lines.specs.Written.{Written, word, linesIn};
 
 // Puts bytes into the text from `at` on, and answers where they end.
 fn put(text: &mut [u8], at: usize, bytes: &[u8]) -> usize

@@ -1,14 +1,14 @@
--- `actr::lines::put_steps` meets its contract: after each turn one more line stands after those before it.
+-- `actr_lines::put_steps` meets its contract: after each turn one more line stands after those before it.
 use Prim.Native.Nat.{_≤_, _-_, _*_}
 use mathlib.Core.Path.{_≡_, refl, _∙_}
 use native.Mathlib.Omega.{arith}
 use lib.ListN.{length}
-use Rattle.actr.specs.Text.{text as Text·text}
-use Rattle.actr.specs.Written.{Written, linesIn}
-use Rattle.actr.proofs.LineLaws.{steps-none, steps-on, steps-end}
+use Rattle.actr_lines.specs.Text.{text as Text·text}
+use Rattle.actr_lines.specs.Written.{Written, linesIn}
+use Rattle.actr_lines.proofs.LineLaws.{steps-none, steps-on, steps-end}
 use borrow.Author.Needs.{needs}
-use Rattle.actr.proofs.lines.put_steps.Statement.{statement}
-use Rattle.actr.proofs.lines.put_steps.Tie as tie
+use Rattle.actr_lines.proofs.put_steps.Statement.{statement}
+use Rattle.actr_lines.proofs.put_steps.Tie as tie
 
 abbrev Inv-loop : tie.InvT-loop
 Inv-loop text₀ at events made many end₀ k₀ text end k = (k ≤ made) × (many ≡ made) × (length text ≡ length text₀) × Written text₀ at text end (27 * k) (Text·text (linesIn events 0 k))

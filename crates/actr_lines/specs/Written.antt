@@ -7,7 +7,7 @@ use lib.ListN.{length, getD, take}
 use Rattle.meaning.specs.Base.{if_then_else_}
 use Rattle.meaning.specs.Print.{Line, Stepped}
 use Rattle.step_run.specs.Told.{eventBy}
-use Rattle.actr.specs.Text.{fired, waited}
+use Rattle.actr_lines.specs.Text.{fired, waited}
 
 -- letters were put after the first `at` bytes of a text, `most` of them at most, and end at `end`; what stood before them stays
 pub record Written (before : List ℕ) (at : ℕ) (after : List ℕ) (end most : ℕ) (letters : List ℕ) : Type 0 where

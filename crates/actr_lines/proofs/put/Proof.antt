@@ -1,12 +1,12 @@
--- `actr::lines::put` meets its contract: the bytes passed stand after what stood before.
+-- `actr_lines::put` meets its contract: the bytes passed stand after what stood before.
 use Prim.Native.Nat.{_≤_, _-_, _+_}
 use mathlib.Core.Path.{_≡_, refl}
 use mathlib.Core.List.{_++_}
 use lib.ListN.{length, take}
-use Rattle.actr.proofs.WrittenLaws.{put-start, put-on, put-end}
+use Rattle.actr_lines.proofs.WrittenLaws.{put-start, put-on, put-end}
 use borrow.Author.Needs.{needs}
-use Rattle.actr.proofs.lines.put.Statement.{statement}
-use Rattle.actr.proofs.lines.put.Tie as tie
+use Rattle.actr_lines.proofs.put.Statement.{statement}
+use Rattle.actr_lines.proofs.put.Tie as tie
 
 abbrev Inv-loop : tie.InvT-loop
 Inv-loop text₀ at bytes i₀ text i = (i ≤ length bytes) × (length text ≡ length text₀) × (take (at + i) text ≡ take at text₀ ++ take i bytes)

@@ -1,0 +1,4 @@
+-- What the printing program writes, in letters.
+pub mod Text
+pub mod Examples
+pub mod Written
