@@ -1,5 +1,4 @@
 -- Laws of the refresh of a run.
-pub mod WakeLaws
 pub mod VisitLaws
 pub mod EntryLaws
 pub mod RoundLaws

@@ -18,17 +18,19 @@ use Rattle.laws.specs.BaseLaws.{by-lt}
 use Rattle.laws.specs.BaseLaws.{bit-zero, bit-and, bit-weigh, Place, some-place}
 use Rattle.layout.specs.Rows.{ruleIn, Laid}
 use Rattle.layout.specs.StateWords.{stateIn}
-use Rattle.match_sets.specs.Sets.{has, member}
-use Rattle.match_order.specs.Order.{Ranked, Hitting, HitAt, placeOf}
+use Rattle.match_sets.specs.Sets.{has}
+use Rattle.match_order.specs.Order.{Ranked, Hitting, placeOf}
 use Rattle.match_table.proofs.TableLaws.{mark-meets, mark-misses}
-use Rattle.match_rest.specs.Rest.{isAwake, isUsed, inBed, bedOf, tests, entryAt, Asleep, Sleeping, Testing, Roomy, Lying, isSure, Sure, Kept}
+use Rattle.match_beds.specs.Beds.{isAwake, inBed, bedOf, tests, Testing, isSure}
+use Rattle.match_rest.specs.Rest.{entryAt, Asleep, Sleeping, Lying, Sure, Kept}
 use Rattle.match_rule.specs.Shut.{delayOf}
-use Rattle.match_rest.specs.Woken.{Woke, Called, CalledBy}
-use Rattle.match_rest.specs.Visits.{Touch, Touches, Visitable, Among, VisitedAll}
-use Rattle.match_rest.proofs.WakeLaws.{roomy-kept}
+use Rattle.match_beds.specs.Woken.{Woke, CalledBy}
+use Rattle.match_beds.specs.Moves.{Touch, Touches}
+use Rattle.match_rest.specs.Visits.{Visitable, Among, VisitedAll}
+use Rattle.match_beds.proofs.WakeLaws.{roomy-kept}
 use Rattle.laws.specs.MarkLaws.{entry-unmarked}
 use Rattle.match_sets.proofs.BitLaws.{bit-or}
-use Rattle.match_rest.proofs.VisitLaws.{by-or}
+use Rattle.match_beds.proofs.MoveLaws.{by-or}
 use Rattle.match_sets.proofs.BitWalk.{bit-below}
 
 -- by whether a test passes

@@ -1,5 +1,5 @@
 -- Visits, one after the other: what they leave of the entries, of the matching rules and of the sleeping ones.
-use Prim.Native.Nat.{ℕ, _+_, _-_, _*_, _/_, _%_, _≤_, _<_}
+use Prim.Native.Nat.{ℕ, _+_, _-_, _*_, _≤_, _<_}
 use mathlib.Core.Path.{_≡_, refl, sym, ap, _∙_}
 use mathlib.Core.Logic.{_⊎_, inl, inr, ⊎-elim}
 use mathlib.Core.Bool.{Bool, true, false}
@@ -7,7 +7,7 @@ use mathlib.Core.List.{List}
 use native.Mathlib.Omega.{arith}
 use native.Mathlib.Decide.{ℕ-discrete}
 use lib.Dec.{eqb}
-use lib.ListN.{length, getD, replicate}
+use lib.ListN.{length, getD}
 use borrow.Author.Tests.{eq-eqb, eqb-true}
 use Rattle.meaning.specs.Base.{bit, if_then_else_}
 use Rattle.meaning.specs.Match.{entryOf}
@@ -16,15 +16,16 @@ use Rattle.laws.specs.BaseLaws.{by-lt}
 use Rattle.laws.specs.MatchLaws.{entry-length}
 use Rattle.layout.specs.Rows.{ruleIn}
 use Rattle.layout.specs.StateWords.{stateIn}
-use Rattle.match_sets.specs.Sets.{has, member}
+use Rattle.match_sets.specs.Sets.{member}
 use Rattle.match_rule.specs.declared.Tried.{Tried}
 use Rattle.match_rule.specs.declared.Tried.the-variants.{Hit, Differs, Varies}
-use Rattle.match_rule.specs.Shut.{isHit, Because, Differing, Made}
+use Rattle.match_rule.specs.Shut.{isHit, Because, Made}
 use Rattle.match_choice.specs.Ranks.{Matching}
 use Rattle.match_order.specs.Order.{Ranked, Hitting, HitAt, ruleAt, placeOf}
 use Rattle.match_table.specs.Entries.{withEntry}
-use Rattle.match_rest.specs.Rest.{isAwake, isUsed, inBed, bedOf, entryAt, Asleep, Sleeping}
-use Rattle.match_rest.specs.Visits.{Besides, Settled, LowPlace, Lies, Visitable, Visited, Among, VisitedAll}
+use Rattle.match_beds.specs.Beds.{isAwake, bedOf}
+use Rattle.match_rest.specs.Rest.{entryAt, Asleep, Sleeping}
+use Rattle.match_rest.specs.Visits.{Settled, LowPlace, Lies, Visited, Among, VisitedAll}
 use Rattle.match_rest.proofs.EntryLaws.{with-length, entry-own, entry-other, first-own, first-other}
 
 -- ---- one rule

@@ -1,4 +1,3 @@
 -- What a run keeps of rules between two steps.
 pub mod Rest
-pub mod Woken
 pub mod Visits

@@ -1,9 +1,9 @@
 -- What a run keeps of its rules between two steps, in words of 64 bits: which are awake, which match, which test a buffer,
 -- and the beds in which rules sleep that were given up at a word of the state.
-use Prim.Native.Nat.{ℕ, _+_, _*_, _/_, _%_, _≤_, _<_}
+use Prim.Native.Nat.{ℕ, _*_, _/_, _%_, _≤_, _<_}
 use mathlib.Core.Path.{_≡_}
 use mathlib.Core.Logic.{_⊎_}
-use mathlib.Core.Bool.{Bool, true, false}
+use mathlib.Core.Bool.{true, false}
 use mathlib.Core.List.{List}
 use lib.ListN.{length, getD, take, drop, replicate}
 use Rattle.meaning.specs.Base.{bit}
@@ -11,35 +11,9 @@ use Rattle.meaning.specs.Match.{entryOf}
 use Rattle.laws.specs.MarkLaws.{Marks}
 use Rattle.layout.specs.Rows.{ruleIn, Laid}
 use Rattle.layout.specs.StateWords.{stateIn}
-use Rattle.match_sets.specs.Sets.{has, member}
+use Rattle.match_beds.specs.Beds.{isAwake, isUsed, inBed, isSure, bedOf, Testing, Roomy}
 use Rattle.match_rule.specs.Shut.{Shuts, delayOf}
 use Rattle.match_order.specs.Order.{Ranked, Hitting}
-
--- ---- the words: 0 to 3 the awake rules, 4 to 7 the matching ones, 8 to 39 the testers, 40 to 47 the used places, 48 to 51 the rules whose entry is known to be fresh,
--- from 52 on the beds
-
-abbrev pub isAwake : List ℕ → ℕ → Bool
-isAwake sets k = has sets (k / 64) (k % 64)
-
--- rule k tests buffer b
-abbrev pub tests : List ℕ → ℕ → ℕ → Bool
-tests sets b k = has sets (8 + 8 * (k / 64) + b) (k % 64)
-
--- some rule has slept by that word of the state
-abbrev pub isUsed : List ℕ → ℕ → Bool
-isUsed sets place = has sets (40 + place / 10) (place % 10)
-
--- rule k sleeps in bed h
-abbrev pub inBed : List ℕ → ℕ → ℕ → Bool
-inBed sets h k = has sets (52 + 256 * (k / 64) + h) (k % 64)
-
--- the entry of rule k is known to be fresh, since a step of this call marked a buffer that it tests
-abbrev pub isSure : List ℕ → ℕ → Bool
-isSure sets k = member sets 48 k
-
--- the bed for a word of the state and the value wanted there; any number below 256 would do
-abbrev pub bedOf : ℕ → ℕ → ℕ
-bedOf place value = (value + 23 * place) % 256
 
 -- ---- what holds of a rule
 
@@ -62,21 +36,6 @@ pub record Asleep (heads words state table sets : List ℕ) (k : ℕ) : Type 0 w
 -- each rule is awake, of which nothing is said, or asleep
 abbrev pub Sleeping : List ℕ → List ℕ → ℕ → List ℕ → List ℕ → List ℕ → Type 0
 Sleeping heads words n state table sets = (k : ℕ) → k < n → (isAwake sets k ≡ true) ⊎ Asleep heads words state table sets k
-
--- the testers are those that the masks of the rules say
-pub record Testing (heads : List ℕ) (n : ℕ) (sets : List ℕ) : Type 0 where
-  pub all : (b k : ℕ) → b < 8 → k < n → tests sets b k ≡ bit (getD heads (4 * k + 3) 0) b
-  pub only : (b k : ℕ) → b < 8 → k < 256 → tests sets b k ≡ true → k < n
-
--- there are words for all of it
-pub record Roomy (n : ℕ) (sets : List ℕ) : Type 0 where
-  pub few : n ≤ 256
-  pub least : 308 ≤ length sets
-  pub beds : (k : ℕ) → k < n → 308 + 256 * (k / 64) ≤ length sets
-
--- no bit is set
-abbrev pub Cleared : List ℕ → Type 0
-Cleared sets = (j i : ℕ) → has sets j i ≡ false
 
 -- who sleeps, who matches and who tests what
 pub record Lying (heads words order : List ℕ) (n : ℕ) (state table sets : List ℕ) : Type 0 where

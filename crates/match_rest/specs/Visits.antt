@@ -1,8 +1,8 @@
 -- What a visit to a rule leaves of the sets.
-use Prim.Native.Nat.{ℕ, _+_, _-_, _*_, _/_, _%_, _≤_, _<_}
+use Prim.Native.Nat.{ℕ, _+_, _-_, _*_, _/_, _≤_, _<_}
 use mathlib.Core.Path.{_≡_}
 use mathlib.Core.Logic.{_⊎_}
-use mathlib.Core.Bool.{Bool, true, false}
+use mathlib.Core.Bool.{true}
 use mathlib.Core.List.{List}
 use lib.Dec.{eqb}
 use lib.ListN.{length, getD}
@@ -16,36 +16,9 @@ use Rattle.match_sets.specs.Sets.{has, member}
 use Rattle.match_rule.specs.declared.Tried.{Tried}
 use Rattle.match_rule.specs.declared.Tried.the-variants.{Hit, Differs, Varies}
 use Rattle.match_rule.specs.Shut.{isHit}
-use Rattle.match_rest.specs.Rest.{isAwake, isUsed, tests, inBed, bedOf, entryAt, Asleep, Sleeping}
-
--- a marked buffer, of the first b, that rule i of word w tests
-pub record Touch (sets : List ℕ) (w mark b i : ℕ) : Type 0 where
-  pub buffer : ℕ
-  pub below : buffer < b
-  pub low : buffer < 8
-  pub marked : bit mark buffer ≡ true
-  pub tested : has sets (8 + 8 * w + buffer) i ≡ true
-
--- the bits of r are those of the rules that test a marked buffer, of the first b
-pub record Touches (sets : List ℕ) (w mark b r : ℕ) : Type 0 where
-  pub some : (i : ℕ) → bit r i ≡ true → Touch sets w mark b i
-  pub all : (i : ℕ) → Touch sets w mark b i → bit r i ≡ true
-
--- what is the same of all rules but k, and of the words that say who tests what and whose entry is known to be fresh
-pub record Besides (k : ℕ) (sets sets′ : List ℕ) : Type 0 where
-  pub size : length sets′ ≡ length sets
-  pub testers : (j i : ℕ) → 8 ≤ j → j < 40 → has sets′ j i ≡ has sets j i
-  pub sure : (j i : ℕ) → 48 ≤ j → j < 52 → has sets′ j i ≡ has sets j i
-  pub awake : (q : ℕ) → q < 256 → (q ≡ k → ⊥) → isAwake sets′ q ≡ isAwake sets q
-  pub beds : (h q : ℕ) → h < 256 → q < 256 → inBed sets h q ≡ true → inBed sets′ h q ≡ true
-  pub used : (p : ℕ) → p < 80 → isUsed sets p ≡ true → isUsed sets′ p ≡ true
-
--- rule k lies in its bed, and the matching rules are as they were
-pub record Lain (k place value : ℕ) (sets sets′ : List ℕ) : Type 0 where
-  pub besides : Besides k sets sets′
-  pub hits : (j i : ℕ) → 4 ≤ j → j < 8 → has sets′ j i ≡ has sets j i
-  pub bed : inBed sets′ (bedOf place value) k ≡ true
-  pub down : isUsed sets′ place ≡ true
+use Rattle.match_beds.specs.Beds.{isAwake, isUsed, inBed, bedOf}
+use Rattle.match_beds.specs.Moves.{Besides}
+use Rattle.match_rest.specs.Rest.{entryAt, Asleep, Sleeping}
 
 abbrev pub LowPlace : Tried → Type 0
 LowPlace Hit = Unit {0}
@@ -102,13 +75,3 @@ pub record VisitedAll (heads words order state : List ℕ) (w todo i : ℕ) (tab
   pub left : (q : ℕ) → (Among w todo i q → ⊥) → entryAt table′ q ≡ entryAt table q
   pub rests : (n : ℕ) → length table ≡ 9 * n → Ranked heads order n → ((q : ℕ) → Among w todo 64 q → (q < n) × (isAwake sets q ≡ true))
       → Hitting table order sets n × Sleeping heads words n state table sets → Hitting table′ order sets′ n × Sleeping heads words n state table′ sets′
-
--- ---- laying out
-
--- rule k has joined the testers of the buffers of a mask, of the first i, and nothing else has changed
-pub record Joins (k mask i : ℕ) (sets sets′ : List ℕ) : Type 0 where
-  pub size : length sets′ ≡ length sets
-  pub joined : (b : ℕ) → b < i → b < 8 → bit mask b ≡ true → tests sets′ b k ≡ true
-  pub apart : (b : ℕ) → b < 8 → bit mask b ≡ false → tests sets′ b k ≡ tests sets b k
-  pub others : (b q : ℕ) → b < 8 → q < 256 → (q ≡ k → ⊥) → tests sets′ b q ≡ tests sets b q
-  pub words : (j i : ℕ) → (8 ≤ j → j < 40 → ⊥) → has sets′ j i ≡ has sets j i

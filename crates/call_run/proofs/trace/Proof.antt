@@ -1,7 +1,7 @@
 -- `call_run::trace` meets its contract: on either tape, the run that is asked for.
 use Rattle.meaning.specs.Calls.{traceOf, runOf}
 use native.Mathlib.Omega.{arith}
-use Rattle.match_rest.proofs.LayLaws.{no-bit, roomy-small, roomy-large}
+use Rattle.match_beds.proofs.LayLaws.{no-bit, roomy-small, roomy-large}
 use borrow.Author.Needs.{needs}
 use Rattle.call_run.proofs.trace.Statement.{statement}
 use Rattle.call_run.proofs.trace.Tie as tie

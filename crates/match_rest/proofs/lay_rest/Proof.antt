@@ -2,7 +2,7 @@
 use Rattle.match_rest.proofs.LayLaws.{laid-to-rest}
 use Prim.Native.Nat.{_+_, _/_, _%_}
 use native.Mathlib.Omega.{arith}
-use mathlib.Core.Path.{_≡_, refl, sym, ap, _∙_}
+use mathlib.Core.Path.{_∙_}
 use borrow.Author.Needs.{needs}
 use Rattle.match_rest.proofs.lay_rest.Statement.{statement}
 use Rattle.match_rest.proofs.lay_rest.Tie as tie

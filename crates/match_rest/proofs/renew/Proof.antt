@@ -8,8 +8,8 @@ use lib.ListN.{length, getD, length-set}
 use lib.Bits.{bitAnd, and-le-r}
 use native.Mathlib.Omega.{arith}
 use mathlib.Core.Logic.{inl, inr, ⊎-elim}
-use mathlib.Core.Path.{_≡_, refl, sym, ap, _∙_}
-use Prim.Native.Nat.{ℕ, _+_, _-_, _*_, _/_, _%_, _^_, _≤_, _<_}
+use mathlib.Core.Path.{_≡_, refl, sym, _∙_}
+use Prim.Native.Nat.{_+_, _-_, _*_, _/_, _%_, _^_, _≤_, _<_}
 use borrow.Author.Needs.{needs}
 use Rattle.match_rest.proofs.renew.Statement.{statement}
 use Rattle.match_rest.proofs.renew.Tie as tie

@@ -1,10 +1,8 @@
 -- `match_rest::settle` meets its contract: by what was tried.
 use Prim.Native.Nat.{_+_, _*_}
 use Rattle.match_rest.proofs.VisitLaws.{settled-hit, settled-varies, settled-differs}
-use Rattle.match_rest.specs.Visits.{LowPlace}
 use Rattle.match_order.specs.Order.{placeOf}
 use native.Mathlib.Omega.{arith}
-use mathlib.Core.Path.{_≡_, sym, _∙_}
 use borrow.Author.Needs.{needs}
 use Rattle.match_rest.proofs.settle.Statement.{statement}
 use Rattle.match_rest.proofs.settle.Tie as tie

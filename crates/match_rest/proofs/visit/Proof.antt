@@ -1,11 +1,11 @@
 -- `match_rest::visit` meets its contract: the part of the table that starts at nine times the rule's number is the rule's entry.
 use Rattle.match_rest.proofs.RoundLaws.{low-place, visited}
 use lib.Seq.{drop-drop, length-take-le}
-use lib.ListN.{length, getD, take, drop, length-drop}
+use lib.ListN.{getD, take, drop, length-drop}
 use native.Mathlib.Omega.{arith}
 use mathlib.Core.List.{List, _++_}
-use mathlib.Core.Path.{_≡_, refl, sym, ap, ap₂, _∙_}
-use Prim.Native.Nat.{ℕ, _≤_, _<_, _-_, _+_, _*_}
+use mathlib.Core.Path.{_≡_, ap, _∙_}
+use Prim.Native.Nat.{ℕ, _-_, _+_, _*_}
 use borrow.Author.Needs.{needs}
 use Rattle.match_rest.proofs.visit.Statement.{statement}
 use Rattle.match_rest.proofs.visit.Tie as tie

@@ -1,11 +1,8 @@
 -- `match_rest::visit_all` meets its contract: the rules of the set among the first i are visited.
 use Rattle.match_rest.proofs.RoundLaws.{visited-none, visited-turn, visited-end}
 use Rattle.match_sets.proofs.BitWalk.{Walk, walk-begins, walk-ahead, walk-here, walk-none, walk-goes-on, walk-ends}
-use Rattle.match_rest.specs.Visits.{Visitable, VisitedAll}
-use lib.ListN.{length}
+use Rattle.match_rest.specs.Visits.{VisitedAll}
 use native.Mathlib.Omega.{arith}
-use mathlib.Core.Path.{_≡_, refl, sym, ap, _∙_}
-use Prim.Native.Nat.{ℕ, _+_, _-_, _*_, _/_, _%_, _^_, _≤_, _<_}
 use borrow.Author.Needs.{needs}
 use Rattle.match_rest.proofs.visit_all.Statement.{statement}
 use Rattle.match_rest.proofs.visit_all.Tie as tie

@@ -1,6 +1,6 @@
 -- `read_named::stood` meets its contract: the places of the mask below `variables` are all ones where each of them stands in a test.
 use native.Mathlib.Omega.{arith}
-use mathlib.Core.Path.{_≡_, refl}
+use mathlib.Core.Path.{refl}
 use lib.Pow.{pow-pos}
 use Rattle.read_named.proofs.SeenLaws.{one-is, holds-every}
 use borrow.Author.Needs.{needs}

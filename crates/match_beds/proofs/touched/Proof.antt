@@ -1,13 +1,13 @@
--- `match_rest::touched` meets its contract: the testers of the marked buffers passed are gathered.
-use Rattle.match_rest.proofs.VisitLaws.{touches-none, touches-turn, touches-end}
+-- `match_beds::touched` meets its contract: the testers of the marked buffers passed are gathered.
+use Rattle.match_beds.proofs.MoveLaws.{touches-none, touches-turn, touches-end}
 use Rattle.match_sets.proofs.BitWalk.{Walk, walk-begins, walk-ahead, walk-here, walk-none, walk-goes-on, walk-ends, bit-below}
-use Rattle.match_rest.specs.Visits.{Touches}
+use Rattle.match_beds.specs.Moves.{Touches}
 use native.Mathlib.Omega.{arith}
-use mathlib.Core.Path.{_≡_, refl, sym, ap, _∙_}
-use Prim.Native.Nat.{ℕ, _+_, _-_, _*_, _/_, _%_, _^_, _≤_, _<_}
+use mathlib.Core.Path.{refl}
+use Prim.Native.Nat.{_%_}
 use borrow.Author.Needs.{needs}
-use Rattle.match_rest.proofs.touched.Statement.{statement}
-use Rattle.match_rest.proofs.touched.Tie as tie
+use Rattle.match_beds.proofs.touched.Statement.{statement}
+use Rattle.match_beds.proofs.touched.Tie as tie
 
 abbrev Inv-loop : tie.InvT-loop
 Inv-loop sets w mark all₀ rest₀ all rest = Walk (mark % 256) 8 (λ b. Touches sets w mark b all) rest

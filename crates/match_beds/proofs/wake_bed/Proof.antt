@@ -1,13 +1,13 @@
--- `match_rest::wake_bed` meets its contract: word by word the bed is emptied into the awake rules.
-use Rattle.match_rest.proofs.WakeLaws.{woke-none, woke-both, woke-as, woke-word, Word, earlier-or}
-use Rattle.match_rest.specs.Woken.{Woke}
+-- `match_beds::wake_bed` meets its contract: word by word the bed is emptied into the awake rules.
+use Rattle.match_beds.proofs.WakeLaws.{woke-none, woke-both, woke-as, woke-word, Word, earlier-or}
+use Rattle.match_beds.specs.Woken.{Woke}
 use lib.ListN.{length, length-set}
 use native.Mathlib.Omega.{arith}
-use mathlib.Core.Path.{_≡_, refl, sym, ap, _∙_}
-use Prim.Native.Nat.{ℕ, _+_, _-_, _*_, _/_, _≤_, _<_}
+use mathlib.Core.Path.{_≡_}
+use Prim.Native.Nat.{_+_, _-_, _*_, _/_, _≤_, _<_}
 use borrow.Author.Needs.{needs}
-use Rattle.match_rest.proofs.wake_bed.Statement.{statement}
-use Rattle.match_rest.proofs.wake_bed.Tie as tie
+use Rattle.match_beds.proofs.wake_bed.Statement.{statement}
+use Rattle.match_beds.proofs.wake_bed.Tie as tie
 
 abbrev Inv-loop : tie.InvT-loop
 Inv-loop sets₀ n h w₀ sets w = (64 * w ≤ n + 63) × Woke n (λ g k. (g ≡ h) × (k / 64 < w)) sets₀ sets

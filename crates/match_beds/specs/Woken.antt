@@ -1,5 +1,5 @@
 -- What waking leaves: beds are emptied, and those who slept there are awake.
-use Prim.Native.Nat.{ℕ, _+_, _*_, _/_, _≤_, _<_}
+use Prim.Native.Nat.{ℕ, _+_, _*_, _≤_, _<_}
 use mathlib.Core.Path.{_≡_}
 use mathlib.Core.Logic.{_⊎_}
 use mathlib.Core.Bool.{true}
@@ -7,7 +7,7 @@ use mathlib.Core.List.{List}
 use lib.ListN.{length, getD}
 use Rattle.meaning.specs.Base.{bit}
 use Rattle.match_sets.specs.Sets.{has}
-use Rattle.match_rest.specs.Rest.{isAwake, isUsed, inBed, bedOf}
+use Rattle.match_beds.specs.Beds.{isAwake, isUsed, inBed, bedOf}
 
 -- the rules of the beds that `which` names are awake; all others stay in their beds, or are awake; nobody falls asleep
 pub record Woke (n : ℕ) (which : ℕ → ℕ → Type 0) (sets sets′ : List ℕ) : Type 0 where

@@ -1,14 +1,14 @@
--- `match_rest::lay_awake` meets its contract: the words below w are all ones.
-use Rattle.match_rest.proofs.LayLaws.{ones-more, ones-beside}
+-- `match_beds::lay_awake` meets its contract: the words below w are all ones.
+use Rattle.match_beds.proofs.LayLaws.{ones-more, ones-beside}
 use Rattle.match_sets.specs.Sets.{has}
 use lib.ListN.{length, length-set}
 use native.Mathlib.Omega.{arith}
 use mathlib.Core.Bool.{true}
-use mathlib.Core.Path.{_≡_, refl, sym, ap, _∙_}
-use Prim.Native.Nat.{ℕ, _+_, _-_, _≤_, _<_}
+use mathlib.Core.Path.{_≡_, refl, _∙_}
+use Prim.Native.Nat.{ℕ, _-_, _≤_, _<_}
 use borrow.Author.Needs.{needs}
-use Rattle.match_rest.proofs.lay_awake.Statement.{statement}
-use Rattle.match_rest.proofs.lay_awake.Tie as tie
+use Rattle.match_beds.proofs.lay_awake.Statement.{statement}
+use Rattle.match_beds.proofs.lay_awake.Tie as tie
 
 abbrev Inv-loop : tie.InvT-loop
 Inv-loop sets₀ w₀ sets w = (w ≤ 4) × (length sets ≡ length sets₀) × ((j i : ℕ) → j < w → i < 64 → has sets j i ≡ true) × ((j i : ℕ) → 4 ≤ j → has sets j i ≡ has sets₀ j i)

@@ -1,17 +1,15 @@
--- `match_rest::wake` meets its contract: the beds of the used places passed are empty.
-use Rattle.match_rest.proofs.WakeLaws.{woke-none, woke-both, woke-as, roomy-kept, called-turn, called-end}
+-- `match_beds::wake` meets its contract: the beds of the used places passed are empty.
+use Rattle.match_beds.proofs.WakeLaws.{woke-none, woke-both, woke-as, roomy-kept, called-turn, called-end}
 use Rattle.match_sets.proofs.BitWalk.{Walk, walk-begins, walk-here, walk-none, walk-goes-on, walk-ends, bit-below}
-use Rattle.match_rest.specs.Woken.{Woke, Called}
-use Rattle.match_rest.specs.Rest.{bedOf}
-use Rattle.meaning.specs.Base.{bit}
-use lib.ListN.{length, getD}
+use Rattle.match_beds.specs.Woken.{Woke, Called}
+use Rattle.match_beds.specs.Beds.{bedOf}
+use lib.ListN.{getD}
 use native.Mathlib.Omega.{arith}
-use mathlib.Core.Bool.{true}
-use mathlib.Core.Path.{_≡_, refl, sym, ap, _∙_}
-use Prim.Native.Nat.{ℕ, _+_, _-_, _*_, _/_, _%_, _^_, _≤_, _<_}
+use mathlib.Core.Path.{_≡_, refl, sym, _∙_}
+use Prim.Native.Nat.{_+_, _*_, _%_}
 use borrow.Author.Needs.{needs}
-use Rattle.match_rest.proofs.wake.Statement.{statement}
-use Rattle.match_rest.proofs.wake.Tie as tie
+use Rattle.match_beds.proofs.wake.Statement.{statement}
+use Rattle.match_beds.proofs.wake.Tie as tie
 
 abbrev Inv-loop : tie.InvT-loop
 Inv-loop sets₀ n state b rest₀ sets rest = Walk (getD sets₀ (40 + b) 0 % 1024) 10 (λ i. Woke n (λ g k. Called state sets₀ b i g) sets₀ sets) rest

@@ -1,5 +1,5 @@
 -- Waking, bed by bed and word by word.
-use Prim.Native.Nat.{ℕ, _+_, _-_, _*_, _/_, _%_, _≤_, _<_}
+use Prim.Native.Nat.{ℕ, _+_, _*_, _/_, _%_, _≤_, _<_}
 use mathlib.Core.Path.{_≡_, refl, sym, ap, _∙_}
 use mathlib.Core.Logic.{_⊎_, inl, inr, ⊎-elim}
 use mathlib.Core.Bool.{Bool, true, false, _||_, or-true}
@@ -14,8 +14,8 @@ use Rattle.laws.specs.BaseLaws.{no-true}
 use Rattle.laws.specs.BaseLaws.{by-lt}
 use Rattle.match_sets.specs.Sets.{has}
 use Rattle.match_sets.proofs.BitLaws.{bit-or}
-use Rattle.match_rest.specs.Rest.{isAwake, isUsed, inBed, bedOf, Roomy}
-use Rattle.match_rest.specs.Woken.{Woke, Called, CalledBy}
+use Rattle.match_beds.specs.Beds.{isAwake, isUsed, inBed, bedOf, Roomy}
+use Rattle.match_beds.specs.Woken.{Woke, Called, CalledBy}
 use Rattle.match_sets.proofs.BitWalk.{bit-low}
 
 -- ---- waking again, and waking fewer

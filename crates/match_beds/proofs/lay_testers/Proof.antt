@@ -1,14 +1,14 @@
--- `match_rest::lay_testers` meets its contract: the testers of the rules below k are laid.
-use Rattle.match_rest.proofs.LayLaws.{testing-none, testing-turn}
-use Rattle.match_rest.specs.Rest.{Testing}
+-- `match_beds::lay_testers` meets its contract: the testers of the rules below k are laid.
+use Rattle.match_beds.proofs.LayLaws.{testing-none, testing-turn}
+use Rattle.match_beds.specs.Beds.{Testing}
 use Rattle.match_sets.specs.Sets.{has}
 use lib.ListN.{length}
 use native.Mathlib.Omega.{arith}
-use mathlib.Core.Path.{_≡_, refl, sym, ap, _∙_}
-use Prim.Native.Nat.{ℕ, _+_, _-_, _*_, _≤_, _<_}
+use mathlib.Core.Path.{_≡_, refl, _∙_}
+use Prim.Native.Nat.{ℕ, _-_, _≤_, _<_}
 use borrow.Author.Needs.{needs}
-use Rattle.match_rest.proofs.lay_testers.Statement.{statement}
-use Rattle.match_rest.proofs.lay_testers.Tie as tie
+use Rattle.match_beds.proofs.lay_testers.Statement.{statement}
+use Rattle.match_beds.proofs.lay_testers.Tie as tie
 
 abbrev Inv-loop : tie.InvT-loop
 Inv-loop sets₀ heads n k₀ sets k = (k ≤ n) × (length sets ≡ length sets₀) × Testing heads k sets × ((j i : ℕ) → (8 ≤ j → j < 40 → ⊥) → has sets j i ≡ has sets₀ j i)

@@ -1,10 +1,9 @@
--- `match_rest::lay_down` meets its contract: two numbers are put in, and one is taken out.
+-- `match_beds::lay_down` meets its contract: two numbers are put in, and one is taken out.
 use native.Mathlib.Omega.{arith}
-use Rattle.match_rest.proofs.VisitLaws.{lain}
-use Rattle.match_rest.specs.Rest.{bedOf}
+use Rattle.match_beds.proofs.MoveLaws.{lain}
 use borrow.Author.Needs.{needs}
-use Rattle.match_rest.proofs.lay_down.Statement.{statement}
-use Rattle.match_rest.proofs.lay_down.Tie as tie
+use Rattle.match_beds.proofs.lay_down.Statement.{statement}
+use Rattle.match_beds.proofs.lay_down.Tie as tie
 
 bed-requires : tie.Need-bed-requires
 bed-requires c κs = search needs

@@ -1,13 +1,13 @@
--- `match_rest::wake_all` meets its contract: the beds of the marked buffers passed are empty.
-use Rattle.match_rest.proofs.WakeLaws.{woke-none, woke-both, woke-as, roomy-kept, called-kept, by-turn, by-end}
+-- `match_beds::wake_all` meets its contract: the beds of the marked buffers passed are empty.
+use Rattle.match_beds.proofs.WakeLaws.{woke-none, woke-both, woke-as, roomy-kept, called-kept, by-turn, by-end}
 use Rattle.match_sets.proofs.BitWalk.{Walk, walk-begins, walk-here, walk-none, walk-goes-on, walk-ends, bit-below}
-use Rattle.match_rest.specs.Woken.{Woke, Called, CalledBy}
+use Rattle.match_beds.specs.Woken.{Woke, Called, CalledBy}
 use native.Mathlib.Omega.{arith}
-use mathlib.Core.Path.{_≡_, refl, sym, ap, _∙_}
-use Prim.Native.Nat.{ℕ, _+_, _-_, _*_, _/_, _%_, _^_, _≤_, _<_}
+use mathlib.Core.Path.{refl}
+use Prim.Native.Nat.{_%_}
 use borrow.Author.Needs.{needs}
-use Rattle.match_rest.proofs.wake_all.Statement.{statement}
-use Rattle.match_rest.proofs.wake_all.Tie as tie
+use Rattle.match_beds.proofs.wake_all.Statement.{statement}
+use Rattle.match_beds.proofs.wake_all.Tie as tie
 
 abbrev Inv-loop : tie.InvT-loop
 Inv-loop sets₀ n state mark rest₀ sets rest = Walk (mark % 256) 8 (λ b. Woke n (λ g k. CalledBy state sets₀ mark b g) sets₀ sets) rest

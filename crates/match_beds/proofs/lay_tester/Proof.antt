@@ -1,13 +1,13 @@
--- `match_rest::lay_tester` meets its contract: the rule has joined the testers of the buffers passed.
-use Rattle.match_rest.proofs.LayLaws.{joins-none, joins-turn, joins-end}
+-- `match_beds::lay_tester` meets its contract: the rule has joined the testers of the buffers passed.
+use Rattle.match_beds.proofs.LayLaws.{joins-none, joins-turn, joins-end}
 use Rattle.match_sets.proofs.BitWalk.{Walk, walk-begins, walk-here, walk-none, walk-goes-on, walk-ends, bit-below}
-use Rattle.match_rest.specs.Visits.{Joins}
+use Rattle.match_beds.specs.Moves.{Joins}
 use native.Mathlib.Omega.{arith}
-use mathlib.Core.Path.{_≡_, refl, sym, ap, _∙_}
-use Prim.Native.Nat.{ℕ, _+_, _-_, _*_, _/_, _%_, _^_, _≤_, _<_}
+use mathlib.Core.Path.{refl}
+use Prim.Native.Nat.{_%_}
 use borrow.Author.Needs.{needs}
-use Rattle.match_rest.proofs.lay_tester.Statement.{statement}
-use Rattle.match_rest.proofs.lay_tester.Tie as tie
+use Rattle.match_beds.proofs.lay_tester.Statement.{statement}
+use Rattle.match_beds.proofs.lay_tester.Tie as tie
 
 abbrev Inv-loop : tie.InvT-loop
 Inv-loop sets₀ k mask rest₀ sets rest = Walk (mask % 256) 8 (λ b. Joins k mask b sets₀ sets) rest
