@@ -45,14 +45,15 @@ pub fn bits(image: &[u8], at: usize, width: usize) -> u16
     ((bytes >> (24 - skipped - width)) & ((1u32 << width) - 1)) as u16
 }
 
-// The field of `width` bits at bit `at`, or that it is not wholly there.
+// The field of `width` bits at bit `at`, or that it is not wholly there. Where the three bytes that can hold it are all there, so is the field.
 pub fn field_at(image: &[u8], at: usize, width: usize) -> Field
     requires { ⌜ (width ≤ 16) × (at ≤ 2 ^ 32) × (length (now image) ≤ 65536) ⌝ }
     ensures { λ r. ⌜ fetched r at width ≡ field width anything (now (image .entry)) at ⌝ }
 {
-    if at + width <= 8 * image.len() {
-        Field::Value(bits(image, at, width))
-    } else {
-        Field::Short
+    if image.len() <= at / 8 + 2 {
+        if 8 * image.len() < at + width {
+            return Field::Short;
+        }
     }
+    Field::Value(bits(image, at, width))
 }
