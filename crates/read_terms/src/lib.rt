@@ -33,6 +33,7 @@ fn past(mask: u16, slots: u16) -> bool
 }
 
 // The terms of the slots that the mask names, as many as it has ones, each at its slot; 0 at the other slots.
+// What is left of the mask has the bit of slot b at 128.
 fn terms(image: &[u8], p: usize, mask: u16, variables: u16) -> Eight
     requires { ⌜ (length (now image) ≤ 65536) × (p ≤ 8 * length (now image)) × (mask < 256) × (variables ≤ 8) ⌝ }
     ensures { λ r. ⌜ answer (r .walk) (namedBy mask (r .slots)) ≡ terms variables (slotsIn mask) (now (image .entry)) p ⌝ }
@@ -41,9 +42,10 @@ fn terms(image: &[u8], p: usize, mask: u16, variables: u16) -> Eight
     let mut xs = [0u16; 8];
     let mut at = p;
     let mut b = 0;
+    let mut rest = mask % 256;
     let mut left = u32::count_ones(mask as u32);
     while 0 < left {
-        if (mask >> (7 - b)) & 1 == 1 {
+        if 128 <= rest {
             let Field::Value(t) = read_fields::field_at(image, at, 13) else {
                 return Eight {
                     walk: Walk::Bad(NOT_THERE, at),
@@ -60,6 +62,7 @@ fn terms(image: &[u8], p: usize, mask: u16, variables: u16) -> Eight
             at += 13;
             left -= 1;
         }
+        rest = rest * 2 % 256;
         b += 1;
     }
     Eight {

@@ -1,8 +1,6 @@
 -- `read_terms::terms` meets its contract: the ones of the mask count the terms that are left, and what is left is read from here.
-use Prim.Native.Nat.{ℕ, suc, _≤_, _<_, _-_, _*_, _+_}
+use Prim.Native.Nat.{suc, _≤_, _<_, _-_, _*_, _+_}
 use mathlib.Core.Path.{_≡_, refl, sym, ap, _∙_}
-use mathlib.Core.Bool.{Bool, true, false}
-use mathlib.Core.List.{List, []}
 use mathlib.Core.Logic.{⊎-elim}
 use borrow.Author.Needs.{needs}
 use native.Mathlib.Omega.{arith}
@@ -13,17 +11,18 @@ use Rattle.meaning.specs.Image.{aTerm, terms, slotsIn}
 use Rattle.laws.specs.ImageLaws.{slots-ones}
 use Rattle.layout.proofs.WalkLaws.{bad-within, next-within}
 use Rattle.layout.proofs.FieldReads.{there, read-short, read-kept, read-broken, term-kept, term-big}
-use Rattle.read_terms.proofs.MaskBits.{names-on, names-off, rest, rest-start, rest-on, rest-off, rest-some, none-left}
+use Rattle.read_terms.proofs.MaskBits.{rest, rest-start, rest-on, rest-off, rest-some, none-left}
+use Rattle.read_terms.proofs.MaskWalk.{Walk, walk-start, walk-next, walk-on, walk-off}
 use Rattle.read_terms.proofs.TermLaws.{onTo, on-start, on-skip, on-bad, on-turn, on-end}
 use Rattle.read_terms.proofs.terms.Statement.{statement}
 use Rattle.read_terms.proofs.terms.Tie as tie
 
 abbrev Inv-loop : tie.InvT-loop
-Inv-loop image p mask variables xs₀ at₀ b₀ left₀ xs at b left = (b ≤ 8) × (at ≤ 8 * length image) × (length xs ≡ 8) × (left ≡ length (rest mask b)) ×
+Inv-loop image p mask variables xs₀ at₀ b₀ r₀ left₀ xs at b r left = Walk mask b r × (at ≤ 8 * length image) × (length xs ≡ 8) × (left ≡ length (rest mask b)) ×
     (onTo mask variables image xs b at ≡ terms variables (slotsIn mask) image p)
 
 abbrev μ-loop : tie.MeasureT-loop
-μ-loop image p mask variables xs₀ at₀ b₀ left₀ xs at b left = 8 - b
+μ-loop image p mask variables xs₀ at₀ b₀ r₀ left₀ xs at b r left = 8 - b
 
 -- ---- the places of the code, each named once
 
@@ -44,16 +43,7 @@ in-slot c =
 
 loop-holds : tie.Need-loop-holds Inv-loop μ-loop
 loop-holds c = let a = c .before .args in
-    (search needs, search needs, refl, sym (slots-ones (a .mask) (search needs)) ∙ sym (ap length (rest-start (a .mask))), on-start (a .mask) (a .variables) (a .image .now) _ (a .p))
-
-sub-if1 : tie.Need-sub-if1 Inv-loop μ-loop
-sub-if1 c = let h = in-slot c in omega arith
-
-cast-if1 : tie.Need-cast-if1 Inv-loop μ-loop
-cast-if1 c = let h = in-slot c in omega arith
-
-shr-if1 : tie.Need-shr-if1 Inv-loop μ-loop
-shr-if1 c = let h = in-slot c in omega arith
+    (walk-start (a .mask), search needs, refl, sym (slots-ones (a .mask) (search needs)) ∙ sym (ap length (rest-start (a .mask))), on-start (a .mask) (a .variables) (a .image .now) _ (a .p))
 
 field-at-requires : tie.Need-field-at-requires Inv-loop μ-loop
 field-at-requires c κs = search needs
@@ -69,7 +59,7 @@ returns c =
     let d = c .before .before in
     let l = turn d .before .loop in
     let a = start (turn d .before) .args in (
-      on-bad (a .mask) (a .variables) (a .image .now) (l .xs) (l .xs) (l .b) (l .at) (l .at) (in-slot (turn d)) (names-on (a .mask) (l .b) (d .before .if1 .taken)) _ _
+      on-bad (a .mask) (a .variables) (a .image .now) (l .xs) (l .xs) (l .b) (l .at) (l .at) (in-slot (turn d)) (walk-on (l .inv .0) (in-slot (turn d)) (d .before .if1 .taken)) _ _
           (read-short (a .image .now) 13 (l .at) (must bad-variable (aTerm (a .variables))) (rw (c .enum-told .given .1) at (d .field-at .ensures))) ∙ l .inv .4,
       bad-within _ _ _ _ refl,
     )
@@ -83,7 +73,7 @@ returns-2 c =
     let e = rw (c .before .before .t .given .1) at (d .field-at .ensures) in
     let l = turn d .before .loop in
     let a = start (turn d .before) .args in (
-      on-bad (a .mask) (a .variables) (a .image .now) (l .xs) (l .xs) (l .b) (l .at) (l .at) (in-slot (turn d)) (names-on (a .mask) (l .b) (d .before .if1 .taken)) _ _
+      on-bad (a .mask) (a .variables) (a .image .now) (l .xs) (l .xs) (l .b) (l .at) (l .at) (in-slot (turn d)) (walk-on (l .inv .0) (in-slot (turn d)) (d .before .if1 .taken)) _ _
           (read-broken (a .image .now) 13 (l .at) (must bad-variable (aTerm (a .variables))) _ 2 e (term-big (a .variables) _ (c .if2 .taken))) ∙ l .inv .4,
       bad-within _ _ _ _ refl,
     )
@@ -100,6 +90,9 @@ add-at c = search needs
 sub-left : tie.Need-sub-left Inv-loop μ-loop
 sub-left c = search needs
 
+mul-rest : tie.Need-mul-rest Inv-loop μ-loop
+mul-rest c = search needs
+
 add-b : tie.Need-add-b Inv-loop μ-loop
 add-b c = let h = in-slot (c .before) in omega arith
 
@@ -114,10 +107,10 @@ loop-again c =
     ⊎-elim
     (λ w.
     let e = rw (w .3 .given .1) at (w .1 .ensures) in
-    let on = names-on (a .mask) (l .b) (w .0 .taken) in
+    let on = walk-on (l .inv .0) h (w .0 .taken) in
     let n : length (c .if1 .xs) ≡ 8 = ap length (w .6) ∙ length-set (l .xs) (l .b) _ ∙ l .inv .2 in
     let k : length (rest (a .mask) (l .b)) ≡ suc (length (rest (a .mask) (l .b + 1))) = ap length (rest-on (a .mask) (l .b) h on) in (
-      omega arith,
+      walk-next (l .inv .0) h,
       rw (w .7) (there (a .image .now) 13 (l .at) _ e),
       n,
       omega (arith, w .8, l .inv .3),
@@ -125,8 +118,8 @@ loop-again c =
           (read-kept (a .image .now) 13 (l .at) (must bad-variable (aTerm (a .variables))) _ e (term-kept (a .variables) _ (w .5 .left))) (w .6) (w .7) ∙ l .inv .4,
     ))
     (λ w.
-    let off = names-off (a .mask) (l .b) (w .0 .left) in (
-      omega arith,
+    let off = walk-off (l .inv .0) h (w .0 .left) in (
+      walk-next (l .inv .0) h,
       rw (w .2) (l .inv .1),
       ap length (w .1) ∙ l .inv .2,
       w .3 ∙ l .inv .3 ∙ ap length (rest-off (a .mask) (l .b) h off),
@@ -138,7 +131,7 @@ returns-3 : tie.Need-returns-3 Inv-loop μ-loop
 returns-3 c =
     let l = c .before .loop in
     let a = start (c .before) .args in (
-      on-end (a .mask) (a .variables) (a .image .now) (l .xs) (l .b) (l .at) (l .inv .0) (none-left (rest (a .mask) (l .b)) (omega (arith, l .inv .3))) ∙ l .inv .4,
+      on-end (a .mask) (a .variables) (a .image .now) (l .xs) (l .b) (l .at) (l .inv .0 .within) (none-left (rest (a .mask) (l .b)) (omega (arith, l .inv .3))) ∙ l .inv .4,
       next-within _ (l .at) _ refl (l .inv .1),
     )
 
@@ -149,9 +142,6 @@ terms-spec =
     Inv-loop
     μ-loop
     loop-holds
-    sub-if1
-    cast-if1
-    shr-if1
     field-at-requires
     enum-known-t
     enum-told
@@ -162,6 +152,7 @@ terms-spec =
     array-write-xs
     add-at
     sub-left
+    mul-rest
     add-b
     loop-less
     loop-again
