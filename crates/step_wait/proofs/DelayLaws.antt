@@ -1,11 +1,10 @@
 -- Delays: the sooner of two, the soonest of a state, and the delay of one buffer lowered.
 use Prim.Native.Nat.{ℕ, zero, suc, _+_, _-_, _*_, _≤_, _<_}
 use mathlib.Core.Path.{_≡_, refl, sym, ap}
-use mathlib.Core.Bool.{false, not, _&&_}
+use mathlib.Core.Bool.{true, false}
 use mathlib.Core.List.{List}
 use native.Mathlib.Omega.{arith}
 use borrow.Author.Tests.{lt-ltb, le-ltb, ne-eqb}
-use lib.Dec.{ltb, eqb}
 use lib.ListN.{length, getD, set}
 use lib.Seq.{getD-set-same, getD-set-other}
 use Rattle.meaning.specs.declared.Buffer.{Buffer}
@@ -66,17 +65,18 @@ delay-set w k d h =
 pub delay-lowered : (w : List ℕ) (k ms d : ℕ) → 10 * k + 10 ≤ length w → d ≡ getD w (10 * k + 9) 0 - ms → Remade w (set w (10 * k + 9) d) k (later ms (bufferIn w k))
 delay-lowered w k ms d h e = rw e (delay-set w k (getD w (10 * k + 9) 0 - ms) h)
 
+-- a delay of 0 stays, and the words with it
+pub delay-none : (w : List ℕ) (k ms : ℕ) → getD w (10 * k + 9) 0 ≡ 0 → Remade w w k (later ms (bufferIn w k))
+delay-none w k ms e =
+    let z : getD w (10 * k + 9) 0 ≡ getD w (10 * k + 9) 0 - ms = omega arith in
+    record { made = ap (λ (d : ℕ). record { isa = bufferIn w k .isa; slots = bufferIn w k .slots; delay = d }) z; below = λ j l. refl; above = λ j l. refl }
+
+pub none-arrives : (b : Buffer) (ms : ℕ) → b .delay ≡ 0 → false ≡ arrives b (later ms b)
+none-arrives b ms e = rw e
+
 -- a lowered delay that was above 0 and is not any more
-pub arrives-if : (b : Buffer) (ms : ℕ) → b .delay ≤ ms → ltb 0 (b .delay) ≡ arrives b (later ms b)
-arrives-if b ms h = go (b .delay) h
-  where
-    go : (d : ℕ) → d ≤ ms → ltb 0 d ≡ (not (eqb d 0) && eqb (d - ms) 0)
-    go zero l = refl
-    go (suc d) l = let e : suc d - ms ≡ 0 = omega arith in rw (lt-ltb 0 (suc d) (omega arith), ne-eqb (suc d) 0 (λ z. omega arith), e)
+pub arrives-if : (b : Buffer) (ms : ℕ) → (b .delay ≡ 0 → ⊥) → b .delay ≤ ms → true ≡ arrives b (later ms b)
+arrives-if b ms n h = let e : b .delay - ms ≡ 0 = omega arith in rw (ne-eqb (b .delay) 0 n, e)
 
 pub stays-if : (b : Buffer) (ms : ℕ) → ms < b .delay → false ≡ arrives b (later ms b)
-stays-if b ms h = go (b .delay) h
-  where
-    go : (d : ℕ) → ms < d → false ≡ (not (eqb d 0) && eqb (d - ms) 0)
-    go zero l = absurd (omega arith)
-    go (suc d) l = rw (ne-eqb (suc d) 0 (λ e. omega arith), ne-eqb (suc d - ms) 0 (λ e. omega arith))
+stays-if b ms h = rw (ne-eqb (b .delay) 0 (λ e. omega arith), ne-eqb (b .delay - ms) 0 (λ e. omega arith))

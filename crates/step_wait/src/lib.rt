@@ -38,6 +38,7 @@ pub fn soonest(state: &[u16]) -> u16
 }
 
 // Takes some ms from the delay of buffer k, not below 0; whether the buffer went from pending to visible.
+// A buffer that is not pending is not written.
 pub fn lower(state: &mut [u16], k: usize, ms: u16) -> bool
     requires { ⌜ (80 ≤ length (now state)) × (k < 8) ⌝ }
     ensures { λ r. ⌜ Remade (now (state .entry)) (now (state .exit)) k (later ms (bufferIn (now (state .entry)) k))
@@ -45,9 +46,12 @@ pub fn lower(state: &mut [u16], k: usize, ms: u16) -> bool
 {
     let at = BUFFER_WORDS * k + 9;
     let delay = state[at];
+    if delay == 0 {
+        return false;
+    }
     if delay <= ms {
         state[at] = 0;
-        return 0 < delay;
+        return true;
     }
     state[at] = delay - ms;
     false
