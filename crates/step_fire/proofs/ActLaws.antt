@@ -1,30 +1,27 @@
 -- The deed on a buffer, and what it makes of it. In a loop over the action rows: what is left of the rows gives what all give.
-use Prim.Native.Nat.{ℕ, _+_, _-_, _*_, _/_, _%_, _^_, _≤_, _<_}
-use mathlib.Core.Path.{_≡_, refl, sym, ap, _∙_}
-use mathlib.Core.Bool.{Bool, true, false, _||_, or-false, or-assoc}
+use Prim.Native.Nat.{ℕ, zero, suc, _+_, _-_, _*_, _%_, _^_, _≤_, _<_}
+use mathlib.Core.Path.{_≡_, sym, ap, _∙_}
+use mathlib.Core.Bool.{true, _||_, or-false, or-assoc}
 use mathlib.Core.List.{List}
 use mathlib.Core.Option.{Option, none, some}
 use native.Mathlib.Decide.{ℕ-discrete}
 use native.Mathlib.Omega.{arith}
 use borrow.Author.Tests.{eq-eqb, ne-eqb, lt-ltb, le-ltb}
-use lib.Bits.{bitAnd, bitOr, and-mask}
+use lib.Bits.{bitOr}
 use lib.Dec.{eqb}
 use lib.ListN.{getD}
 use lib.Pow.{pow-mono}
 use Rattle.meaning.specs.declared.Buffer.{Buffer}
 use Rattle.meaning.specs.Base.{bit}
-use Rattle.meaning.specs.Model.{Named, Deed, Action, Rule, Fact}
+use Rattle.meaning.specs.Model.{Named, Deed, Fact}
 use Rattle.meaning.specs.State.{nilAfter}
 use Rattle.meaning.specs.Retrieval.{retrieve, retrieved}
-use Rattle.meaning.specs.Fire.{done, later, after, deedOn, change, fire}
+use Rattle.meaning.specs.Fire.{done, deedOn}
 use Rattle.meaning.specs.Mark.{isSome, actedOn}
 use Rattle.layout.specs.Rows.{rowsIn, deedOf, actionIn, actionsIn}
-use Rattle.layout.specs.StateWords.{buffersIn, stateIn}
 use Rattle.layout.proofs.RowLaws.{rows-left}
 use Rattle.laws.specs.BaseLaws.{by-lt, no-true, bit-zero}
-use Rattle.read_terms.proofs.MaskBits.{bit-is}
 use Rattle.match_sets.proofs.BitLaws.{bit-or, bit-power}
-use Rattle.step_wait.specs.Remade.{Remade, arrives}
 use Rattle.step_effect.specs.Deeds.{modified}
 use Rattle.step_fire.specs.Acts.{ActedMask}
 
@@ -70,20 +67,17 @@ deed-last words o m k i h e =
       | no off ↦ absurd (no-true (sym e ∙ ap isSome (sym (deed-further words o m k i l off) ∙ deed-none words o m k (i + 1) h)))
     ]
 
+-- a row's buffer is one of eight
+pub acted-low : (words : List ℕ) (o i n k : ℕ) → actedOn (rowsIn (λ j. actionIn words (o + 11 * j)) i n) k ≡ true → k < 8
+unfolding deedOn rowsIn
+acted-low words o i zero k e = absurd (no-true (sym e))
+acted-low words o i (suc n) k e =
+    elim (ℕ-discrete (onRow words o i) k) [
+      | yes on ↦ omega arith
+      | no off ↦ acted-low words o (i + 1) n k (rw (ne-eqb (onRow words o i) k off) at e)
+    ]
+
 -- ---- the mask of the buffers acted on, in a loop over the rows: with the rows that are left it tells of all
-
-bit-off : (x k : ℕ) → bitAnd (x / 2 ^ k) 1 ≡ 0 → bit x k ≡ false
-bit-off x k e = bit-is x k ∙ ne-eqb (x / 2 ^ k % 2) 1 (λ z. omega (arith, and-mask (x / 2 ^ k) 1))
-
-bit-on : (x k : ℕ) → (bitAnd (x / 2 ^ k) 1 ≡ 0 → ⊥) → bit x k ≡ true
-bit-on x k e = bit-is x k ∙ eq-eqb (x / 2 ^ k % 2) 1 (omega (arith, and-mask (x / 2 ^ k) 1, e))
-
-module _ (as′ : List Action) (mask k : ℕ) (h : ActedMask as′ mask) where
-  pub is-acted-on : (bitAnd (mask / 2 ^ k) 1 ≡ 0 → ⊥) → actedOn as′ k ≡ true
-  is-acted-on e = sym (h k) ∙ bit-on mask k e
-
-  pub is-left-alone : bitAnd (mask / 2 ^ k) 1 ≡ 0 → actedOn as′ k ≡ false
-  is-left-alone e = sym (h k) ∙ bit-off mask k e
 
 module _ (words : List ℕ) (o m : ℕ) where
   abbrev pub Masked : ℕ → ℕ → Type 0
@@ -122,24 +116,3 @@ module _ (failure : ℕ) (memory : List Fact) (nine : List ℕ) (b : Buffer) (d 
   pub done-clear : (d ≡ 0 → ⊥) → 64 ≤ d → done failure memory nine b (deedOf d ns) ≡ nilAfter 0
   unfolding done
   done-clear e h = rw (ne-eqb d 0 e, le-ltb d 64 h)
-
--- ---- a buffer after a firing, and whether it is marked
-
-module _ (words : List ℕ) (failure : ℕ) (memory : List Fact) (nine : List ℕ) (b : Buffer) where
-  -- the deed on buffer k, if there is one, was done, and its mark is t
-  abbrev pub Acted : Option Deed → List ℕ → List ℕ → ℕ → Bool → Type 0
-  Acted d w w′ k t = Remade w w′ k (after failure memory nine b d) × (t ≡ (isSome d || arrives b (after failure memory nine b d)))
-
-  module _ {w w′ : List ℕ} {k : ℕ} where
-    pub acted-on : {d : Option Deed} (q : ℕ) → d ≡ some (actionIn words q .deed) → Remade w w′ k (done failure memory nine b (actionIn words q .deed)) → Acted d w w′ k true
-    acted-on q e made = rw e (made, refl)
-
-    pub not-acted-on : (d : Option Deed) (t : Bool) → isSome d ≡ false → Remade w w′ k (later 50 b) × (t ≡ arrives b (later 50 b)) → Acted d w w′ k t
-    not-acted-on none t e made = made
-    not-acted-on (some d) t e made = absurd (no-true e)
-
--- every buffer anew by the actions of a rule is the rule's firing
-pub fired : (failure : ℕ) (memory : List Fact) (nine : List ℕ) {as′ : List Action} (w w′ : List ℕ) → buffersIn w′ ≡ change (λ i b. after failure memory nine b (deedOn as′ i)) 0 (buffersIn w)
-    → (clock : ℕ) (r : Rule) → r .actions ≡ as′ → stateIn w′ (clock + 50) ≡ fire failure memory r nine (stateIn w clock)
-unfolding fire
-fired failure memory nine w w′ e clock r g = rw (e, g)

@@ -1,2 +1,3 @@
--- Laws of the action on a buffer.
+-- Laws of the action on a buffer, and of all the actions of a rule.
 pub mod ActLaws
+pub mod FireLaws

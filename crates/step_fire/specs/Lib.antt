@@ -1,2 +1,2 @@
--- Which buffers are acted on.
+-- Which buffers are acted on, and what becomes of each.
 pub mod Acts

@@ -1,19 +1,20 @@
 // Firing: what a rule's actions make of a state, in place on its eighty words.
-// Each buffer is made anew from its own words, the rule's nine words and the facts alone, so none sees what was made of another.
+// Every delay loses 50 ms, then each action makes its buffer anew from its type and slots, the rule's nine words and the facts alone:
+// so none sees what was made of another, nor what was left of its own delay.
 ghost use mathlib.Core.Path.{_≡_};
-ghost use mathlib.Core.Bool.{true, _||_};
+ghost use mathlib.Core.Bool.{true};
 ghost use mathlib.Core.Option.{some};
 ghost use Prim.Native.Nat.{ℕ, _+_, _*_, _≤_, _<_};
 ghost use lib.ListN.{length};
 ghost use Rattle.meaning.specs.Model.{Rule};
-ghost use Rattle.meaning.specs.Fire.{done, deedOn, after, fire};
+ghost use Rattle.meaning.specs.Fire.{done, deedOn, fire};
 ghost use Rattle.meaning.specs.Mark.{actedOn, markOf};
 ghost use Rattle.layout.specs.Rows.{actionIn, actionsIn};
 ghost use Rattle.layout.specs.StateWords.{bufferIn, stateIn};
 ghost use Rattle.layout.specs.Plans.{factsOn, rowsOn, Planned};
 ghost use Rattle.step_retrieve.specs.Chains.{ChainsOn};
-ghost use Rattle.step_wait.specs.Remade.{Remade, arrives};
-ghost use Rattle.step_fire.specs.Acts.{ActedMask};
+ghost use Rattle.step_wait.specs.Remade.{Remade};
+ghost use Rattle.step_fire.specs.Acts.{ActedMask, acting};
 use layout::Plan;
 use layout::ROW_WORDS;
 
@@ -67,35 +68,33 @@ fn perform(state: &mut [u16], k: usize, plan: Plan, tape: &[u16], q: usize, nine
     step_effect::nil(state, k, 0);
 }
 
-// What the firing of the m actions from o on makes of buffer k, where `acted` tells the buffers that they are on; whether the buffer is marked.
-// A buffer without an action loses 50 ms from its delay.
-fn act(
+// Does the m actions from o on, each on its buffer, where `acted` tells the buffers that they are on. The other buffers stay.
+fn act_all(
     state: &mut [u16],
-    k: usize,
     plan: Plan,
     tape: &[u16],
     o: usize,
     m: usize,
     nine: &[u16],
     acted: u16,
-) -> bool
-    requires { ⌜ (80 ≤ length (now state)) × (k < 8) × (o + 11 * m ≤ length (rowsOn plan (now tape))) × (9 ≤ length (now nine)) × Planned plan (now tape) × ChainsOn plan (now tape)
+)
+    requires { ⌜ (80 ≤ length (now state)) × (o + 11 * m ≤ length (rowsOn plan (now tape))) × (9 ≤ length (now nine)) × Planned plan (now tape) × ChainsOn plan (now tape)
         × ActedMask (actionsIn (rowsOn plan (now tape)) o m) acted ⌝ }
-    ensures { λ _. ⌜ Remade (now (state .entry)) (now (state .exit)) k
-        (after (plan .failure) (factsOn plan (now (tape .entry))) (now (nine .entry)) (bufferIn (now (state .entry)) k) (deedOn (actionsIn (rowsOn plan (now (tape .entry))) o m) k)) ⌝ }
-    ensures mark { λ r. ⌜ r ≡ (actedOn (actionsIn (rowsOn plan (now (tape .entry))) o m) k || arrives (bufferIn (now (state .entry)) k)
-        (after (plan .failure) (factsOn plan (now (tape .entry))) (now (nine .entry)) (bufferIn (now (state .entry)) k) (deedOn (actionsIn (rowsOn plan (now (tape .entry))) o m) k))) ⌝ }
+    ensures { λ _. ⌜ ((k : ℕ) → bufferIn (now (state .exit)) k
+        ≡ acting (plan .failure) (factsOn plan (now (tape .entry))) (now (nine .entry)) (bufferIn (now (state .entry)) k) (deedOn (actionsIn (rowsOn plan (now (tape .entry))) o m) k)) ⌝ }
 {
-    if (acted >> k) & 1 == 0 {
-        return step_wait::lower(state, k, 50);
-    }
     let rows = plan.rows;
-    let q = action_on(&tape[rows..], o, m, k);
-    perform(state, k, plan, tape, q, nine);
-    true
+    let mut rest = acted as u64;
+    while rest != 0 {
+        let k = match_sets::lowest(rest);
+        let q = action_on(&tape[rows..], o, m, k);
+        perform(state, k, plan, tape, q, nine);
+        rest = match_sets::drop_lowest(rest);
+    }
 }
 
 // Fires a rule with the m actions from o on and the nine words of its entry; the mark of the buffers acted on or arrived.
+// A buffer acted on that would have arrived without its action is in both masks.
 pub fn fire(state: &mut [u16], plan: Plan, tape: &[u16], o: usize, m: usize, nine: &[u16]) -> u16
     requires { ⌜ (80 ≤ length (now state)) × (o + 11 * m ≤ length (rowsOn plan (now tape))) × (m ≤ 8) × (9 ≤ length (now nine)) × Planned plan (now tape) × ChainsOn plan (now tape) ⌝ }
     ensures { λ _. ⌜ ((clock : ℕ) (r : Rule) → r .actions ≡ actionsIn (rowsOn plan (now (tape .entry))) o m
@@ -104,15 +103,7 @@ pub fn fire(state: &mut [u16], plan: Plan, tape: &[u16], o: usize, m: usize, nin
 {
     let rows = plan.rows;
     let acted = acted_mask(&tape[rows..], o, m);
-    let mut mark = 0u16;
-    let mut weight = 1u16;
-    let mut k = 0;
-    while k < 8 {
-        if act(state, k, plan, tape, o, m, nine, acted) {
-            mark += weight;
-        }
-        weight *= 2;
-        k += 1;
-    }
-    mark
+    let arrived = step_wait::wait(state, 50);
+    act_all(state, plan, tape, o, m, nine, acted);
+    arrived | acted
 }

@@ -1,19 +1,16 @@
 -- `step_wait::wait` meets its contract: each buffer in its turn, with its weight in the mark.
 use borrow.Author.Needs.{needs}
 use Prim.Native.Nat.{_+_, _-_, _<_}
-use mathlib.Core.Path.{refl, ap}
-use mathlib.Core.List.{[]}
+use mathlib.Core.Path.{ap}
 use mathlib.Core.Logic.{⊎-elim}
 use native.Mathlib.Omega.{arith}
-use Rattle.meaning.specs.Fire.{later, deedOn}
 use Rattle.meaning.specs.Wait.{wait}
-use Rattle.meaning.specs.Mark.{actedOn}
 use Rattle.step_wait.proofs.StepLaws.{Going, going-start, going-weight, going-fits, going-on, going-off, going-made, going-marked}
 use Rattle.step_wait.proofs.wait.Statement.{statement}
 use Rattle.step_wait.proofs.wait.Tie as tie
 
 abbrev Inv-loop : tie.InvT-loop
-Inv-loop state₀ ms mark₀ weight₀ k₀ state mark weight k = Going (λ i b. later ms b) (actedOn []) state₀ state k mark weight
+Inv-loop state₀ ms mark₀ weight₀ k₀ state mark weight k = Going ms state₀ state k mark weight
 
 abbrev μ-loop : tie.MeasureT-loop
 μ-loop state₀ ms mark₀ weight₀ k₀ state mark weight k = 8 - k
@@ -40,13 +37,12 @@ more c = omega (arith, turned c .loop-test .taken)
 -- ---- what is asked
 
 loop-holds : tie.Need-loop-holds Inv-loop μ-loop
-loop-holds c = going-start _ _ _
+loop-holds c = going-start _ _
 
 lower-requires : tie.Need-lower-requires Inv-loop μ-loop
 lower-requires c κs = let l = loop-of c in (omega (arith, l .loop .inv .size, start l .pre), more c)
 
 add-mark : tie.Need-add-mark Inv-loop μ-loop
-unfolding deedOn
 add-mark c =
     let low = lowered (c .before) in
     let h = going-fits (loop-of (low .before) .loop .inv) (more (low .before)) (low .lower .ensures .1) (c .if1 .taken) in
@@ -65,7 +61,6 @@ loop-less : tie.Need-loop-less Inv-loop μ-loop
 loop-less c = search needs
 
 loop-again : tie.Need-loop-again Inv-loop μ-loop
-unfolding deedOn
 loop-again c =
     let arg = lowered (c .before) .before in
     let going = loop-of arg .loop .inv in
@@ -81,7 +76,7 @@ unfolding wait
 returns c =
     let g = c .before .loop .inv in
     let a = start (c .before) .args in
-    (λ clock. ap (λ bs. record { buffers = bs; clock = clock + a .ms }) (going-made g (omega arith)), λ clock clock′. going-marked g (omega arith) [] refl clock clock′)
+    (λ clock. ap (λ bs. record { buffers = bs; clock = clock + a .ms }) (going-made g (omega arith)), λ clock clock′. going-marked g (omega arith) clock clock′)
 
 pub wait-spec : {M : Type 1} → statement M
 wait-spec =
