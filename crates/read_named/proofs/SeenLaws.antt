@@ -1,6 +1,6 @@
 -- What masks hold as the loops go on: one number more, one slot more, one row more.
 use Prim.Native.Nat.{ℕ, _+_, _-_, _*_, _%_, _^_, _≤_, _<_}
-use mathlib.Core.Path.{_≡_, sym, ap, _∙_, fun-ext}
+use mathlib.Core.Path.{_≡_, refl, sym, ap, _∙_, fun-ext}
 use mathlib.Core.Bool.{Bool, true, false, _||_, or-false, or-assoc}
 use mathlib.Core.List.{List, [], _∷_, _++_, map, map-append}
 use native.Mathlib.Omega.{arith}
@@ -53,9 +53,9 @@ module _ (w : List ℕ) (q mask : ℕ) where
   unfolding below
   slots-start v = sym (or-false (bit mask v))
 
-  -- no slot is named from b on
-  pub slots-end : (b seen : ℕ) → b ≤ 8 → rest (getD w (q + 2) 0) b ≡ [] → Holds (λ v. bit mask v || standsBelow w q b v) seen → Holds (λ v. bit mask v || standsAt w q v) seen
-  slots-end b seen low none h v = h v ∙ ap (λ (l : List ℕ). bit mask v || anyOf (λ n. isVariable v (n .term)) (map (namedIn w q) l)) (below-all (getD w (q + 2) 0) b low none)
+  pub slots-end : (seen : ℕ) → Holds (λ v. bit mask v || standsBelow w q 8 v) seen → Holds (λ v. bit mask v || standsAt w q v) seen
+  unfolding rest
+  slots-end seen h v = h v ∙ ap (λ (l : List ℕ). bit mask v || anyOf (λ n. isVariable v (n .term)) (map (namedIn w q) l)) (below-all (getD w (q + 2) 0) 8 (omega arith) refl)
 
   module _ (b seen seen′ : ℕ) (h : Holds (λ v. bit mask v || standsBelow w q b v) seen) where
     pub slots-skip : names (getD w (q + 2) 0) b ≡ false → seen′ ≡ seen → Holds (λ v. bit mask v || standsBelow w q (b + 1) v) seen′

@@ -21,19 +21,18 @@ fn with_term(mask: u16, term: u16) -> u16
     mask | (1u16 << (term % 8))
 }
 
-// The mask with the variables of the test at q. What is left of the row's mask has the bit of slot b at 128, and no slot is looked at once it is 0.
+// The mask with the variables of the test at q.
 fn with_test(mask: u16, words: &[u16], q: usize) -> u16
     requires { ⌜ q + 11 ≤ length (now words) ⌝ }
     ensures { λ r. ⌜ Holds (λ v. bit mask v || standsAt (now (words .entry)) q v) r ⌝ }
 {
-    let mut rest = words[q + 2] % 256;
+    let named = words[q + 2];
     let mut seen = mask;
     let mut b = 0;
-    while rest != 0 {
-        if 128 <= rest {
+    while b < 8 {
+        if (named >> (7 - b)) & 1 == 1 {
             seen = with_term(seen, words[q + 3 + b]);
         }
-        rest = rest * 2 % 256;
         b += 1;
     }
     seen

@@ -8,7 +8,7 @@ use lib.ListN.{length}
 use lib.Bits.{bitAnd, and-mask}
 use lib.Pow.{shr-shr}
 use lib.Dec.{eqb}
-use borrow.Author.Tests.{eq-eqb}
+use borrow.Author.Tests.{eq-eqb, ne-eqb}
 use Rattle.meaning.specs.Base.{keep, admit, upFrom, bit}
 use Rattle.meaning.specs.Image.{names, slotsIn}
 
@@ -20,6 +20,9 @@ bit-is m (suc b) =
 
 pub names-on : (m b : ℕ) → bitAnd (m / 2 ^ (7 - b)) 1 ≡ 1 → names m b ≡ true
 names-on m b z = bit-is m (7 - b) ∙ eq-eqb (m / 2 ^ (7 - b) % 2) 1 (sym (and-mask (m / 2 ^ (7 - b)) 1) ∙ z)
+
+pub names-off : (m b : ℕ) → (bitAnd (m / 2 ^ (7 - b)) 1 ≡ 1 → ⊥) → names m b ≡ false
+names-off m b z = bit-is m (7 - b) ∙ ne-eqb (m / 2 ^ (7 - b) % 2) 1 (λ y. z (and-mask (m / 2 ^ (7 - b)) 1 ∙ y))
 
 -- ---- named slots from b on, and below b
 
