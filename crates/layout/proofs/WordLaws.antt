@@ -63,13 +63,6 @@ module _ (o : ℕ) (w own : List ℕ) where
 pub below-get : (o : ℕ) (w w′ : List ℕ) → take o w′ ≡ take o w → (j : ℕ) → j < o → getD w′ j 0 ≡ getD w j 0
 below-get o w w′ e j h = sym (getD-take o w′ j 0 h) ∙ ap (λ (l : List ℕ). getD l j 0) e ∙ getD-take o w j 0 h
 
--- and so have their parts in it
-pub below-part : (r m : ℕ) (w w′ : List ℕ) → take (r + m) w′ ≡ take (r + m) w → r ≤ length w → r ≤ length w′ → take m (drop r w′) ≡ take m (drop r w)
-below-part r m w w′ e h h′ =
-    sym (drop-at (take r w′) (take m (drop r w′)) r (length-take-le r w′ h′))
-    ∙ ap (drop r) (sym (take-add r m w′) ∙ e ∙ take-add r m w)
-    ∙ drop-at (take r w) (take m (drop r w)) r (length-take-le r w h)
-
 -- ---- a list of a known length is its elements in a row
 
 abbrev pub tab : ℕ → (ℕ → ℕ) → List ℕ

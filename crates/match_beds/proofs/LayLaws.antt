@@ -11,9 +11,7 @@ use lib.ListN.{length, getD, set, replicate, length-replicate}
 use lib.Seq.{getD-set-same, getD-set-other}
 use borrow.Author.Tests.{eq-eqb}
 use Rattle.meaning.specs.Base.{bit}
-use Rattle.laws.specs.BaseLaws.{no-true}
-use Rattle.laws.specs.BaseLaws.{by-lt}
-use Rattle.laws.specs.BaseLaws.{bit-zero}
+use Rattle.laws.specs.BaseLaws.{no-true, by-lt, bit-zero}
 use Rattle.match_sets.specs.Sets.{has}
 use Rattle.match_sets.proofs.SetLaws.{put-in, put-kept, put-word, put-other}
 use Rattle.match_beds.specs.Beds.{tests, Testing, Roomy}

@@ -9,12 +9,10 @@ use lib.Bits.{bitOr}
 use lib.Dec.{eqb}
 use lib.ListN.{length, getD}
 use Rattle.meaning.specs.Base.{bit}
-use Rattle.laws.specs.BaseLaws.{no-true}
-use Rattle.laws.specs.BaseLaws.{by-lt}
-use Rattle.laws.specs.BaseLaws.{bit-zero}
+use Rattle.laws.specs.BaseLaws.{no-true, by-lt, bit-zero}
 use Rattle.match_sets.specs.Sets.{has}
 use Rattle.match_sets.proofs.BitLaws.{bit-or}
-use Rattle.match_sets.proofs.SetLaws.{put-in, put-kept, put-word, remove-word, remove-other}
+use Rattle.match_sets.proofs.SetLaws.{put-in, put-kept, put-word, remove-out, remove-word, remove-other}
 use Rattle.match_beds.specs.Beds.{isAwake, isUsed, inBed, bedOf}
 use Rattle.match_beds.specs.Moves.{Touch, Touches, Lain}
 use Rattle.match_sets.proofs.BitWalk.{bit-low}
@@ -63,6 +61,7 @@ module _ (s s₁ s₂ s₃ : List ℕ) (k place value : ℕ) (few : k < 256) (lo
           used = λ p l u. stays (40 + p / 10) (p % 10) (omega arith) u;
         };
         hits = λ j i a b. same j i a (omega arith) (λ c. absurd (omega arith));
+        asleep = ap (λ (j : ℕ). has s₃ j (k % 64)) (sym (zero-add (k / 64))) ∙ remove-out s₂ s₃ 0 k risen;
         bed =
             let e : 52 + 255 * (k / 64) + bedOf place value + k / 64 ≡ 52 + 256 * (k / 64) + bedOf place value = omega arith in
             let here : inBed s₁ (bedOf place value) k ≡ true = rw e at (put-in s s₁ (52 + 255 * (k / 64) + bedOf place value) k bedded) in

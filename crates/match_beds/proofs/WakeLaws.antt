@@ -10,8 +10,7 @@ use lib.Bits.{bitOr}
 use lib.ListN.{length, getD, set, length-set}
 use lib.Seq.{getD-set-same, getD-set-other}
 use Rattle.meaning.specs.Base.{bit}
-use Rattle.laws.specs.BaseLaws.{no-true}
-use Rattle.laws.specs.BaseLaws.{by-lt}
+use Rattle.laws.specs.BaseLaws.{no-true, by-lt}
 use Rattle.match_sets.specs.Sets.{has}
 use Rattle.match_sets.proofs.BitLaws.{bit-or}
 use Rattle.match_beds.specs.Beds.{isAwake, isUsed, inBed, bedOf, Roomy}

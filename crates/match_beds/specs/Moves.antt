@@ -34,6 +34,7 @@ pub record Besides (k : ℕ) (sets sets′ : List ℕ) : Type 0 where
 pub record Lain (k place value : ℕ) (sets sets′ : List ℕ) : Type 0 where
   pub besides : Besides k sets sets′
   pub hits : (j i : ℕ) → 4 ≤ j → j < 8 → has sets′ j i ≡ has sets j i
+  pub asleep : isAwake sets′ k ≡ false
   pub bed : inBed sets′ (bedOf place value) k ≡ true
   pub down : isUsed sets′ place ≡ true
 

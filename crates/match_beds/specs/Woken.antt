@@ -1,4 +1,4 @@
--- What waking leaves: beds are emptied, and those who slept there are awake.
+-- What waking leaves: those who slept in some beds are awake, all others as they were.
 use Prim.Native.Nat.{ℕ, _+_, _*_, _≤_, _<_}
 use mathlib.Core.Path.{_≡_}
 use mathlib.Core.Logic.{_⊎_}

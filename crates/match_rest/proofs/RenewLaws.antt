@@ -13,9 +13,7 @@ use Rattle.meaning.specs.Base.{bit, if_then_else_, weigh, upFrom}
 use Rattle.meaning.specs.Image.{isTested}
 use Rattle.meaning.specs.Match.{entryOf}
 use Rattle.meaning.specs.Refresh.{testsMarked}
-use Rattle.laws.specs.BaseLaws.{no-true, and-left, and-right}
-use Rattle.laws.specs.BaseLaws.{by-lt}
-use Rattle.laws.specs.BaseLaws.{bit-zero, bit-and, bit-weigh, Place, some-place}
+use Rattle.laws.specs.BaseLaws.{no-true, and-left, and-right, by-lt, bit-zero, bit-and, bit-weigh, Place, some-place}
 use Rattle.layout.specs.Rows.{ruleIn, Laid}
 use Rattle.layout.specs.StateWords.{stateIn}
 use Rattle.match_sets.specs.Sets.{has}

@@ -11,8 +11,7 @@ use lib.ListN.{length, getD}
 use borrow.Author.Tests.{eq-eqb, eqb-true}
 use Rattle.meaning.specs.Base.{bit, if_then_else_}
 use Rattle.meaning.specs.Match.{entryOf}
-use Rattle.laws.specs.BaseLaws.{no-true}
-use Rattle.laws.specs.BaseLaws.{by-lt}
+use Rattle.laws.specs.BaseLaws.{no-true, by-lt}
 use Rattle.laws.specs.MatchLaws.{entry-length}
 use Rattle.layout.specs.Rows.{ruleIn}
 use Rattle.layout.specs.StateWords.{stateIn}

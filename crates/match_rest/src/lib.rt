@@ -1,5 +1,5 @@
 // The refresh of a run: a rule that fails at a constant sleeps in a bed for that word of the state and that value, and is looked at again
-// only after a step has marked that word's buffer and the word has a value of the same bed.
+// only after a step has marked that word's buffer, which is visible, and the word has a value of the same bed.
 ghost use mathlib.Core.Path.{_≡_};
 ghost use mathlib.Core.Bool.{true};
 ghost use mathlib.Core.List.{List};

@@ -14,14 +14,6 @@ use Rattle.meaning.specs.Base.{same}
 abbrev pub Agree : ℕ → List ℕ → List ℕ → Type 0
 Agree i l m = (k : ℕ) → k < i → getD l k 0 ≡ getD m k 0
 
--- one word more, which was just stored
-pub agree-set : (i : ℕ) (l m : List ℕ) → i < length l → Agree i l m → Agree (i + 1) (set l i (getD m i 0)) m
-agree-set i l m h a k g =
-    elim (ℕ-discrete k i) [
-      | yes e ↦ rw (e, getD-set-same l i (getD m i 0) 0 h)
-      | no e ↦ getD-set-other l i k (getD m i 0) 0 e ∙ a k (omega arith)
-    ]
-
 -- one word more, which is the same
 pub agree-more : (i : ℕ) (l m : List ℕ) → getD l i 0 ≡ getD m i 0 → Agree i l m → Agree (i + 1) l m
 agree-more i l m e a k g = elim (ℕ-discrete k i) [ yes q ↦ rw q e | no q ↦ a k (omega arith) ]

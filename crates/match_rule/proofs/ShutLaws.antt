@@ -114,7 +114,7 @@ module _ (w : List ℕ) (o n i q : ℕ) (at : q ≡ o + 11 * i) (h : i < n) (r :
 -- ---- and the word at which the match was given up is one of them
 
 module _ (w st : List ℕ) (o n i q : ℕ) (at : q ≡ o + 11 * i) (h : i < n) where
-  -- and so does the delay of the buffer that its word is of
+  -- whatever its word is, the delay of that word's buffer shuts the rule too
   hidden : (place : ℕ) → place / 10 ≡ getD w q 0 % 8 → (r : Rule) → r .tests ≡ testsIn w o n → Shuts r (delayOf place) 0
   hidden place is r e = rw is (delay-shuts w o n i q at h r e)
 

@@ -218,13 +218,17 @@ module _ (f : Bool → Bool → Bool) (keeps : (b : Bool) → f b false ≡ b) w
         | no q ↦ rw (getD-set-other l at j r 0 q, ne-eqb j at q) (sym (keeps (has l j k)))
       ]
 
-or-none : (b : Bool) → (b || false) ≡ b
+pub or-none : (b : Bool) → (b || false) ≡ b
 or-none true = refl
 or-none false = refl
 
 pub but-none : (b : Bool) → (b && not false) ≡ b
 but-none true = refl
 but-none false = refl
+
+pub but-all : (b : Bool) → (b && not true) ≡ false
+but-all true = refl
+but-all false = refl
 
 module _ (l : List ℕ) (at r i : ℕ) (room : at < length l) where
   pub word-with : ((k : ℕ) → bit r k ≡ (bit (getD l at 0) k || eqb k i)) → (j k : ℕ) → has (set l at r) j k ≡ (has l j k || (eqb j at && eqb k i))

@@ -11,7 +11,7 @@ use borrow.Author.Tests.{eq-eqb, ne-eqb}
 use Rattle.meaning.specs.Base.{bit}
 use Rattle.laws.specs.BaseLaws.{bit-zero, by-lt, no-true}
 use Rattle.match_sets.specs.Sets.{Dropped}
-use Rattle.match_sets.proofs.BitLaws.{but-none, bit-high}
+use Rattle.match_sets.proofs.BitLaws.{but-none, but-all, bit-high}
 
 -- the low bits of a number
 pub bit-low : (k x j : ℕ) → j < k → bit (x % 2 ^ k) j ≡ bit x j
@@ -22,10 +22,6 @@ bit-low (suc k) x (suc j) h = let e : x % 2 ^ suc k / 2 ≡ x / 2 % 2 ^ k = rw (
 -- a bit of a number below 2 to the power k is below k
 pub bit-below : (k x j : ℕ) → x < 2 ^ k → bit x j ≡ true → j < k
 bit-below k x j h b = by-lt j k (λ l. l) (λ l. absurd (no-true (sym b ∙ bit-high k x j h l)))
-
-and-none : (b : Bool) → (b && not true) ≡ false
-and-none true = refl
-and-none false = refl
 
 -- what is left of x when its bits below `at` are passed
 pub record Left (x at rest : ℕ) : Type 0 where
@@ -65,7 +61,7 @@ module _ {x bound rest : ℕ} {done : ℕ → Type 0} (w : Walk x bound done res
         passed-now j h =
             dropped z j b none
             ∙ elim (ℕ-discrete j z) [
-              | yes e ↦ ap (λ (y : Bool). bit rest j && not y) (eq-eqb j z e) ∙ and-none (bit rest j)
+              | yes e ↦ ap (λ (y : Bool). bit rest j && not y) (eq-eqb j z e) ∙ but-all (bit rest j)
               | no e ↦ ap (λ (y : Bool). y && not (eqb j z)) (none j (omega arith))
             ]
 

@@ -8,18 +8,7 @@ use native.Mathlib.Decide.{ℕ-discrete}
 use lib.Dec.{eqb}
 use borrow.Author.Tests.{eq-eqb, ne-eqb}
 use Rattle.match_sets.specs.Sets.{has, member}
-
-or-none : (b : Bool) → (b || false) ≡ b
-or-none true = refl
-or-none false = refl
-
-but-none : (b : Bool) → (b && not false) ≡ b
-but-none true = refl
-but-none false = refl
-
-but-all : (b : Bool) → (b && not true) ≡ false
-but-all true = refl
-but-all false = refl
+use Rattle.match_sets.proofs.BitLaws.{or-none, but-none, but-all}
 
 and-none : (b : Bool) → (b && false) ≡ false
 and-none true = refl

@@ -76,10 +76,6 @@ abbrev pub aBeginning : Header → List ℕ → List Chunk → Beginning
 aBeginning h types opening = record { head = h; types = types; opening = opening }
 
 module _ (s : List ℕ) where
-  pub begin-first : (x y : ℕ) → Refused x y ≡ header s 0 → Refused x y ≡ beginning s 0
-  unfolding beginning
-  begin-first x y e = rw (← e)
-
   module _ (h : Header) (q : ℕ) (e₁ : Got h q ≡ header s 0) where
     pub begin-second : (x y : ℕ) → Refused x y ≡ mapped (λ counts. 0 ∷ counts) (slotCounts (h .declared) s q) → Refused x y ≡ beginning s 0
     unfolding beginning

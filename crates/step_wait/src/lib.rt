@@ -39,7 +39,7 @@ pub fn soonest(state: &[u16]) -> u16
 
 // Takes some ms from the delay of buffer k, not below 0; whether the buffer went from pending to visible.
 // A buffer that is not pending is not written.
-pub fn lower(state: &mut [u16], k: usize, ms: u16) -> bool
+fn lower(state: &mut [u16], k: usize, ms: u16) -> bool
     requires { ⌜ (80 ≤ length (now state)) × (k < 8) ⌝ }
     ensures { λ r. ⌜ Remade (now (state .entry)) (now (state .exit)) k (later ms (bufferIn (now (state .entry)) k))
         × (r ≡ arrives (bufferIn (now (state .entry)) k) (later ms (bufferIn (now (state .entry)) k))) ⌝ }

@@ -58,7 +58,8 @@ loop-again c =
     let here = walk-here (l .inv) (z .result) (z .ensures .1) in
     let low = bit-below 8 x (z .result) (omega arith) here in
     walk-goes-on (l .inv) (z .result) (z .ensures .1) (z .ensures .2) _ (c .drop-lowest .ensures .0) low
-    (touches-turn (args .sets .now) (args .w) (args .mark) x (l .inv .at) refl (z .result) (l .all) (walk-ahead (l .inv) (z .result) (z .ensures .1)) (walk-none (l .inv) (z .result) (z .ensures .2)) (l .inv .so) low here)
+    (touches-turn (args .sets .now) (args .w) (args .mark) x (l .inv .at) refl (z .result) (l .all) (walk-ahead (l .inv) (z .result) (z .ensures .1))
+    (walk-none (l .inv) (z .result) (z .ensures .2)) (l .inv .so) low here)
 
 returns : tie.Need-returns Inv-loop μ-loop
 returns c =

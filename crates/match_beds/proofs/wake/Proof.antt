@@ -1,4 +1,4 @@
--- `match_beds::wake` meets its contract: the beds of the used places passed are empty.
+-- `match_beds::wake` meets its contract: those in the beds of the used places passed are awake.
 use Rattle.match_beds.proofs.WakeLaws.{woke-none, woke-both, woke-as, roomy-kept, called-turn, called-end}
 use Rattle.match_sets.proofs.BitWalk.{Walk, walk-begins, walk-here, walk-none, walk-goes-on, walk-ends, bit-below}
 use Rattle.match_beds.specs.Woken.{Woke, Called}
@@ -6,7 +6,7 @@ use Rattle.match_beds.specs.Beds.{bedOf}
 use lib.ListN.{getD}
 use native.Mathlib.Omega.{arith}
 use mathlib.Core.Path.{_≡_, refl, sym, _∙_}
-use Prim.Native.Nat.{_+_, _*_, _%_}
+use Prim.Native.Nat.{_+_, _*_, _%_, _<_}
 use borrow.Author.Needs.{needs}
 use Rattle.match_beds.proofs.wake.Statement.{statement}
 use Rattle.match_beds.proofs.wake.Tie as tie
@@ -16,6 +16,13 @@ Inv-loop sets₀ n state b rest₀ sets rest = Walk (getD sets₀ (40 + b) 0 % 1
 
 abbrev μ-loop : tie.MeasureT-loop
 μ-loop sets₀ n state b rest₀ sets rest = rest
+
+-- the words of a buffer are ten
+low : (c : tie.After-lowest Inv-loop μ-loop) → c .lowest .result < 10
+low c =
+    let args = c .before .before .before .before .before .before .before .before .args in
+    bit-below 10 (getD (args .sets .now) (40 + args .b) 0 % 1024) (c .lowest .result) (omega arith)
+    (walk-here (c .before .before .loop .inv) (c .lowest .result) (c .lowest .ensures .1))
 
 mul-if1 : tie.Need-mul-if1 Inv-loop μ-loop
 mul-if1 c = record { fits = omega (arith, c .before .before .pre .2) }
@@ -72,21 +79,13 @@ mul-bed c = search needs
 
 shared-slice-read-bed : tie.Need-shared-slice-read-bed Inv-loop μ-loop
 shared-slice-read-bed c =
-    let l = c .before .before .before .before .loop in
-    let start = c .before .before .before .before .before .before .before .before .before .before in
-    let z = c .before .before .lowest in
-    let x = getD (start .args .sets .now) (40 + start .args .b) 0 % 1024 in
-    let low = bit-below 10 x (z .result) (omega arith) (walk-here (l .inv) (z .result) (z .ensures .1)) in
-    omega (arith, low, start .pre .1, start .pre .2)
+    let pre = c .before .before .before .before .before .before .before .before .before .before .pre in
+    omega (arith, low (c .before .before), pre .1, pre .2)
 
 bed-requires : tie.Need-bed-requires Inv-loop μ-loop
 bed-requires c κs =
-    let l = c .before .before .before .before .loop in
-    let start = c .before .before .before .before .before .before .before .before .before .before in
-    let z = c .before .before .lowest in
-    let x = getD (start .args .sets .now) (40 + start .args .b) 0 % 1024 in
-    let low = bit-below 10 x (z .result) (omega arith) (walk-here (l .inv) (z .result) (z .ensures .1)) in
-    omega (arith, low, start .pre .2)
+    let pre = c .before .before .before .before .before .before .before .before .before .before .pre in
+    omega (arith, low (c .before .before), pre .2)
 
 wake-bed-requires : tie.Need-wake-bed-requires Inv-loop μ-loop
 wake-bed-requires c κs =
@@ -106,11 +105,10 @@ loop-again c =
     let args = c .before .before .before .before .before .before .before .before .before .before .before .before .before .before .before .args in
     let x = getD (args .sets .now) (40 + args .b) 0 % 1024 in
     let z = c .before .before .before .before .before .before .before .lowest in
-    let low = bit-below 10 x (z .result) (omega arith) (walk-here (l .inv) (z .result) (z .ensures .1)) in
     let none = walk-none (l .inv) (z .result) (z .ensures .2) in
     let woke = c .before .before .before .wake-bed in
     let bed = c .before .before .before .before .bed in
-    walk-goes-on (l .inv) (z .result) (z .ensures .1) (z .ensures .2) _ (c .drop-lowest .ensures .0) low
+    walk-goes-on (l .inv) (z .result) (z .ensures .1) (z .ensures .2) _ (c .drop-lowest .ensures .0) (low (c .before .before .before .before .before .before .before))
     (woke-both (args .n) _ (λ g k. g ≡ bedOf (10 * args .b + z .result) (getD (args .state .now) (10 * args .b + z .result) 0)) _ (args .sets .now) (l .sets) (woke .last .0)
     (l .inv .so) (woke-as (args .n) _ _ (l .sets) (woke .last .0) (woke .ensures) (λ g k h e. e ∙ sym (bed .ensures)))
     (λ g k d. called-turn (args .state .now) (args .sets .now) (args .b) x (l .inv .at) refl g (z .result) none d))

@@ -1,4 +1,4 @@
--- `match_beds::wake_all` meets its contract: the beds of the marked buffers passed are empty.
+-- `match_beds::wake_all` meets its contract: those in the beds of the marked buffers passed are awake.
 use Rattle.match_beds.proofs.WakeLaws.{woke-none, woke-both, woke-as, roomy-kept, called-kept, by-turn, by-end}
 use Rattle.match_sets.proofs.BitWalk.{Walk, walk-begins, walk-here, walk-none, walk-goes-on, walk-ends, bit-below}
 use Rattle.match_beds.specs.Woken.{Woke, Called, CalledBy}
