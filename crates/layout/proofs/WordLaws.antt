@@ -5,7 +5,7 @@ use mathlib.Core.List.{List, [], _∷_, _++_, append-nil}
 use native.Mathlib.Omega.{arith}
 use native.Mathlib.Numerals.{add-one}
 use lib.ListN.{length, getD, set, take, drop, length-set, length-drop, drop-of-length-le}
-use lib.Seq.{sets, drop-cons, getD-set-same, getD-set-other, getD-take, take-set-le, drop-set-lt, take-at, drop-at, take-add, length-take-le}
+use lib.Seq.{sets, drop-cons, getD-set-same, getD-set-other, getD-take, take-set-le, drop-set-lt, take-at, drop-at, length-take-le}
 
 -- one word of a list more, in a loop that counts i up to its length
 pub sets-step : (w : List ℕ) (o i : ℕ) (xs : List ℕ) → i < length xs → sets (set w (o + i) (getD xs i 0)) (o + (i + 1)) (drop (i + 1) xs) ≡ sets w (o + i) (drop i xs)

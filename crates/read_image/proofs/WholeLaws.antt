@@ -1,16 +1,15 @@
 -- An image part by part: its beginning, its facts, its rules, its end.
-use Prim.Native.Nat.{ℕ, zero, suc, _+_, _-_, _*_, _≤_, _<_}
+use Prim.Native.Nat.{ℕ, _+_, _-_, _*_, _≤_, _<_}
 use mathlib.Core.Path.{_≡_, refl, sym, ap, ap₂, _∙_}
-use mathlib.Core.Bool.{Bool, true, false, _&&_}
-use mathlib.Core.List.{List, [], _∷_, _++_, map}
+use mathlib.Core.Bool.{true, false}
+use mathlib.Core.List.{List, [], _∷_, map}
 use native.Mathlib.Omega.{arith}
 use native.Mathlib.Decide.{decLt}
 use native.Mathlib.Nat.{min-le-left}
 use borrow.Author.Tests.{lt-ltb, le-ltb, eq-eqb, ne-eqb}
-use lib.Dec.{ltb, eqb}
+use lib.Dec.{ltb}
 use lib.ListN.{length, getD, take, replicate, length-map, length-take, List·getD-eq-default}
 use lib.Seq.{take-at, getD-take}
-use Rattle.meaning.specs.declared.Buffer.{Buffer}
 use Rattle.meaning.specs.declared.State.{State}
 use Rattle.meaning.specs.Base.{if_then_else_}
 use Rattle.meaning.specs.Bits.{fieldAt}
@@ -19,13 +18,13 @@ use Rattle.meaning.specs.State.{nilAfter}
 use Rattle.meaning.specs.Read.{Read, Refused, Got, Reader, follow, times}
 use Rattle.meaning.specs.Image.{Header, header, slotCounts, chunk, fact, rule, padding, ending, Beginning, beginning, Contents, contents, model, decode}
 use Rattle.meaning.specs.Calls.{opens}
-use Rattle.laws.specs.ReadLaws.{no-got, times-all, split}
+use Rattle.laws.specs.ReadLaws.{no-got, times-all}
 use Rattle.layout.specs.declared.Walk.{Walk}
 use Rattle.layout.specs.declared.Walk.the-variants.{Next, Bad}
 use Rattle.layout.specs.Walks.{answer, mapped, Small}
 use Rattle.layout.specs.Rows.{sizes, ruleIn}
 use Rattle.layout.proofs.RowLaws.{rows-length}
-use Rattle.layout.proofs.WalkLaws.{answer-bad, answer-next, bad-within, bad-never}
+use Rattle.layout.proofs.WalkLaws.{answer-bad, bad-within, bad-never}
 use Rattle.layout.specs.declared.Plan.{Plan}
 use Rattle.layout.specs.declared.PlanRead.{PlanRead}
 use Rattle.layout.specs.Plans.{planOf, chunkIn, headsOn, rowsOn, modelOn}

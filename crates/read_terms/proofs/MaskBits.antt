@@ -4,7 +4,6 @@ use mathlib.Core.Path.{_≡_, refl, sym, ap, _∙_}
 use mathlib.Core.Bool.{Bool, true, false}
 use mathlib.Core.List.{List, [], _∷_, _++_, append-nil}
 use native.Mathlib.Omega.{arith}
-use lib.ListN.{length}
 use lib.Bits.{bitAnd, and-mask}
 use lib.Pow.{shr-shr}
 use lib.Dec.{eqb}
@@ -47,15 +46,6 @@ rest-off m b h e = let g : 8 - b ≡ suc (8 - (b + 1)) = omega arith in rw (g, e
 pub rest-end : (m b : ℕ) → 8 ≤ b → rest m b ≡ []
 unfolding rest
 rest-end m b h = let e : 8 - b ≡ 0 = omega arith in rw e
-
--- where a named slot is left, the last one is not passed
-pub rest-some : (m b : ℕ) → 0 < length (rest m b) → b < 8
-unfolding rest
-rest-some m b h = go (8 - b) refl h
-  where
-    go : (n : ℕ) → 8 - b ≡ n → 0 < length (keep (names m) (upFrom b n)) → b < 8
-    go zero e l = absurd (omega arith)
-    go (suc n) e l = omega arith
 
 upFrom-more : (i n : ℕ) → upFrom i (n + 1) ≡ upFrom i n ++ ((i + n) ∷ [])
 upFrom-more i zero = let e : i + 0 ≡ i = omega arith in rw e
@@ -102,7 +92,3 @@ below-all m b h e =
         let e : suc k + n ≡ suc (k + n) = omega arith in
         let g : i + suc k ≡ i + 1 + k = omega arith in
         rw (e, g) (ap (λ (l : List ℕ). i ∷ l) (upFrom-split (i + 1) k n))
-
-pub none-left : (l : List ℕ) → length l ≡ 0 → l ≡ []
-none-left [] e = refl
-none-left (x ∷ l) e = absurd (omega arith)

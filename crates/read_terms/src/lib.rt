@@ -32,21 +32,19 @@ fn past(mask: u16, slots: u16) -> bool
     false
 }
 
-// The terms of the slots that the mask names, as many as it has ones, each at its slot; 0 at the other slots.
-// What is left of the mask has the bit of slot b at 128.
+// The terms of the slots that the mask names, each at its slot, 0 at the other slots; the ones of the mask tell how many there are, and so where they end.
+// What is left of the mask has the bit of slot b at 128, and no slot is looked at once it is 0.
 fn terms(image: &[u8], p: usize, mask: u16, variables: u16) -> Eight
     requires { ⌜ (length (now image) ≤ 65536) × (p ≤ 8 * length (now image)) × (mask < 256) × (variables ≤ 8) ⌝ }
     ensures { λ r. ⌜ answer (r .walk) (namedBy mask (r .slots)) ≡ terms variables (slotsIn mask) (now (image .entry)) p ⌝ }
     ensures within { λ r. ⌜ Within (r .walk) (8 * length (now (image .entry))) ⌝ }
 {
     let mut xs = [0u16; 8];
-    let ones = u32::count_ones(mask as u32) as usize;
+    let mut at = p;
     let mut rest = mask % 256;
     let mut b = 0;
-    let mut i = 0;
-    while i < ones {
+    while rest != 0 {
         if 128 <= rest {
-            let at = p + 13 * i;
             let Field::Value(t) = read_fields::field_at(image, at, 13) else {
                 return Eight {
                     walk: Walk::Bad(NOT_THERE, at),
@@ -60,11 +58,12 @@ fn terms(image: &[u8], p: usize, mask: u16, variables: u16) -> Eight
                 };
             }
             xs[b] = t;
-            i += 1;
+            at += 13;
         }
         rest = rest * 2 % 256;
         b += 1;
     }
+    let ones = u32::count_ones(mask as u32) as usize;
     let end = p + 13 * ones;
     Eight {
         walk: Walk::Next(end),
