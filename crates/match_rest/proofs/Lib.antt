@@ -1,4 +1,5 @@
 -- Laws of the refresh of a run.
+pub mod SleepLaws
 pub mod VisitLaws
 pub mod EntryLaws
 pub mod RoundLaws

@@ -7,7 +7,7 @@ use mathlib.Core.List.{List, map}
 use native.Mathlib.Omega.{arith}
 use native.Mathlib.Decide.{ℕ-discrete}
 use lib.Bits.{bitAnd, bitOr}
-use lib.ListN.{length, getD, set, replicate, List·getD-eq-default}
+use lib.ListN.{length, getD, set, List·getD-eq-default}
 use lib.Seq.{getD-set-same, getD-set-other}
 use Rattle.meaning.specs.Base.{bit, if_then_else_, weigh, upFrom}
 use Rattle.meaning.specs.Image.{isTested}
@@ -25,6 +25,7 @@ use Rattle.match_rule.specs.Shut.{delayOf}
 use Rattle.match_beds.specs.Woken.{Woke, CalledBy}
 use Rattle.match_beds.specs.Moves.{Touch, Touches}
 use Rattle.match_rest.specs.Visits.{Visitable, Among, VisitedAll}
+use Rattle.match_rest.proofs.SleepLaws.{asleep-fails, asleep-as}
 use Rattle.match_beds.proofs.WakeLaws.{roomy-kept}
 use Rattle.laws.specs.MarkLaws.{entry-unmarked}
 use Rattle.match_sets.proofs.BitLaws.{bit-or}
@@ -35,11 +36,6 @@ use Rattle.match_sets.proofs.BitWalk.{bit-below}
 by-test : {C : Type 0} (t : Bool) → (t ≡ true → C) → (t ≡ false → C) → C
 by-test true f g = f refl
 by-test false f g = g refl
-
--- who sleeps does not match
-asleep-fails : {heads words state table sets : List ℕ} {k : ℕ} → Asleep heads words state table sets k → (clock : ℕ) → entryOf (ruleIn heads words k) (stateIn state clock) ≡ replicate 9 0
-asleep-fails {state = state} a clock =
-    elim (ℕ-discrete (getD state (delayOf (a .place)) 0) 0) [ yes shown ↦ a .shuts state clock (a .differs shown) | no pending ↦ a .hidden state clock pending ]
 
 -- ---- what waking keeps
 
@@ -83,18 +79,11 @@ module _ (heads words order : List ℕ) (n mark : ℕ) (before state table sets 
 
   asleep-still : (k : ℕ) → k < n → isAwake sets′ k ≡ false → Asleep heads words before table sets k → Asleep heads words state table sets′ k
   asleep-still k h no-one a =
-      record {
-        place = a .place;
-        value = a .value;
-        low = a .low;
-        shuts = a .shuts;
-        hidden = a .hidden;
-        differs = still k h no-one a;
-        bed = ⊎-elim (λ (b : inBed sets′ (bedOf (a .place) (a .value)) k ≡ true). b) (λ (w : isAwake sets′ k ≡ true). absurd (no-true (sym w ∙ no-one)))
-            (woke .stays (bedOf (a .place) (a .value)) k (omega arith) h (a .bed));
-        used = woke .kept (40 + a .place / 10) (a .place % 10) (omega arith) (omega (arith, a .low)) ∙ a .used;
-        zeros = a .zeros;
-      }
+      asleep-as a (still k h no-one a)
+      (⊎-elim (λ (b : inBed sets′ (bedOf (a .place) (a .value)) k ≡ true). b) (λ (w : isAwake sets′ k ≡ true). absurd (no-true (sym w ∙ no-one)))
+      (woke .stays (bedOf (a .place) (a .value)) k (omega arith) h (a .bed)))
+      (woke .kept (40 + a .place / 10) (a .place % 10) (omega arith) (omega (arith, a .low)) ∙ a .used)
+      refl
 
   sleeping-still : Sleeping heads words n before table sets → Sleeping heads words n state table sets′
   sleeping-still x k h =
@@ -280,17 +269,10 @@ lying-beside heads words order n state table s s′ size same ranked x =
       };
       sleeping = λ k h. ⊎-elim
           (λ (w : isAwake s k ≡ true). inl (same (k / 64) (k % 64) (λ f g. omega (arith, x .roomy .few)) ∙ w))
-          (λ (a : Asleep heads words state table s k). inr (record {
-            place = a .place;
-            value = a .value;
-            low = a .low;
-            shuts = a .shuts;
-            hidden = a .hidden;
-            differs = a .differs;
-            bed = same (52 + 256 * (k / 64) + bedOf (a .place) (a .value)) (k % 64) (λ f g. omega arith) ∙ a .bed;
-            used = same (40 + a .place / 10) (a .place % 10) (λ f g. omega (arith, a .low)) ∙ a .used;
-            zeros = a .zeros;
-          }))
+          (λ (a : Asleep heads words state table s k). inr (asleep-as a (a .differs)
+          (same (52 + 256 * (k / 64) + bedOf (a .place) (a .value)) (k % 64) (λ f g. omega arith) ∙ a .bed)
+          (same (40 + a .place / 10) (a .place % 10) (λ f g. omega (arith, a .low)) ∙ a .used)
+          refl))
           (x .sleeping k h);
     }
 

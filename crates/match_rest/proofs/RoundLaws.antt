@@ -25,6 +25,7 @@ use Rattle.match_table.specs.Entries.{withEntry}
 use Rattle.match_beds.specs.Beds.{isAwake, bedOf}
 use Rattle.match_rest.specs.Rest.{entryAt, Asleep, Sleeping}
 use Rattle.match_rest.specs.Visits.{Settled, LowPlace, Lies, Visited, Among, VisitedAll}
+use Rattle.match_rest.proofs.SleepLaws.{asleep-as}
 use Rattle.match_rest.proofs.EntryLaws.{with-length, entry-own, entry-other, first-own, first-other}
 
 -- ---- one rule
@@ -113,17 +114,10 @@ module _ (heads words order state : List ℕ) (k n : ℕ) (table table′ sets s
 
   asleep-on : (q : ℕ) → q < n → (q ≡ k → ⊥) → Asleep heads words state table sets q → Asleep heads words state table′ sets′ q
   asleep-on q l d a =
-      record {
-        place = a .place;
-        value = a .value;
-        low = a .low;
-        shuts = a .shuts;
-        hidden = a .hidden;
-        differs = a .differs;
-        bed = v .besides .beds (bedOf (a .place) (a .value)) q (omega arith) (omega (arith, ranked .few)) (a .bed);
-        used = v .besides .used (a .place) (a .low) (a .used);
-        zeros = same-entry q d ∙ a .zeros;
-      }
+      asleep-as a (a .differs)
+      (v .besides .beds (bedOf (a .place) (a .value)) q (omega arith) (omega (arith, ranked .few)) (a .bed))
+      (v .besides .used (a .place) (a .low) (a .used))
+      (same-entry q d)
 
   sleeping-on : isAwake sets k ≡ true → Sleeping heads words n state table sets → Sleeping heads words n state table′ sets′
   sleeping-on awake x q l =
