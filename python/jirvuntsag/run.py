@@ -160,7 +160,7 @@ class Run:
         state, table = self._kept
         if table[ENTRY_WORDS * number] == 1:
             return None
-        return first_miss(self._model.shape.rules[number].tests, state, self._model.vocabulary)
+        return first_miss(self._model, number, state)
 
     def step(self):
         """Makes one step: its event, or None if the model has halted."""
