@@ -5,6 +5,7 @@ import unittest
 from jirvuntsag import Miss, Model, calls, explain
 from jirvuntsag.matches import first_miss
 
+from . import ROOT
 from .packing import Rule, pack
 
 # two slots of one buffer, and a buffer beside it; the rule for a full goal would be chosen if it matched
@@ -175,3 +176,25 @@ class Requests(unittest.TestCase):
         run = Model(pack([2], [(1, 5, 0), (0,)], [((1, 5, 0), 0, 0)], [ask, use])).open()
         self.assertEqual([str(event) for event in run.steps(5)], ["50 fire 0"])
         self.assertEqual(str(run.why_not(1)), "slot 1 of buffer 1 is empty, and variable ?1 takes no empty slot")
+
+
+class Page(unittest.TestCase):
+    """What docs/MODELS.md says of empty slots."""
+
+    TEXT = (ROOT / "docs" / "MODELS.md").read_text(encoding="utf-8")
+
+    def opened(self, mark):
+        """A run of the model that the page has in a block of this mark."""
+        return Model.from_text(self.TEXT.split(f"\n```{mark}\n")[1].split("```")[0]).open()
+
+    def test_its_example_runs_as_it_says(self):
+        run = self.opened("empty-slots")
+        self.assertIn(f"`serve` does not match: `{run.why_not('serve')}`.", self.TEXT)
+        self.assertIn("At 50 ms `add-water` fires, and at 100 ms `serve`.", self.TEXT)
+        self.assertEqual([str(event) for event in run.steps(5)], ["50 fire add-water", "100 fire serve"])
+
+    def test_why_rules_of_the_first_example_do_not_match_its_opening(self):
+        run = self.opened("model")
+        told = {str(run.why_not(rule)) for rule in ("increment", "stop")}
+        self.assertEqual(told, {"count of goal is empty, and variable ?n takes no empty slot"})
+        self.assertIn(f"here `increment` and `stop` do not match, because `{told.pop()}`.", self.TEXT)
