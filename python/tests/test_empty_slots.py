@@ -2,7 +2,7 @@
 import itertools
 import unittest
 
-from jirvuntsag import Miss, Model, calls, explain
+from jirvuntsag import Miss, Model, Refused, Run, calls, explain
 from jirvuntsag.matches import first_miss
 
 from . import ROOT
@@ -151,6 +151,15 @@ class KeptTables(unittest.TestCase):
         number, count, table = calls.refresh_table(TWO_VARIABLES, self.STATE, 1, self.STALE)
         self.assertEqual((number, count, list(table)), (0, 1, [0] * 9))
         self.assertEqual(calls.run_steps(TWO_VARIABLES, self.STATE, table, 1)[:2], (9, 0))
+
+    def test_a_run_that_was_pickled_with_it(self):
+        # this is how a run of that time comes out of its pickle
+        old = Run(Model(TWO_VARIABLES), self.STATE, self.STALE)
+        for ask in old.run, old.copy().step:
+            with self.assertRaises(Refused) as refused:
+                ask()
+            self.assertEqual((refused.exception.number, refused.exception.made), (7, 0))
+        self.assertIsNone(old.model.at(old.words).step())
 
 
 class Requests(unittest.TestCase):
