@@ -1,10 +1,11 @@
 //! The generator is deterministic and reaches every answer.
 
-use std::collections::BTreeMap;
+use std::cmp::Reverse;
+use std::collections::{BTreeMap, BTreeSet};
 
 use jirvuntsag_generate::{broken_state, case, damage, each_seed, model, state, Damage};
 use jirvuntsag_packing::{pack, pack_with_fields};
-use jirvuntsag_reference::{open, refresh, run, trace, Kind, Model};
+use jirvuntsag_reference::{open, refresh, run, trace, Kind, Model, Rule, State, Term};
 
 #[test]
 fn equal_seeds_give_equal_cases() {
@@ -65,4 +66,103 @@ fn every_answer_comes_up() {
         assert!(answers.contains_key(&("run", number)), "run {number}");
     }
     assert!(fired > 1_000 && waited > 500 && long > 200, "{fired} {waited} {long}");
+}
+
+/// How a rule stands to the empty slots of a state.
+#[derive(Clone, Copy, PartialEq, Eq, Debug)]
+enum Stands {
+    /// It matches, and a variable has a value.
+    Filled,
+    /// It matches, and a constant nil stands on an empty slot.
+    Empty,
+    /// It would match if something were in the slots of its variables.
+    Lacks,
+    /// The same, and one variable stands on several empty slots.
+    LacksTwice,
+}
+
+impl Stands {
+    fn matches(self) -> bool {
+        matches!(self, Stands::Filled | Stands::Empty)
+    }
+}
+
+/// How a rule stands to a state, if that has to do with empty slots and with nothing else.
+fn stand(model: &Model, (number, rule): (usize, Rule), state: &State) -> Option<Stands> {
+    let (mut filled, mut lacking, mut constant) = (*state, [0; 8], false);
+    for test in rule.tests {
+        for (slot, term) in test.pattern.named() {
+            let value = &mut filled.buffers[usize::from(test.buffer)].slots[slot];
+            match term {
+                Term::Symbol(symbol) => constant |= symbol == 0,
+                Term::Variable(variable) if *value == 0 => {
+                    *value = 4_000;
+                    lacking[usize::from(variable)] += 1;
+                }
+                Term::Variable(_) => (),
+            }
+        }
+    }
+    match lacking.into_iter().max()? {
+        _ if model.fresh_entry(number, &filled)[0] == 0 => None,
+        0 if constant => Some(Stands::Empty),
+        0 => (rule.variables > 0).then_some(Stands::Filled),
+        1 => Some(Stands::Lacks),
+        _ => Some(Stands::LacksTwice),
+    }
+}
+
+/// How each rule of a model stands to a state.
+fn stands(model: &Model, state: &State) -> Vec<Option<Stands>> {
+    model.rules().enumerate().map(|rule| stand(model, rule, state)).collect()
+}
+
+/// Notes rules that match or do not match after one of a few steps, since that filled or emptied a slot.
+fn note_changes(model: &Model, mut state: State, seen: &mut BTreeSet<String>) {
+    for _ in 0..10 {
+        let before = stands(model, &state);
+        state = model.run_fresh(state, 1).1;
+        for change in before.into_iter().zip(stands(model, &state)) {
+            match change {
+                (Some(old), Some(new)) if !old.matches() && new.matches() => seen.insert("a slot is filled".into()),
+                (Some(old), Some(new)) if old.matches() && !new.matches() => seen.insert("a slot is emptied".into()),
+                _ => false,
+            };
+        }
+    }
+}
+
+/// Notes kept entries that have nil for a variable, and whether one of them is chosen.
+fn note_kept(model: &Model, table: &[u16], seen: &mut BTreeSet<String>) {
+    let mut matching: Vec<(usize, Rule)> =
+        model.rules().enumerate().filter(|(number, _)| table[9 * number] == 1).collect();
+    matching.sort_by_key(|(number, rule)| (Reverse(rule.utility), *number));
+    for (rank, (number, rule)) in matching.iter().enumerate() {
+        if table[9 * number + 1..][..usize::from(rule.variables)].contains(&0) {
+            seen.insert(if rank == 0 { "nil is chosen" } else { "nil is kept" }.into());
+        }
+    }
+}
+
+#[test]
+fn both_sides_of_an_empty_slot_come_up() {
+    let mut cases: BTreeMap<String, u32> = BTreeMap::new();
+    each_seed(20_000, 3_000, |seed, _| {
+        let case = case(seed);
+        let Ok(model) = Model::decode(&case.image) else { return };
+        if model.run(case.state, &mut case.table.clone(), 0).0 != 0 {
+            return;
+        }
+        let stands = stands(&model, &case.state);
+        let mut seen: BTreeSet<String> = stands.iter().flatten().map(|one| format!("{one:?}")).collect();
+        note_changes(&model, case.state, &mut seen);
+        note_kept(&model, &case.table, &mut seen);
+        seen.into_iter().for_each(|what| *cases.entry(what).or_default() += 1);
+    });
+    println!("{cases:?}");
+    let often = [("Filled", 200), ("Empty", 100), ("Lacks", 50), ("LacksTwice", 10)];
+    let changes = [("a slot is filled", 10), ("a slot is emptied", 20)];
+    for (what, least) in often.into_iter().chain(changes).chain([("nil is kept", 20), ("nil is chosen", 20)]) {
+        assert!(cases.get(what).is_some_and(|&count| count >= least), "{what}: {cases:?}");
+    }
 }
