@@ -7,6 +7,9 @@ use jirvuntsag_text::Names;
 
 use super::engine::State;
 
+/// The symbol that an empty slot holds.
+const NIL: u16 = 0;
+
 /// The first of a rule's tests that does not hold in a state, in words; nothing if all hold.
 pub fn first_miss(tests: &[TestSpec], state: &State, names: &Names) -> Option<String> {
     let mut values = BTreeMap::new();
@@ -26,11 +29,14 @@ fn miss(test: &TestSpec, state: &State, names: &Names, values: &mut BTreeMap<u16
     }
     test.pattern.named().find_map(|(slot, term)| {
         let found = held.slots[slot];
+        let slot = &names.types[usize::from(test.isa)].slots[slot];
         let wanted = match term {
             Term::Symbol(number) => number,
+            Term::Variable(_) if found == NIL => {
+                return Some(format!("{slot} of {buffer} is empty, and a variable takes no empty slot"));
+            }
             Term::Variable(number) => *values.entry(number).or_insert(found),
         };
-        let slot = &names.types[usize::from(test.isa)].slots[slot];
         (found != wanted)
             .then(|| format!("{slot} of {buffer} is {}, not {}", names.symbol(found), names.symbol(wanted)))
     })
