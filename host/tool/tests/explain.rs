@@ -114,8 +114,8 @@ rule half
 ";
     let told = explained(&[&file("empty.model", text), "--steps", "0"]);
     let wanted = "
-  full  fired never; does not match: b of goal is empty, and a variable takes no empty slot
-  same  fired never; does not match: b of goal is empty, and a variable takes no empty slot
+  full  fired never; does not match: b of goal is empty, and variable ?y takes no empty slot
+  same  fired never; does not match: b of goal is empty, and variable ?x takes no empty slot
   none  fired never; does not match: a of goal is x, not nil
   half  fired never; matches
 ";
