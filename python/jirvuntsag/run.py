@@ -28,7 +28,8 @@ def _alone(method):
 
 
 class Run:
-    """A run, made by `Model.open` or `Model.at`. Its table is always the fresh one, so that number 7 never comes.
+    """A run, made by `Model.open` or `Model.at`. Its table is always the fresh one, so that number 7 never comes
+    (but for a run that was pickled before request 2026-01: `run.model.at(run.words)` goes on from there).
 
     A model that halts is no error: `step` gives None, `steps` ends, `run` says 9. A clock that would pass its largest is
     one: `Refused`, by 8, after the steps that could be made.

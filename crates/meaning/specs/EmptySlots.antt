@@ -21,10 +21,15 @@ nil = Symbol 0
 abbrev goal : ℕ → ℕ → State
 goal x y = both (holds x y 0) (nilAfter 0)
 
--- a rule on the goal with these two terms; one that asks memory for the goal's first slot, and nil in the second
+-- a rule on the goal's two slots with these terms
 abbrev wants : Term → Term → Rule
 wants t u = rule (pos 9) (tests1 0 (two t u) ∷ []) []
 
+-- a rule with one variable in the first slots of two buffers
+abbrev across : Rule
+across = rule (pos 0) (tests1 0 (one v0) ∷ tests1 1 (one v0) ∷ []) []
+
+-- a rule that asks memory for the goal's first slot, and nil in the second
 abbrev asksEmpty : Rule
 asksEmpty = rule (pos 0) (tests1 0 (one v0) ∷ []) (act 1 (Request 1 (two v0 nil)) ∷ [])
 
@@ -35,6 +40,7 @@ rows =
     row (entryOf (wants v0 v1) (goal 5 6)) (1 ∷ 5 ∷ 6 ∷ replicate 6 0)
     ∷ row (entryOf (wants v0 v1) (goal 5 0)) (replicate 9 0)
     ∷ row (entryOf (wants v0 v1) (goal 0 6)) (replicate 9 0)
+    ∷ row (entryOf (wants v0 v1) (goal 0 0)) (replicate 9 0)
     -- so a rule of lower utility fires on it
     ∷ row (take 2 (fresh (model [] (wants v0 v1 ∷ idle (pos 0) ∷ [])) (goal 5 6))) (1 ∷ 0 ∷ [])
     ∷ row (take 2 (fresh (model [] (wants v0 v1 ∷ idle (pos 0) ∷ [])) (goal 5 0))) (1 ∷ 1 ∷ [])
@@ -47,8 +53,12 @@ rows =
     ∷ row (entryOf twice (goal 5 0)) (replicate 9 0)
     ∷ row (entryOf twice (goal 0 5)) (replicate 9 0)
     ∷ row (entryOf twice (goal 5 5)) (1 ∷ 5 ∷ replicate 7 0)
-    -- and in the slots of two buffers, of which the second is empty
-    ∷ row (entryOf swaps (both (holds 5 6 0) (holds 7 8 0))) (1 ∷ 5 ∷ 7 ∷ replicate 6 0)
+    -- one variable in two buffers: both slots filled, either nil, both nil
+    ∷ row (entryOf across (both (holds 5 6 0) (holds 5 8 0))) (1 ∷ 5 ∷ replicate 7 0)
+    ∷ row (entryOf across (both (holds 5 6 0) (holds 0 8 0))) (replicate 9 0)
+    ∷ row (entryOf across (both (holds 0 6 0) (holds 5 8 0))) (replicate 9 0)
+    ∷ row (entryOf across (both (holds 0 6 0) (holds 0 8 0))) (replicate 9 0)
+    -- two variables in two buffers: the second slot nil
     ∷ row (entryOf swaps (both (holds 5 6 0) (holds 0 8 0))) (replicate 9 0)
     -- a slot that no test names may be empty
     ∷ row (entryOf asks (goal 5 0)) (1 ∷ 5 ∷ replicate 7 0)

@@ -1,5 +1,5 @@
 -- The published semantics as relations, close to its own text (D. Gall, T. Frühwirth, A Refined Operational Semantics for ACT-R), with the points
--- that document 01 decides. No step, match or choice is computed here; that the steps of `meaning` are these transitions is said in Semantics.
+-- that document 01 and change request 2026-01 decide. No step, match or choice is computed here; that steps of `meaning` are these transitions says Semantics.
 use mathlib.Core.Path.{_≡_}
 use mathlib.Core.Bool.{true, false}
 use mathlib.Core.List.{List, [], _∷_, List·Memᴰ}

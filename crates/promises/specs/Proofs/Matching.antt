@@ -65,7 +65,7 @@ places-bound : (v : ℕ → ℕ) (s : State) (ts : List Test) → ((t : Test) �
 places-bound v s ts h = places-all (λ p. p .value ≡ standsFor v (p .term)) s ts (λ t k n j. h t k .valued n j)
 
 -- a term takes a value, if it is no variable or the value no nil
-takes-filled : (t : Term) (x : ℕ) → ((w : ℕ) → t ≡ Variable w → x ≡ 0 → ⊥) → takes t x ≡ true
+pub takes-filled : (t : Term) (x : ℕ) → ((w : ℕ) → t ≡ Variable w → x ≡ 0 → ⊥) → takes t x ≡ true
 takes-filled (Symbol y) x h = refl
 takes-filled (Variable w) x h = ap not (ne-eqb x 0 (h w refl))
 
