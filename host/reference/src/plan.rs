@@ -127,15 +127,15 @@ impl Plan {
                     None if rule.gate.care == 0 => rule.gate = Gate { place, care: u16::MAX, symbol },
                     None => equals.push(Equal { place, symbol }),
                     Some(number) => match &mut rule.sources[number] {
-                        source @ &mut NOWHERE => *source = place,
+                        source @ &mut NOWHERE => {
+                            *source = place;
+                            self.binders[usize::from(place)].insert(rank);
+                            self.bound |= 1 << place;
+                        }
                         source => sames.push(Same { place, first: *source }),
                     },
                 }
             }
-        }
-        for &source in rule.sources.iter().take(usize::from(rule.variables)) {
-            self.binders[usize::from(source)].insert(rank);
-            self.bound |= 1 << source;
         }
         rule.equals = (first_equal as u16, equals.len() as u16);
         rule.sames = (first_same as u16, sames.len() as u16);
