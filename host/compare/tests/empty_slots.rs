@@ -27,28 +27,43 @@ fn steps(engine: &Engine, image: &[u8], asked: u16) -> (Vec<Kind>, State) {
     (events.iter().map(|event| event.kind).collect(), after)
 }
 
+/// Holds both engines to whether a rule with this test of the goal fires on a goal with these slots.
+fn assert_fires(test: &str, goal: &str, fires: bool) {
+    let image = image(&format!("buffer goal pair {goal}\nrule r\n =goal> pair {test}\n ==>\n -goal>"));
+    let wanted = if fires { vec![Kind::Fire(0)] } else { vec![] };
+    for engine in BOTH {
+        assert_eq!(steps(engine, &image, 2).0, wanted, "{}: {test} on {goal}", engine.name);
+    }
+}
+
 #[test]
 fn a_half_filled_goal_sets_off_no_rule_for_a_full_one() {
-    let cases = [
-        ("a ?x b ?y", "a 1 b 2", true),
-        ("a ?x b ?y", "a 1", false),
-        ("a ?x b ?y", "b 2", false),
-        ("a ?x b ?y", "", false),
-        ("a ?x", "a 1", true),
-        ("a ?x b nil", "a 1", true),
-        ("a ?x b nil", "a 1 b 2", false),
-        ("a nil b nil", "", true),
-        ("a ?x b ?x", "a 1 b 1", true),
-        ("a ?x b ?x", "", false),
-        ("a ?x b ?x", "a 1", false),
-        ("a ?x b ?x", "b 1", false),
-    ];
-    for (test, goal, fires) in cases {
-        let image = image(&format!("buffer goal pair {goal}\nrule r\n =goal> pair {test}\n ==>\n -goal>"));
-        let wanted = if fires { vec![Kind::Fire(0)] } else { vec![] };
-        for engine in BOTH {
-            assert_eq!(steps(engine, &image, 2).0, wanted, "{}: {test} on {goal}", engine.name);
-        }
+    for (goal, fires) in [("a 1 b 2", true), ("a 1", false), ("b 2", false), ("", false)] {
+        assert_fires("a ?x b ?y", goal, fires);
+    }
+}
+
+#[test]
+fn a_slot_that_no_test_names_may_be_empty() {
+    for (goal, fires) in [("a 1", true), ("a 1 b 2", true), ("b 2", false)] {
+        assert_fires("a ?x", goal, fires);
+    }
+}
+
+#[test]
+fn a_constant_nil_tests_for_an_empty_slot() {
+    for (goal, fires) in [("a 1", true), ("a 1 b 2", false), ("", false), ("b 2", false)] {
+        assert_fires("a ?x b nil", goal, fires);
+    }
+    for (goal, fires) in [("", true), ("a 1", false), ("b 2", false), ("a 1 b 2", false)] {
+        assert_fires("a nil b nil", goal, fires);
+    }
+}
+
+#[test]
+fn a_variable_in_two_slots_is_filled_in_both() {
+    for (goal, fires) in [("a 1 b 1", true), ("a 1 b 2", false), ("", false), ("a 1", false), ("b 1", false)] {
+        assert_fires("a ?x b ?x", goal, fires);
     }
 }
 

@@ -7,6 +7,8 @@ use jirvuntsag_packing::{ActionSpec, RuleSpec, Term, TestSpec};
 use jirvuntsag_reference::{Buffer, Kind, Model};
 
 const NIL: Term = Term::Symbol(0);
+/// The first words of an entry that does not match.
+const NONE: [u16; 3] = [0; 3];
 /// A goal with its first slot filled alone.
 const HALF: Buffer = Buffer { isa: 1, slots: [3, 0, 0, 0, 0, 0, 0, 0], delay: 0 };
 
@@ -16,30 +18,30 @@ fn goal_rule(utility: i16, named: &[(usize, Term)], actions: Vec<ActionSpec>) ->
     rule(utility, variables as u8, vec![TestSpec::new(0, 1, named)], actions)
 }
 
-#[test]
-fn a_half_filled_goal_matches_no_rule_for_a_full_one() {
-    // The terms of the two slots, what the slots hold, and the first words of the entry.
-    let cases = [
-        ([V0, V1], [3, 4], [1, 3, 4]),
-        ([V0, V1], [3, 0], [0, 0, 0]),
-        ([V0, V1], [0, 4], [0, 0, 0]),
-        ([V0, V1], [0, 0], [0, 0, 0]),
-        ([V0, NIL], [3, 0], [1, 3, 0]),
-        ([V0, NIL], [3, 4], [0, 0, 0]),
-        ([V0, NIL], [0, 0], [0, 0, 0]),
-        ([NIL, V0], [0, 4], [1, 4, 0]),
-        ([NIL, NIL], [0, 0], [1, 0, 0]),
-        ([NIL, NIL], [0, 4], [0, 0, 0]),
-        ([V0, V0], [4, 4], [1, 4, 0]),
-        ([V0, V0], [0, 0], [0, 0, 0]),
-        ([V0, V0], [4, 0], [0, 0, 0]),
-        ([V0, V0], [0, 4], [0, 0, 0]),
-    ];
-    for ([first, second], slots, wanted) in cases {
-        let model = model(1, &[], vec![goal_rule(0, &[(0, first), (1, second)], vec![])]);
+/// Holds a rule with these terms in the goal's two slots to what it makes of slots: the first words of its entry.
+fn assert_entries([first, second]: [Term; 2], cases: &[([u16; 2], [u16; 3])]) {
+    let model = model(1, &[], vec![goal_rule(0, &[(0, first), (1, second)], vec![])]);
+    for (slots, wanted) in cases {
         let table = model.fresh_table(&state(0, &[buffer(1, slots[0], slots[1], 0)]));
         assert_eq!((&table[..3], &table[3..]), (&wanted[..], &[0; 6][..]), "{first:?} {second:?} {slots:?}");
     }
+}
+
+#[test]
+fn a_half_filled_goal_matches_no_rule_for_a_full_one() {
+    assert_entries([V0, V1], &[([3, 4], [1, 3, 4]), ([3, 0], NONE), ([0, 4], NONE), ([0, 0], NONE)]);
+}
+
+#[test]
+fn a_constant_nil_tests_for_an_empty_slot() {
+    assert_entries([V0, NIL], &[([3, 0], [1, 3, 0]), ([3, 4], NONE), ([0, 0], NONE), ([0, 4], NONE)]);
+    assert_entries([NIL, V0], &[([0, 4], [1, 4, 0]), ([3, 4], NONE), ([0, 0], NONE), ([3, 0], NONE)]);
+    assert_entries([NIL, NIL], &[([0, 0], [1, 0, 0]), ([0, 4], NONE), ([3, 0], NONE), ([3, 4], NONE)]);
+}
+
+#[test]
+fn a_variable_in_two_slots_is_filled_in_both() {
+    assert_entries([V0, V0], &[([4, 4], [1, 4, 0]), ([3, 4], NONE), ([0, 0], NONE), ([4, 0], NONE), ([0, 4], NONE)]);
 }
 
 #[test]
