@@ -5,7 +5,7 @@ use std::collections::{BTreeMap, BTreeSet};
 
 use jirvuntsag_generate::{broken_state, case, damage, each_seed, model, state, Damage};
 use jirvuntsag_packing::{pack, pack_with_fields};
-use jirvuntsag_reference::{open, refresh, run, trace, Kind, Model, Rule, State, Term};
+use jirvuntsag_reference::{open, refresh, run, trace, Deed, Event, Kind, Model, Rule, State, Term};
 
 #[test]
 fn equal_seeds_give_equal_cases() {
@@ -77,8 +77,10 @@ enum Stands {
     Empty,
     /// It would match if something were in the slots of its variables.
     Lacks,
-    /// The same, and one variable stands on several empty slots.
+    /// It lacks that, and one variable stands on several empty slots.
     LacksTwice,
+    /// It lacks that, and one variable stands on an empty slot and on a filled one.
+    LacksHalf,
 }
 
 impl Stands {
@@ -89,26 +91,28 @@ impl Stands {
 
 /// How a rule stands to a state, if that has to do with empty slots and with nothing else.
 fn stand(model: &Model, (number, rule): (usize, Rule), state: &State) -> Option<Stands> {
-    let (mut filled, mut lacking, mut constant) = (*state, [0; 8], false);
+    let (mut filled, mut lacking, mut values, mut constant) = (*state, Vec::new(), [0; 8], false);
     for test in rule.tests {
+        let buffer = usize::from(test.buffer);
         for (slot, term) in test.pattern.named() {
-            let value = &mut filled.buffers[usize::from(test.buffer)].slots[slot];
-            match term {
-                Term::Symbol(symbol) => constant |= symbol == 0,
-                Term::Variable(variable) if *value == 0 => {
-                    *value = 4_000;
-                    lacking[usize::from(variable)] += 1;
-                }
-                Term::Variable(_) => (),
+            match (term, state.buffers[buffer].slots[slot]) {
+                (Term::Symbol(symbol), _) => constant |= symbol == 0,
+                (Term::Variable(variable), 0) => lacking.push((usize::from(variable), buffer, slot)),
+                (Term::Variable(variable), value) => values[usize::from(variable)] = value,
             }
         }
     }
-    match lacking.into_iter().max()? {
+    for &(variable, buffer, slot) in &lacking {
+        filled.buffers[buffer].slots[slot] = if values[variable] == 0 { 4_000 } else { values[variable] };
+    }
+    let times = |variable| lacking.iter().filter(|place| place.0 == variable).count();
+    match lacking.iter().map(|place| times(place.0)).max() {
         _ if model.fresh_entry(number, &filled)[0] == 0 => None,
-        0 if constant => Some(Stands::Empty),
-        0 => (rule.variables > 0).then_some(Stands::Filled),
-        1 => Some(Stands::Lacks),
-        _ => Some(Stands::LacksTwice),
+        None if constant => Some(Stands::Empty),
+        None => (rule.variables > 0).then_some(Stands::Filled),
+        Some(_) if lacking.iter().any(|place| values[place.0] != 0) => Some(Stands::LacksHalf),
+        Some(1) => Some(Stands::Lacks),
+        Some(_) => Some(Stands::LacksTwice),
     }
 }
 
@@ -117,17 +121,39 @@ fn stands(model: &Model, state: &State) -> Vec<Option<Stands>> {
     model.rules().enumerate().map(|rule| stand(model, rule, state)).collect()
 }
 
-/// Notes rules that match or do not match after one of a few steps, since that filled or emptied a slot.
-fn note_changes(model: &Model, mut state: State, seen: &mut BTreeSet<String>) {
+/// Notes what the steps of a short run have to do with empty slots.
+fn note_steps(model: &Model, mut state: State, seen: &mut BTreeSet<String>) {
     for _ in 0..10 {
         let before = stands(model, &state);
-        state = model.run_fresh(state, 1).1;
-        for change in before.into_iter().zip(stands(model, &state)) {
-            match change {
-                (Some(old), Some(new)) if !old.matches() && new.matches() => seen.insert("a slot is filled".into()),
-                (Some(old), Some(new)) if old.matches() && !new.matches() => seen.insert("a slot is emptied".into()),
-                _ => false,
-            };
+        let (_, after, events) = model.trace(state, &mut model.fresh_table(&state), 1);
+        note_changes(&before, &stands(model, &after), seen);
+        if let [Event { kind: Kind::Fire(number), .. }] = events[..] {
+            note_requests(model, number, &after, seen);
+        }
+        state = after;
+    }
+}
+
+/// Notes rules that match or do not match after a step, since that filled or emptied a slot.
+fn note_changes(before: &[Option<Stands>], after: &[Option<Stands>], seen: &mut BTreeSet<String>) {
+    for change in before.iter().zip(after) {
+        match change {
+            (Some(old), Some(new)) if !old.matches() && new.matches() => seen.insert("a slot is filled".into()),
+            (Some(old), Some(new)) if old.matches() && !new.matches() => seen.insert("a slot is emptied".into()),
+            _ => false,
+        };
+    }
+}
+
+/// Notes facts with an empty slot that the requests of a rule have brought, which fired in the step to this state.
+fn note_requests(model: &Model, number: u16, after: &State, seen: &mut BTreeSet<String>) {
+    let actions = model.rules().nth(usize::from(number)).into_iter().flat_map(|rule| rule.actions);
+    for action in actions.filter(|action| matches!(action.deed, Deed::Request(_))) {
+        let found = &after.buffers[usize::from(action.buffer)];
+        for slot in (0..model.slot_count(found.isa)).filter(|&slot| found.slots[slot] == 0) {
+            // A variable has a value, so that it is a constant nil by which an empty slot is named.
+            let named = action.pattern.named().any(|(one, _)| one == slot);
+            seen.insert(if named { "an empty slot is asked for" } else { "an empty slot is brought" }.into());
         }
     }
 }
@@ -155,14 +181,25 @@ fn both_sides_of_an_empty_slot_come_up() {
         }
         let stands = stands(&model, &case.state);
         let mut seen: BTreeSet<String> = stands.iter().flatten().map(|one| format!("{one:?}")).collect();
-        note_changes(&model, case.state, &mut seen);
+        note_steps(&model, case.state, &mut seen);
         note_kept(&model, &case.table, &mut seen);
         seen.into_iter().for_each(|what| *cases.entry(what).or_default() += 1);
     });
     println!("{cases:?}");
-    let often = [("Filled", 200), ("Empty", 100), ("Lacks", 50), ("LacksTwice", 10)];
-    let changes = [("a slot is filled", 10), ("a slot is emptied", 20)];
-    for (what, least) in often.into_iter().chain(changes).chain([("nil is kept", 20), ("nil is chosen", 20)]) {
+    let floors = [
+        ("Filled", 200),
+        ("Empty", 100),
+        ("Lacks", 50),
+        ("LacksTwice", 10),
+        ("LacksHalf", 20),
+        ("a slot is filled", 10),
+        ("a slot is emptied", 20),
+        ("an empty slot is brought", 50),
+        ("an empty slot is asked for", 20),
+        ("nil is kept", 20),
+        ("nil is chosen", 20),
+    ];
+    for (what, least) in floors {
         assert!(cases.get(what).is_some_and(|&count| count >= least), "{what}: {cases:?}");
     }
 }
