@@ -18,15 +18,17 @@ use Rattle.meaning.specs.Image.{isVariable, slotsIn}
 use Rattle.meaning.specs.Match.{Place, place, places, valueIn, agrees, agreed, shows, matches, entryOf}
 use Rattle.laws.specs.MatchLaws.{stands, stands-more, value-seen, value-new, value-other, agrees-seen, agrees-new, agreedFrom, agreed-walk}
 use Rattle.layout.specs.Rows.{rowsIn, wordTerm, namedIn, testsIn}
-use Rattle.match_rule.specs.Run.{Vars, Run, stop, on, thenOn, termRun, termsRun, testRun, testsRun, noVars, entryWords}
+use Rattle.match_rule.specs.Run.{Vars, Run, stop, on, thenOn, bind, termRun, termsRun, testRun, testsRun, noVars, entryWords}
 use Rattle.match_rule.proofs.TestLaws.{testsFrom}
 
 -- ---- what the code keeps of the places that it has passed
 
 pub record Keeps (v : Vars) (before : List Place) : Type 0 where
-  pub eight : length v ≡ 8
-  pub which : (k : ℕ) → k < 8 → eqb (getD v k 0) 0 ≡ not (stands before k)
-  pub what : (k : ℕ) → k < 8 → getD v k 0 ≡ valueIn before k
+  pub eight-b : length (v .bound) ≡ 8
+  pub eight-v : length (v .values) ≡ 8
+  pub which : (k : ℕ) → k < 8 → eqb (getD (v .bound) k 0) 0 ≡ not (stands before k)
+  pub what : (k : ℕ) → k < 8 → getD (v .values) k 0 ≡ valueIn before k
+  pub filled : (k : ℕ) → k < 8 → stands before k ≡ true → eqb (valueIn before k) 0 ≡ false
 
 abbrev pub placeOf : Term → ℕ → Place
 placeOf t x = record { term = t; value = x }
@@ -35,9 +37,11 @@ keeps-same : (v : Vars) (before : List Place) (p : Place) → ((k : ℕ) → sta
     → Keeps v before → Keeps v (before ++ (p ∷ []))
 keeps-same v before p s w k =
     record {
-      eight = k .eight;
+      eight-b = k .eight-b;
+      eight-v = k .eight-v;
       which = λ j h. k .which j h ∙ sym (ap not (s j));
       what = λ j h. k .what j h ∙ sym (w j);
+      filled = λ j h t. ap (λ (n : ℕ). eqb n 0) (w j) ∙ k .filled j h (sym (s j) ∙ t);
     }
 
 keeps-symbol : (v : Vars) (before : List Place) (y x : ℕ) → Keeps v before → Keeps v (before ++ (placeOf (Symbol y) x ∷ []))
@@ -61,24 +65,38 @@ keeps-seen v before i x s k =
     kept j false t = value-other before (placeOf (Variable i) x) j t
 
 keeps-new : (v : Vars) (before : List Place) (i x : ℕ) → i < 8 → eqb x 0 ≡ false → stands before i ≡ false → Keeps v before
-    → Keeps (set v i x) (before ++ (placeOf (Variable i) x ∷ []))
-keeps-new v before i x l filled s k =
+    → Keeps (bind i x v) (before ++ (placeOf (Variable i) x ∷ []))
+keeps-new v before i x l is-filled s k =
     record {
-      eight = length-set v i x ∙ k .eight;
+      eight-b = length-set (v .bound) i 1 ∙ k .eight-b;
+      eight-v = length-set (v .values) i x ∙ k .eight-v;
       which = λ j h. stood j h (eqb j i) refl ∙ sym (ap not (stands-more before (placeOf (Variable i) x) j));
       what = λ j h. kept j h (eqb j i) refl;
+      filled = λ j h t. there j h t (eqb j i) refl;
     }
   where
-    own : getD (set v i x) i 0 ≡ x
-    own = getD-set-same v i x 0 (omega (arith, k .eight))
+    stood : (j : ℕ) → j < 8 → (t : Bool) → eqb j i ≡ t → eqb (getD (set (v .bound) i 1) j 0) 0 ≡ not (stands before j || eqb j i)
+    stood j h true t =
+        let q : j ≡ i = eqb-true j i t in
+        let n : i < length (v .bound) = omega (arith, k .eight-b) in
+        rw (t, or-true) (rw q (ap (λ (m : ℕ). eqb m 0) (getD-set-same (v .bound) i 1 0 n)))
+    stood j h false t = rw (t, or-false) (ap (λ (m : ℕ). eqb m 0) (getD-set-other (v .bound) i j 1 0 (eqb-false j i t)) ∙ k .which j h)
 
-    stood : (j : ℕ) → j < 8 → (t : Bool) → eqb j i ≡ t → eqb (getD (set v i x) j 0) 0 ≡ not (stands before j || eqb j i)
-    stood j h true t = let q : j ≡ i = eqb-true j i t in rw (t, or-true) (rw q (ap (λ (m : ℕ). eqb m 0) own ∙ filled))
-    stood j h false t = rw (t, or-false) (ap (λ (m : ℕ). eqb m 0) (getD-set-other v i j x 0 (eqb-false j i t)) ∙ k .which j h)
+    own : valueIn (before ++ (placeOf (Variable i) x ∷ [])) i ≡ x
+    own = value-new before (placeOf (Variable i) x) i s ∙ (rw (eq-eqb i i refl))
 
-    kept : (j : ℕ) → j < 8 → (t : Bool) → eqb j i ≡ t → getD (set v i x) j 0 ≡ valueIn (before ++ (placeOf (Variable i) x ∷ [])) j
-    kept j h true t = let q : j ≡ i = eqb-true j i t in rw q (own ∙ sym (value-new before (placeOf (Variable i) x) i s ∙ (rw (eq-eqb i i refl))))
-    kept j h false t = getD-set-other v i j x 0 (eqb-false j i t) ∙ k .what j h ∙ sym (value-other before (placeOf (Variable i) x) j t)
+    kept : (j : ℕ) → j < 8 → (t : Bool) → eqb j i ≡ t → getD (set (v .values) i x) j 0 ≡ valueIn (before ++ (placeOf (Variable i) x ∷ [])) j
+    kept j h true t =
+        let q : j ≡ i = eqb-true j i t in
+        let n : i < length (v .values) = omega (arith, k .eight-v) in
+        rw q (getD-set-same (v .values) i x 0 n ∙ sym own)
+    kept j h false t = getD-set-other (v .values) i j x 0 (eqb-false j i t) ∙ k .what j h ∙ sym (value-other before (placeOf (Variable i) x) j t)
+
+    there : (j : ℕ) → j < 8 → stands (before ++ (placeOf (Variable i) x ∷ [])) j ≡ true → (t : Bool) → eqb j i ≡ t → eqb (valueIn (before ++ (placeOf (Variable i) x ∷ [])) j) 0 ≡ false
+    there j h stood true t = let q : j ≡ i = eqb-true j i t in rw q (ap (λ (n : ℕ). eqb n 0) own ∙ is-filled)
+    there j h stood false t =
+        let earlier : stands before j ≡ true = sym (stands-more before (placeOf (Variable i) x) j ∙ ap (λ (b : Bool). stands before j || b) t ∙ or-false (stands before j)) ∙ stood in
+        ap (λ (n : ℕ). eqb n 0) (value-other before (placeOf (Variable i) x) j t) ∙ k .filled j h earlier
 
 -- ---- how a run stands to a list of places
 
@@ -112,28 +130,27 @@ term-comes x (Symbol y) v before l k = go (eqb x y) refl
     go : (b : Bool) → eqb x y ≡ b → Comes (if b then on v else stop) (eqb x y) (before ++ (placeOf (Symbol y) x ∷ []))
     go true e = (e, keeps-symbol v before y x k)
     go false e = e
-term-comes x (Variable i) v before l k = go (eqb (getD v i 0) 0) refl
+term-comes x (Variable i) v before l k = go (eqb (getD (v .bound) i 0) 0) refl
   where
     p : Place
     p = placeOf (Variable i) x
 
-    new : (b : Bool) → eqb x 0 ≡ b → stands before i ≡ false → Comes (if b then stop else on (set v i x)) (agrees (before ++ (p ∷ [])) p) (before ++ (p ∷ []))
+    new : (b : Bool) → eqb x 0 ≡ b → stands before i ≡ false → Comes (if b then stop else on (bind i x v)) (agrees (before ++ (p ∷ [])) p) (before ++ (p ∷ []))
     new true e s = agrees-new before i x s ∙ ap not e
     new false e s = (agrees-new before i x s ∙ ap not e, keeps-new v before i x l e s k)
 
     -- what the place asks once its variable has a value: that one
-    asked : eqb (getD v i 0) 0 ≡ false → stands before i ≡ true → agrees (before ++ (p ∷ [])) p ≡ eqb (getD v i 0) x
-    asked f s = agrees-seen before i x s ∙ ap (λ (y : ℕ). not (eqb x 0) && eqb x y) (sym (k .what i l)) ∙ as-filled x (getD v i 0) f
+    asked : stands before i ≡ true → agrees (before ++ (p ∷ [])) p ≡ eqb (getD (v .values) i 0) x
+    asked s = agrees-seen before i x s ∙ as-filled x (valueIn before i) (k .filled i l s) ∙ ap (λ (y : ℕ). eqb y x) (sym (k .what i l))
 
-    seen : (b : Bool) → eqb (getD v i 0) x ≡ b → eqb (getD v i 0) 0 ≡ false → stands before i ≡ true
-        → Comes (if b then on v else stop) (agrees (before ++ (p ∷ [])) p) (before ++ (p ∷ []))
-    seen true e f s = (asked f s ∙ e, keeps-seen v before i x s k)
-    seen false e f s = asked f s ∙ e
+    seen : (b : Bool) → eqb (getD (v .values) i 0) x ≡ b → stands before i ≡ true → Comes (if b then on v else stop) (agrees (before ++ (p ∷ [])) p) (before ++ (p ∷ []))
+    seen true e s = (asked s ∙ e, keeps-seen v before i x s k)
+    seen false e s = asked s ∙ e
 
-    go : (b : Bool) → eqb (getD v i 0) 0 ≡ b
-        → Comes (if b then (if eqb x 0 then stop else on (set v i x)) else (if eqb (getD v i 0) x then on v else stop)) (agrees (before ++ (p ∷ [])) p) (before ++ (p ∷ []))
+    go : (b : Bool) → eqb (getD (v .bound) i 0) 0 ≡ b
+        → Comes (if b then (if eqb x 0 then stop else on (bind i x v)) else (if eqb (getD (v .values) i 0) x then on v else stop)) (agrees (before ++ (p ∷ [])) p) (before ++ (p ∷ []))
     go true e = new (eqb x 0) refl (not-not true (stands before i) (sym e ∙ k .which i l))
-    go false e = seen (eqb (getD v i 0) x) refl e (not-not false (stands before i) (sym e ∙ k .which i l))
+    go false e = seen (eqb (getD (v .values) i 0) x) refl (not-not false (stands before i) (sym e ∙ k .which i l))
 
 -- ---- terms, tests
 
@@ -208,7 +225,7 @@ tests-come s (t ∷ ts) v before l k =
 
 none-kept : Keeps noVars []
 unfolding stands valueIn
-none-kept = record { eight = refl; which = λ k h. ap (λ (n : ℕ). eqb n 0) (zeros 8 k); what = λ k h. zeros 8 k }
+none-kept = record { eight-b = refl; eight-v = refl; which = λ k h. ap (λ (n : ℕ). eqb n 0) (zeros 8 k); what = λ k h. zeros 8 k; filled = λ k h t. cc }
   where
     zeros : (n k : ℕ) → getD {A = ℕ} (replicate n 0) k 0 ≡ 0
     zeros zero zero = refl
@@ -236,7 +253,7 @@ entry-run r s l = go (testsRun (s .buffers) (r .tests) noVars) (tests-come s (r 
     go stop c = rw (agreed-walk (places (r .tests) s), c)
     go (on w) c =
         rw (agreed-walk (places (r .tests) s), c .0)
-        (ap (λ (m : List ℕ). 1 ∷ m) (eight-of w (valueIn (places (r .tests) s)) 0 8 (c .1 .eight)
+        (ap (λ (m : List ℕ). 1 ∷ m) (eight-of (w .values) (valueIn (places (r .tests) s)) 0 8 (c .1 .eight-v)
         (λ k h. let q : 0 + k ≡ k = omega arith in c .1 .what k h ∙ ap (valueIn (places (r .tests) s)) (sym q))))
 
 -- ---- what stands in words has variables below 8

@@ -16,27 +16,30 @@ use Rattle.layout.specs.Rows.{wordTerm}
 use Rattle.layout.specs.StateWords.{bufferIn, buffersIn}
 use Rattle.layout.proofs.StateLaws.{buffer-is, slot-is}
 use Rattle.match_rule.specs.Run.{Vars, Run, on, stop, thenOn, termRun, termsRun, testsRun}
+use Rattle.match_rule.specs.Words.{varsIn}
 use Rattle.match_rule.specs.declared.Tried.the-variants.{Differs, Varies}
 use Rattle.match_rule.specs.Shut.{isHit, whyOf}
 use Rattle.match_rule.proofs.TestLaws.{left, testsFrom, slot-skip, slot-on, slot-over, test-pending, test-other, test-on}
 
 -- ---- a term
 
-module _ (nine : List ℕ) (x t : ℕ) where
-  pub term-symbol : t < 4096 → (r : Bool) → r ≡ eqb x t → (if r then on (drop 1 nine) else stop) ≡ termRun x (wordTerm t) (drop 1 nine)
+module _ (bound nine : List ℕ) (x t : ℕ) where
+  pub term-symbol : t < 4096 → (r : Bool) → r ≡ eqb x t → (if r then on (varsIn bound nine) else stop) ≡ termRun x (wordTerm t) (varsIn bound nine)
   unfolding termRun
   term-symbol h r e = rw (lt-ltb t 4096 h, e)
 
   module _ (h : 4096 ≤ t) where
-    pub term-new : getD nine (1 + t % 8) 0 ≡ 0 → (r : Bool) → r ≡ not (eqb x 0) → (if r then on (drop 1 (set nine (1 + t % 8) x)) else stop) ≡ termRun x (wordTerm t) (drop 1 nine)
+    pub term-new : getD bound (t % 8) 0 ≡ 0 → (r : Bool) → r ≡ not (eqb x 0)
+        → (if r then on (varsIn (set bound (t % 8) 1) (set nine (1 + t % 8) x)) else stop) ≡ termRun x (wordTerm t) (varsIn bound nine)
     unfolding termRun
     term-new e r f =
-        rw (le-ltb t 4096 h, getD-drop 1 nine (t % 8) 0, e, f, drop-set-add 1 nine (t % 8) x)
-        (elim (eqb x 0) as (λ b. (if not b then on (set (drop 1 nine) (t % 8) x) else stop) ≡ (if b then stop else on (set (drop 1 nine) (t % 8) x))) [ true ↦ refl | false ↦ refl ])
+        let new : Vars = record { bound = set bound (t % 8) 1; values = set (drop 1 nine) (t % 8) x } in
+        rw (le-ltb t 4096 h, e, f, drop-set-add 1 nine (t % 8) x)
+        (elim (eqb x 0) as (λ b. (if not b then on new else stop) ≡ (if b then stop else on new)) [ true ↦ refl | false ↦ refl ])
 
-    pub term-seen : (getD nine (1 + t % 8) 0 ≡ 0 → ⊥) → (r : Bool) → r ≡ eqb (getD nine (1 + t % 8) 0) x → (if r then on (drop 1 nine) else stop) ≡ termRun x (wordTerm t) (drop 1 nine)
+    pub term-seen : (getD bound (t % 8) 0 ≡ 0 → ⊥) → (r : Bool) → r ≡ eqb (getD nine (1 + t % 8) 0) x → (if r then on (varsIn bound nine) else stop) ≡ termRun x (wordTerm t) (varsIn bound nine)
     unfolding termRun
-    term-seen z r e = rw (le-ltb t 4096 h, getD-drop 1 nine (t % 8) 0, ne-eqb (getD nine (1 + t % 8) 0) 0 z, e)
+    term-seen z r e = rw (le-ltb t 4096 h, ne-eqb (getD bound (t % 8) 0) 0 z, getD-drop 1 nine (t % 8) 0, e)
 
 -- a symbol that was missed is another than the value
 pub term-missed : (x t : ℕ) (v : Vars) (r : Bool) (u : Vars) → (if r then on u else stop) ≡ termRun x (wordTerm t) v → r ≡ false → t < 4096 → x ≡ t → ⊥

@@ -8,12 +8,16 @@ use Rattle.meaning.specs.Base.{if_then_else_}
 use Rattle.meaning.specs.Model.{Term, Symbol, Variable, Named, Test}
 use Rattle.meaning.specs.State.{nothing}
 
--- the values of eight variables, 0 for one that is not bound yet: no variable takes nil
-abbrev pub Vars : Type 0
-Vars = List ℕ
+-- which of eight variables are bound (1) or not (0), and their values
+pub record Vars : Type 0 where
+  pub bound : List ℕ
+  pub values : List ℕ
 
 abbrev pub noVars : Vars
-noVars = replicate 8 0
+noVars = record { bound = replicate 8 0; values = replicate 8 0 }
+
+abbrev pub bind : ℕ → ℕ → Vars → Vars
+bind k x v = record { bound = set (v .bound) k 1; values = set (v .values) k x }
 
 -- given up, or going on with variables
 pub data Run : Type 0 where
@@ -24,10 +28,11 @@ abbrev pub thenOn : Run → (Vars → Run) → Run
 thenOn stop f = stop
 thenOn (on v) f = f v
 
--- a term against a value
+-- a term against a value: nil is looked at where a variable is bound, and no other place of it can then be nil
 unfoldable pub termRun : ℕ → Term → Vars → Run
 termRun x (Symbol t) v = if eqb x t then on v else stop
-termRun x (Variable k) v = if eqb (getD v k 0) 0 then (if eqb x 0 then stop else on (set v k x)) else (if eqb (getD v k 0) x then on v else stop)
+termRun x (Variable k) v =
+    if eqb (getD (v .bound) k 0) 0 then (if eqb x 0 then stop else on (bind k x v)) else (if eqb (getD (v .values) k 0) x then on v else stop)
 
 unfoldable pub termsRun : List ℕ → List Named → Vars → Run
 termsRun xs [] v = on v
@@ -43,4 +48,4 @@ testsRun bs (t ∷ ts) v = thenOn (testRun (getD bs (t .buffer) nothing) t v) (�
 -- the nine words that a run ends with
 abbrev pub entryWords : Run → List ℕ
 entryWords stop = replicate 9 0
-entryWords (on v) = 1 ∷ v
+entryWords (on v) = 1 ∷ v .values

@@ -1,13 +1,14 @@
 // The match of one rule: from its rows of words, with the state in words too and the variables lent, so that nothing is copied.
 ghost use mathlib.Core.Path.{_≡_};
 ghost use Prim.Native.Nat.{ℕ, _+_, _*_, _≤_};
-ghost use lib.ListN.{length, drop, replicate};
+ghost use lib.ListN.{length, replicate};
 ghost use Rattle.meaning.specs.Base.{if_then_else_, same};
 ghost use Rattle.meaning.specs.Model.{Rule};
 ghost use Rattle.meaning.specs.Match.{entryOf};
 ghost use Rattle.layout.specs.Rows.{wordTerm, testsIn};
 ghost use Rattle.match_rule.specs.Run.{termRun, testsRun, noVars, on, stop};
 ghost use Rattle.layout.specs.StateWords.{buffersIn, stateIn};
+ghost use Rattle.match_rule.specs.Words.{varsIn};
 ghost use Rattle.match_rule.specs.Shut.{isHit, whyOf, Because, Made};
 
 // What trying to match a rule gives: it matches; a word of the state, by its number, has another value than the one wanted;
@@ -18,21 +19,22 @@ pub enum Tried {
     Varies,
 }
 
-// One term against a slot's value: a symbol is compared; a variable is bound at its first place, if something is there, and compared at every later one.
-// The variables' values stand in the rule's entry, where they are to be; 0 is one that is not bound, since no variable takes nil.
-fn match_term(nine: &mut [u16], value: u16, term: u16) -> bool
-    requires { ⌜ length (now nine) ≡ 9 ⌝ }
-    ensures { λ r. ⌜ (if r then on (drop 1 (now (nine .exit))) else stop) ≡ termRun value (wordTerm term) (drop 1 (now (nine .entry))) ⌝ }
+// One term against a slot's value: a symbol is compared; a variable is bound at its first place, where nil fails, and compared at every later one.
+// bound: which of the eight variables are bound; their values stand in the rule's entry, where they are to be.
+fn match_term(bound: &mut [u16], nine: &mut [u16], value: u16, term: u16) -> bool
+    requires { ⌜ (length (now bound) ≡ 8) × (length (now nine) ≡ 9) ⌝ }
+    ensures { λ r. ⌜ (if r then on (varsIn (now (bound .exit)) (now (nine .exit))) else stop) ≡ termRun value (wordTerm term) (varsIn (now (bound .entry)) (now (nine .entry))) ⌝ }
 {
     if term < 4096 {
         return value == term;
     }
-    let k = 1 + (term % 8) as usize;
-    if nine[k] == 0 {
-        nine[k] = value;
+    let k = (term % 8) as usize;
+    if bound[k] == 0 {
+        bound[k] = 1;
+        nine[1 + k] = value;
         return value != 0;
     }
-    nine[k] == value
+    nine[1 + k] == value
 }
 
 // Why a slot's value is not what a term wants: it is another symbol than the one wanted at that place of the state, or a variable has two values or none.
@@ -45,11 +47,18 @@ fn why(place: u16, term: u16) -> Tried
     Tried::Differs(place, term)
 }
 
-// Whether the n tests that stand in words from o on hold in a state, with the variables in nine, and why not;
+// Whether the n tests that stand in words from o on hold in a state, with the variables in bound and nine, and why not;
 // at the first slot that differs the whole rule is given up. What is left of a mask has the bit of slot b at 128, and no slot is looked at once it is 0.
-fn match_tests(words: &[u16], o: usize, n: usize, state: &[u16], nine: &mut [u16]) -> Tried
-    requires { ⌜ (o + 11 * n ≤ length (now words)) × (80 ≤ length (now state)) × (length (now nine) ≡ 9) × (drop 1 (now nine) ≡ noVars) ⌝ }
-    ensures { λ t. ⌜ (if isHit t then on (drop 1 (now (nine .exit))) else stop) ≡ testsRun (buffersIn (now (state .entry))) (testsIn (now (words .entry)) o n) noVars ⌝ }
+fn match_tests(
+    words: &[u16],
+    o: usize,
+    n: usize,
+    state: &[u16],
+    bound: &mut [u16],
+    nine: &mut [u16],
+) -> Tried
+    requires { ⌜ (o + 11 * n ≤ length (now words)) × (80 ≤ length (now state)) × (length (now bound) ≡ 8) × (length (now nine) ≡ 9) × (varsIn (now bound) (now nine) ≡ noVars) ⌝ }
+    ensures { λ t. ⌜ (if isHit t then on (varsIn (now (bound .exit)) (now (nine .exit))) else stop) ≡ testsRun (buffersIn (now (state .entry))) (testsIn (now (words .entry)) o n) noVars ⌝ }
     ensures because { λ t. ⌜ Because t (now (words .entry)) o n (now (state .entry)) ⌝ }
 {
     let mut q = o;
@@ -70,7 +79,7 @@ fn match_tests(words: &[u16], o: usize, n: usize, state: &[u16], nine: &mut [u16
         let mut b = 0;
         while rest != 0 {
             if 128 <= rest {
-                if !match_term(nine, state[k + 1 + b], words[q + 3 + b]) {
+                if !match_term(bound, nine, state[k + 1 + b], words[q + 3 + b]) {
                     tried = why(p + 1 + b as u16, words[q + 3 + b]);
                     break 'tests;
                 }
@@ -98,7 +107,8 @@ pub fn try_into(nine: &mut [u16], words: &[u16], o: usize, n: usize, state: &[u1
     ensures { λ t. ⌜ Made t (now (nine .exit)) (now (words .entry)) o n (now (state .entry)) ⌝ }
 {
     no_entry(nine);
-    let tried = match_tests(words, o, n, state, nine);
+    let mut bound = [0u16; 8];
+    let tried = match_tests(words, o, n, state, &mut bound, nine);
     if let Tried::Hit = tried {
         nine[0] = 1;
     } else {

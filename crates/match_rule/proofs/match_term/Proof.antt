@@ -13,19 +13,25 @@ use Rattle.match_rule.proofs.match_term.Statement.{statement}
 use Rattle.match_rule.proofs.match_term.Tie as tie
 
 returns : tie.Need-returns
-returns c = let a = c .before .args in term-symbol (a .nine .now) (a .value) (a .term) (c .if1 .taken) _ refl
+returns c = let a = c .before .args in term-symbol (a .bound .now) (a .nine .now) (a .value) (a .term) (c .if1 .taken) _ refl
 
 cast-k : tie.Need-cast-k
 cast-k c = search needs
-
-add-k : tie.Need-add-k
-add-k c = search needs
 
 mul-if2 : tie.Need-mul-if2
 mul-if2 c = search needs
 
 slice-read-if2 : tie.Need-slice-read-if2
 slice-read-if2 c = search needs
+
+mul-bound : tie.Need-mul-bound
+mul-bound c = search needs
+
+slice-write-bound : tie.Need-slice-write-bound
+slice-write-bound c = search needs
+
+add-nine : tie.Need-add-nine
+add-nine c = search needs
 
 mul-nine : tie.Need-mul-nine
 mul-nine c = search needs
@@ -36,8 +42,14 @@ slice-write-nine c = search needs
 same-length : tie.Need-same-length
 same-length c = search needs
 
+same-length-2 : tie.Need-same-length-2
+same-length-2 c = search needs
+
 returns-2 : tie.Need-returns-2
-returns-2 c = let a = c .before .before .before .args in term-new (a .nine .now) (a .value) (a .term) (c .before .before .if1 .left) (c .if2 .taken) _ refl
+returns-2 c = let a = c .before .before .before .args in term-new (a .bound .now) (a .nine .now) (a .value) (a .term) (c .before .before .if1 .left) (c .if2 .taken) _ refl
+
+add-result : tie.Need-add-result
+add-result c = search needs
 
 mul-result : tie.Need-mul-result
 mul-result c = search needs
@@ -46,9 +58,25 @@ slice-read-result : tie.Need-slice-read-result
 slice-read-result c = search needs
 
 returns-3 : tie.Need-returns-3
-returns-3 c = let a = c .before .before .before .before .args in term-seen (a .nine .now) (a .value) (a .term) (c .before .before .before .if1 .left) (c .before .if2 .left) _ refl
+returns-3 c = let a = c .before .before .before .before .args in term-seen (a .bound .now) (a .nine .now) (a .value) (a .term) (c .before .before .before .if1 .left) (c .before .if2 .left) _ refl
 
 pub match-term-spec : {M : Type 1} → statement M
 match-term-spec =
     tie.close
-    (tie.spec returns cast-k add-k mul-if2 slice-read-if2 mul-nine slice-write-nine same-length returns-2 mul-result slice-read-result returns-3)
+    (tie.spec
+    returns
+    cast-k
+    mul-if2
+    slice-read-if2
+    mul-bound
+    slice-write-bound
+    add-nine
+    mul-nine
+    slice-write-nine
+    same-length
+    same-length-2
+    returns-2
+    add-result
+    mul-result
+    slice-read-result
+    returns-3)

@@ -3,14 +3,14 @@ use Rattle.match_rule.proofs.ShutLaws.{because-pending, because-type, b
 use Rattle.match_rule.specs.Shut.{isHit}
 use Rattle.match_rule.specs.declared.Tried.{Tried}
 use Prim.Native.Nat.{ℕ, _≤_, _<_, _-_, _*_, _+_, _%_}
-use mathlib.Core.Path.{_≡_, refl, ap, _∙_}
+use mathlib.Core.Path.{_≡_, refl, ap, ap₂, _∙_}
 use Rattle.match_rule.specs.declared.Tried.the-variants.{Hit}
 use mathlib.Core.List.{List}
 use mathlib.Core.Logic.{⊎-elim}
 use borrow.Author.Needs.{needs}
 use borrow.Author.Tests.{not-true, not-false}
 use native.Mathlib.Omega.{arith}
-use lib.ListN.{length, getD, drop}
+use lib.ListN.{length, getD}
 use Rattle.meaning.specs.Base.{if_then_else_}
 use Rattle.meaning.specs.State.{nothing}
 use Rattle.layout.specs.Rows.{testsIn}
@@ -18,6 +18,7 @@ use Rattle.read_terms.proofs.MaskWalk.{Walk, walk-start, walk-next, walk-on, wa
 use Rattle.match_rule.specs.Run.{Vars, Run, stop, on, thenOn, termsRun, testsRun, noVars}
 use Rattle.match_rule.proofs.TestLaws.{left, testsFrom, slots-end, tests-end}
 use Rattle.layout.specs.StateWords.{buffersIn}
+use Rattle.match_rule.specs.Words.{varsIn}
 use Rattle.match_rule.proofs.WordMatch.{term-missed, why-stops, flat-pending, flat-other, flat-on, flat-slot, flat-skip, flat-over}
 use Rattle.match_rule.proofs.match_tests.Statement.{statement}
 use Rattle.match_rule.proofs.match_tests.Tie as tie
@@ -27,24 +28,24 @@ abbrev after : List ℕ → ℕ → ℕ → List ℕ → ℕ → Vars → Run
 after words o n state i u = testsRun (buffersIn state) (testsFrom words o (i + 1) (n - (i + 1))) u
 
 abbrev Inv-loop : tie.InvT-loop
-Inv-loop words o n state nine₀ q i tried₀ p k rest₀ b₀ nine tried rest b = (tried ≡ Hit) × Walk (getD words (q + 2) 0) b rest × (length nine ≡ 9)
-    × (thenOn (termsRun (getD (buffersIn state) (getD words q 0 % 8) nothing .slots) (left words q (getD words (q + 2) 0) b) (drop 1 nine)) (after words o n state i)
+Inv-loop words o n state bound₀ nine₀ q i tried₀ p k rest₀ b₀ bound nine tried rest b = (tried ≡ Hit) × Walk (getD words (q + 2) 0) b rest × ((length bound ≡ 8) × (length nine ≡ 9))
+    × (thenOn (termsRun (getD (buffersIn state) (getD words q 0 % 8) nothing .slots) (left words q (getD words (q + 2) 0) b) (varsIn bound nine)) (after words o n state i)
     ≡ testsRun (buffersIn state) (testsIn words o n) noVars)
 
 abbrev μ-loop : tie.MeasureT-loop
-μ-loop words o n state nine₀ q i tried₀ p k rest₀ b₀ nine tried rest b = 8 - b
+μ-loop words o n state bound₀ nine₀ q i tried₀ p k rest₀ b₀ bound nine tried rest b = 8 - b
 
 abbrev Inv-tests : tie.InvT-tests
-Inv-tests words o n state nine₀ q₀ i₀ tried₀ nine q i tried = (tried ≡ Hit) × (i ≤ n) × (q ≡ o + 11 * i) × (length nine ≡ 9)
-    × (testsRun (buffersIn state) (testsFrom words o i (n - i)) (drop 1 nine) ≡ testsRun (buffersIn state) (testsIn words o n) noVars)
+Inv-tests words o n state bound₀ nine₀ q₀ i₀ tried₀ bound nine q i tried = (tried ≡ Hit) × (i ≤ n) × (q ≡ o + 11 * i) × ((length bound ≡ 8) × (length nine ≡ 9))
+    × (testsRun (buffersIn state) (testsFrom words o i (n - i)) (varsIn bound nine) ≡ testsRun (buffersIn state) (testsIn words o n) noVars)
 
 abbrev μ-tests : tie.MeasureT-tests
-μ-tests words o n state nine₀ q₀ i₀ tried₀ nine q i tried = n - i
+μ-tests words o n state bound₀ nine₀ q₀ i₀ tried₀ bound nine q i tried = n - i
 
 -- ---- the places of the code, each named once
 
 abbrev start : tie.At-tests Inv-loop μ-loop Inv-tests μ-tests → tie.Start Inv-loop μ-loop Inv-tests μ-tests
-start c = c .before .before .before .before
+start c = c .before .before .before .before .before
 
 abbrev turn : tie.After-shared-slice-known4 Inv-loop μ-loop Inv-tests μ-tests → tie.In-tests Inv-loop μ-loop Inv-tests μ-tests
 turn c = c .before .before
@@ -59,7 +60,7 @@ abbrev test : tie.At-loop Inv-loop μ-loop Inv-tests μ-tests → tie.In-tests I
 test c = turn (visible (typed c .before) .before)
 
 abbrev named : tie.After-match-term Inv-loop μ-loop Inv-tests μ-tests → tie.Then3 Inv-loop μ-loop Inv-tests μ-tests
-named c = c .before .before .before .before
+named c = c .before .before .before .before .before
 
 -- a slot is left
 low : (c : tie.In-loop Inv-loop μ-loop Inv-tests μ-tests) → c .before .loop .b < 8
@@ -69,9 +70,9 @@ low c = omega (arith, c .loop-test .taken, c .before .loop .inv .1 .small)
 
 tests-holds : tie.Need-tests-holds Inv-loop μ-loop Inv-tests μ-tests
 tests-holds c =
-    let start = c .before .before .before in
+    let start = c .before .before .before .before in
     let e : start .args .n - 0 ≡ start .args .n = omega arith in
-    (refl, search needs, search needs, start .pre .2, rw (e, start .pre .3))
+    (refl, search needs, search needs, (start .pre .2, start .pre .3), rw (e, start .pre .4))
 
 mul-p : tie.Need-mul-p Inv-loop μ-loop Inv-tests μ-tests
 mul-p c = search needs
@@ -94,8 +95,8 @@ mul-if1 c = search needs
 shared-slice-read-if1 : tie.Need-shared-slice-read-if1 Inv-loop μ-loop Inv-tests μ-tests
 shared-slice-read-if1 c = search needs
 
-add-t20 : tie.Need-add-t20 Inv-loop μ-loop Inv-tests μ-tests
-add-t20 c = search needs
+add-t21 : tie.Need-add-t21 Inv-loop μ-loop Inv-tests μ-tests
+add-t21 c = search needs
 
 mul-if2 : tie.Need-mul-if2 Inv-loop μ-loop Inv-tests μ-tests
 mul-if2 c = search needs
@@ -112,14 +113,14 @@ mul-if2-2 c = search needs
 shared-slice-read-if2-2 : tie.Need-shared-slice-read-if2-2 Inv-loop μ-loop Inv-tests μ-tests
 shared-slice-read-if2-2 c = search needs
 
-add-t24 : tie.Need-add-t24 Inv-loop μ-loop Inv-tests μ-tests
-add-t24 c = search needs
+add-t25 : tie.Need-add-t25 Inv-loop μ-loop Inv-tests μ-tests
+add-t25 c = search needs
 
-mul-t25 : tie.Need-mul-t25 Inv-loop μ-loop Inv-tests μ-tests
-mul-t25 c = search needs
+mul-t26 : tie.Need-mul-t26 Inv-loop μ-loop Inv-tests μ-tests
+mul-t26 c = search needs
 
-shared-slice-read-t27 : tie.Need-shared-slice-read-t27 Inv-loop μ-loop Inv-tests μ-tests
-shared-slice-read-t27 c = search needs
+shared-slice-read-t28 : tie.Need-shared-slice-read-t28 Inv-loop μ-loop Inv-tests μ-tests
+shared-slice-read-t28 c = search needs
 
 add-rest : tie.Need-add-rest Inv-loop μ-loop Inv-tests μ-tests
 add-rest c = search needs
@@ -140,7 +141,7 @@ loop-holds c =
       l .inv .0,
       walk-start _,
       l .inv .3,
-      flat-on (a .words .now) (a .state .now) (a .o) (a .n) (l .i) (l .q) (drop 1 (l .nine)) (l .inv .2) (t .tests-test .taken) (visible .if1 .left) (typed .if2 .left) ∙ l .inv .4,
+      flat-on (a .words .now) (a .state .now) (a .o) (a .n) (l .i) (l .q) (varsIn (l .bound) (l .nine)) (l .inv .2) (t .tests-test .taken) (visible .if1 .left) (typed .if2 .left) ∙ l .inv .4,
     )
 
 add-match-term : tie.Need-add-match-term Inv-loop μ-loop Inv-tests μ-tests
@@ -215,19 +216,21 @@ loop-again c =
     let next = walk-next (m .inv .1) (low turn) in
     let after = after w (a .o) (a .n) (a .state .now) (l .i) in
     ⊎-elim
-    (λ came. (
+    (λ came.
+    let n : length (c .if3 .bound) ≡ 8 = ap length (came .11) ∙ came .5 .kept .0 ∙ m .inv .2 .0 in
+    let l′ : length (c .if3 .nine) ≡ 9 = ap length (came .12) ∙ came .5 .kept .1 .0 ∙ m .inv .2 .1 in (
       m .inv .0,
       next,
-      ap length (came .8) ∙ came .4 .kept .0 ∙ m .inv .2,
-      flat-slot w (a .state .now) (l .q) mask (m .b) (drop 1 (m .nine)) after (low turn) (walk-on (m .inv .1) (low turn) (came .0 .taken)) (came .4 .result)
-          (drop 1 (came .4 .last .0)) (came .4 .ensures) (drop 1 (c .if3 .nine)) (ap (drop 1) (came .8)) (not-false _ (came .7 .left)) ∙ m .inv .3,
+      (n, l′),
+      flat-slot w (a .state .now) (l .q) mask (m .b) (varsIn (m .bound) (m .nine)) after (low turn) (walk-on (m .inv .1) (low turn) (came .0 .taken)) (came .5 .result)
+          (varsIn (came .5 .last .0) (came .5 .last .1 .0)) (came .5 .ensures) (varsIn (c .if3 .bound) (c .if3 .nine)) (ap₂ varsIn (came .11) (came .12)) (not-false _ (came .10 .left)) ∙ m .inv .3,
     ))
     (λ came. (
       m .inv .0,
       next,
-      ap length (came .1) ∙ m .inv .2,
-      flat-skip w (a .state .now) (l .q) mask (m .b) (drop 1 (m .nine)) after (low turn)
-          (drop 1 (c .if3 .nine)) (ap (drop 1) (came .1)) (walk-off (m .inv .1) (low turn) (came .0 .left)) ∙ m .inv .3,
+      (ap length (came .1) ∙ m .inv .2 .0, ap length (came .2) ∙ m .inv .2 .1),
+      flat-skip w (a .state .now) (l .q) mask (m .b) (varsIn (m .bound) (m .nine)) after (low turn)
+          (varsIn (c .if3 .bound) (c .if3 .nine)) (ap₂ varsIn (came .1) (came .2)) (walk-off (m .inv .1) (low turn) (came .0 .left)) ∙ m .inv .3,
     ))
     (c .if3 .came)
 
@@ -251,23 +254,29 @@ tests-again c =
       search needs,
       search needs,
       m .inv .2,
-      slots-end w _ (l .q) _ (m .b) (drop 1 (m .nine)) (after w (a .o) (a .n) (a .state .now) (l .i)) (walk-end (m .inv .1) (omega arith)) ∙ m .inv .3,
+      slots-end w _ (l .q) _ (m .b) (varsIn (m .bound) (m .nine)) (after w (a .o) (a .n) (a .state .now) (l .i)) (walk-end (m .inv .1) (omega arith)) ∙ m .inv .3,
     )
 
 same-length : tie.Need-same-length Inv-loop μ-loop Inv-tests μ-tests
 same-length c = search needs
 
+same-length-2 : tie.Need-same-length-2 Inv-loop μ-loop Inv-tests μ-tests
+same-length-2 c = search needs
+
 returns : tie.Need-returns Inv-loop μ-loop Inv-tests μ-tests
 returns c =
     let l = c .before .tests in
     let a = start (c .before) .args in (
-      ap (λ (t : Tried). if isHit t then on (drop 1 (l .nine)) else stop) (l .inv .0)
-          ∙ tests-end (a .words .now) (buffersIn (a .state .now)) (a .o) (a .n) (l .i) (l .q) (drop 1 (l .nine)) (c .tests-test .left) ∙ l .inv .4,
+      ap (λ (t : Tried). if isHit t then on (varsIn (l .bound) (l .nine)) else stop) (l .inv .0)
+          ∙ tests-end (a .words .now) (buffersIn (a .state .now)) (a .o) (a .n) (l .i) (l .q) (varsIn (l .bound) (l .nine)) (c .tests-test .left) ∙ l .inv .4,
       rw (l .inv .0) tt,
     )
 
-same-length-2 : tie.Need-same-length-2 Inv-loop μ-loop Inv-tests μ-tests
-same-length-2 c = search needs
+same-length-3 : tie.Need-same-length-3 Inv-loop μ-loop Inv-tests μ-tests
+same-length-3 c = search needs
+
+same-length-4 : tie.Need-same-length-4 Inv-loop μ-loop Inv-tests μ-tests
+same-length-4 c = search needs
 
 returns-2 : tie.Need-returns-2 Inv-loop μ-loop Inv-tests μ-tests
 returns-2 c =
@@ -275,12 +284,15 @@ returns-2 c =
     let l = t .before .tests in
     let a = start (t .before) .args in
     let more = t .tests-test .taken in (
-      flat-pending (a .words .now) (a .state .now) (a .o) (a .n) (l .i) (l .q) (drop 1 (l .nine)) (l .inv .2) more (c .if1 .taken) ∙ l .inv .4,
+      flat-pending (a .words .now) (a .state .now) (a .o) (a .n) (l .i) (l .q) (varsIn (l .bound) (l .nine)) (l .inv .2) more (c .if1 .taken) ∙ l .inv .4,
       because-pending (a .words .now) (a .state .now) (a .o) (a .n) (l .i) (l .q) (l .inv .2) more (c .if1 .taken),
     )
 
-same-length-3 : tie.Need-same-length-3 Inv-loop μ-loop Inv-tests μ-tests
-same-length-3 c = search needs
+same-length-5 : tie.Need-same-length-5 Inv-loop μ-loop Inv-tests μ-tests
+same-length-5 c = search needs
+
+same-length-6 : tie.Need-same-length-6 Inv-loop μ-loop Inv-tests μ-tests
+same-length-6 c = search needs
 
 returns-3 : tie.Need-returns-3 Inv-loop μ-loop Inv-tests μ-tests
 returns-3 c =
@@ -290,17 +302,20 @@ returns-3 c =
     let l = t .before .tests in
     let a = start (t .before) .args in
     let more = t .tests-test .taken in (
-      flat-other (a .words .now) (a .state .now) (a .o) (a .n) (l .i) (l .q) (drop 1 (l .nine)) (l .inv .2) more (visible .if1 .left) (other .if2 .taken) ∙ l .inv .4,
+      flat-other (a .words .now) (a .state .now) (a .o) (a .n) (l .i) (l .q) (varsIn (l .bound) (l .nine)) (l .inv .2) more (visible .if1 .left) (other .if2 .taken) ∙ l .inv .4,
       because-type (a .words .now) (a .state .now) (a .o) (a .n) (l .i) (l .q) (l .inv .2) more (other .if2 .taken),
     )
 
-same-length-4 : tie.Need-same-length-4 Inv-loop μ-loop Inv-tests μ-tests
-same-length-4 c = search needs
+same-length-7 : tie.Need-same-length-7 Inv-loop μ-loop Inv-tests μ-tests
+same-length-7 c = search needs
+
+same-length-8 : tie.Need-same-length-8 Inv-loop μ-loop Inv-tests μ-tests
+same-length-8 c = search needs
 
 returns-4 : tie.Need-returns-4 Inv-loop μ-loop Inv-tests μ-tests
 returns-4 c =
     let missed = c .before .before in
-    let term-at = missed .before .before .before in
+    let term-at = missed .before .before .before .before .before in
     let term = term-at .match-term in
     let slot = named term-at in
     let m = slot .before .before .loop in
@@ -313,10 +328,10 @@ returns-4 c =
     let on = walk-on (m .inv .1) low (slot .if3 .taken) in
     let miss = not-true _ (missed .if4 .taken) in
     let because = because-slot w st (a .o) (a .n) (l .i) (l .q) (l .inv .2) (t .tests-test .taken) (m .b) low on
-    (λ s e. term-missed _ _ (drop 1 (m .nine)) (term .result) (drop 1 (term .last .0)) (term .ensures) miss s e) in (
-      rw (c .why .ensures) (why-stops (10 * (getD w (l .q) 0 % 8) + 1 + m .b) (getD w (l .q + 3 + m .b) 0) (drop 1 (term .last .0))
-          ∙ flat-over w st (l .q) (getD w (l .q + 2) 0) (m .b) (drop 1 (m .nine)) (after w (a .o) (a .n) st (l .i))
-          low on (term .result) (drop 1 (term .last .0)) (term .ensures) miss ∙ m .inv .3),
+    (λ s e. term-missed _ _ (varsIn (m .bound) (m .nine)) (term .result) (varsIn (term .last .0) (term .last .1 .0)) (term .ensures) miss s e) in (
+      rw (c .why .ensures) (why-stops (10 * (getD w (l .q) 0 % 8) + 1 + m .b) (getD w (l .q + 3 + m .b) 0) (varsIn (term .last .0) (term .last .1 .0))
+          ∙ flat-over w st (l .q) (getD w (l .q + 2) 0) (m .b) (varsIn (m .bound) (m .nine)) (after w (a .o) (a .n) st (l .i))
+          low on (term .result) (varsIn (term .last .0) (term .last .1 .0)) (term .ensures) miss ∙ m .inv .3),
       rw (c .why .ensures) because,
     )
 
@@ -336,15 +351,15 @@ match-tests-spec =
     add-if1
     mul-if1
     shared-slice-read-if1
-    add-t20
+    add-t21
     mul-if2
     shared-slice-read-if2
     add-if2
     mul-if2-2
     shared-slice-read-if2-2
-    add-t24
-    mul-t25
-    shared-slice-read-t27
+    add-t25
+    mul-t26
+    shared-slice-read-t28
     add-rest
     mul-rest
     shared-slice-read-rest
@@ -375,10 +390,14 @@ match-tests-spec =
     tests-less
     tests-again
     same-length
-    returns
     same-length-2
-    returns-2
+    returns
     same-length-3
-    returns-3
     same-length-4
+    returns-2
+    same-length-5
+    same-length-6
+    returns-3
+    same-length-7
+    same-length-8
     returns-4)

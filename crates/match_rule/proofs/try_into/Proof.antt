@@ -1,12 +1,13 @@
 -- `match_rule::try_into` meets its contract: the match of the tests in words, carried over to the declarative match.
 use Rattle.match_rule.proofs.MadeLaws.{hit-words, not-hit, made}
 use Rattle.match_rule.specs.Shut.{isHit}
+use Rattle.match_rule.specs.Words.{varsIn}
 use Rattle.match_rule.specs.Run.{Vars, stop, on, entryWords}
 use Rattle.match_rule.specs.declared.Tried.{Tried}
 use Rattle.meaning.specs.Base.{if_then_else_}
 use Prim.Native.Nat.{ℕ}
 use mathlib.Core.List.{List}
-use lib.ListN.{drop, length-set}
+use lib.ListN.{length-set}
 use mathlib.Core.Bool.{Bool}
 use mathlib.Core.Path.{_≡_, refl, sym, ap, _∙_}
 use borrow.Author.Needs.{needs}
@@ -19,29 +20,32 @@ abbrev start : tie.After-no-entry-arg → tie.Start
 start c = c .before .before .before .before
 
 abbrev cleared : tie.After-match-tests-arg → tie.After-no-entry
-cleared c = c .before .before .before
+cleared c = c .before .before .before .before
 
 abbrev begun : tie.After-match-tests → tie.Start
 begun c = start (cleared (c .before) .before)
 
 abbrev ran : tie.After-slice-known3 → tie.After-match-tests
-ran c = c .before .before
+ran c = c .before .before .before
 
 -- ---- the variables as the match leaves them
 
 abbrev vars : tie.After-match-tests → Vars
-vars c = drop 1 (c .match-tests .last .1 .1 .1 .1 .0)
+vars c = varsIn (c .match-tests .last .1 .1 .1 .1 .0) (c .match-tests .last .1 .1 .1 .1 .1 .0)
 
 -- ---- what is asked
 
 no-entry-requires : tie.Need-no-entry-requires
 no-entry-requires c κs = search needs
 
+slice-aggregate-match-tests : tie.Need-slice-aggregate-match-tests
+slice-aggregate-match-tests c = search needs
+
 match-tests-requires : tie.Need-match-tests-requires
 match-tests-requires c κs =
     let n = cleared c .no-entry in
     let pre = start (cleared c .before) .pre in
-    (pre .1, pre .2, n .kept .0 ∙ pre .0, rw (n .ensures) refl)
+    (pre .1, pre .2, refl, n .kept .0 ∙ pre .0, rw (n .ensures) refl)
 
 enum-told : tie.Need-enum-told
 enum-told c = search needs
@@ -52,14 +56,14 @@ slice-write-nine c = search needs
 same-length : tie.Need-same-length
 same-length c =
     let m = ran (c .before .before) in
-    simp length-set (m .match-tests .kept .1 .1 .1 .1 .0 ∙ cleared (m .before) .no-entry .kept .0)
+    simp length-set (m .match-tests .kept .1 .1 .1 .1 .1 .0 ∙ cleared (m .before) .no-entry .kept .0)
 
 returns : tie.Need-returns
 returns c =
     let m = ran (c .before .before) in
     let a = begun m .args in
-    let size = m .match-tests .kept .1 .1 .1 .1 .0 ∙ cleared (m .before) .no-entry .kept .0 ∙ begun m .pre .0 in
-    let hit = hit-words (m .match-tests .last .1 .1 .1 .1 .0) size in
+    let size = m .match-tests .kept .1 .1 .1 .1 .1 .0 ∙ cleared (m .before) .no-entry .kept .0 ∙ begun m .pre .0 in
+    let hit = hit-words (m .match-tests .last .1 .1 .1 .1 .1 .0) size in
     made (m .match-tests .result) _ (vars m) (a .words .now) (a .o) (a .n) (a .state .now)
     (hit ∙ sym (ap (λ (t : Tried). entryWords (if isHit t then on (vars m) else stop)) (c .enum-told .given .1))) (m .match-tests .ensures .0) (m .match-tests .ensures .1)
 
@@ -84,6 +88,7 @@ try-into-spec =
     tie.close
     (tie.spec
     no-entry-requires
+    slice-aggregate-match-tests
     match-tests-requires
     enum-told
     slice-write-nine
