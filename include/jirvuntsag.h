@@ -12,6 +12,7 @@
  * A state is 81 words: the clock in ms, then for each of the eight buffers its type, eight slot values and its delay in ms.
  * A type, slot or delay over 65,535 makes the state not well formed (6).
  * A table is nine 16-bit words for each rule: 1 and the values of variables 0 to 7 if the rule matches, nine zeros if not.
+ * No variable takes an empty slot: of a rule that matches, those that are 0 are the variables that it does not have.
  */
 #ifndef JIRVUNTSAG_H
 #define JIRVUNTSAG_H
@@ -25,9 +26,9 @@ extern "C" {
 
 /* The version of this header, and by a function that of the library that is linked. */
 #define JIRVUNTSAG_VERSION_MAJOR 0
-#define JIRVUNTSAG_VERSION_MINOR 2
+#define JIRVUNTSAG_VERSION_MINOR 3
 #define JIRVUNTSAG_VERSION_PATCH 0
-#define JIRVUNTSAG_VERSION "0.2.0"
+#define JIRVUNTSAG_VERSION "0.3.0"
 const char *jirvuntsag_version(void);
 
 #define JIRVUNTSAG_STATE_WORDS 81

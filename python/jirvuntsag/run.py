@@ -28,7 +28,8 @@ def _alone(method):
 
 
 class Run:
-    """A run, made by `Model.open` or `Model.at`. Its table is always the fresh one, so that number 7 never comes.
+    """A run, made by `Model.open` or `Model.at`. Its table is always the fresh one, so that number 7 never comes
+    (but for a run that was pickled before request 2026-01: `run.model.at(run.words)` goes on from there).
 
     A model that halts is no error: `step` gives None, `steps` ends, `run` says 9. A clock that would pass its largest is
     one: `Refused`, by 8, after the steps that could be made.
@@ -160,7 +161,7 @@ class Run:
         state, table = self._kept
         if table[ENTRY_WORDS * number] == 1:
             return None
-        return first_miss(self._model.shape.rules[number].tests, state, self._model.vocabulary)
+        return first_miss(self._model, number, state)
 
     def step(self):
         """Makes one step: its event, or None if the model has halted."""

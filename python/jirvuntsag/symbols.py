@@ -3,6 +3,7 @@ import operator
 import re
 
 MOST_SYMBOLS = 4_096
+NIL = 0  # what an empty slot holds
 
 _WRITTEN = re.compile("#(0|[1-9][0-9]{0,3})")
 

@@ -42,10 +42,6 @@ class Seeing(unittest.TestCase):
         run = run_of((1, 5, 0), NIL, rules=[ASK, empty._replace(utility=-1)], failure=300)
         self.assertEqual(lines(run, 3), ["50 fire 0", "350 wait 300", "400 fire 1"])
 
-    def test_a_variable_takes_nil(self):
-        run = run_of((1, 0, 7), rules=[Rule([(0, 1, {0: "v0"})], [(0, "clear")])])
-        self.assertEqual(run.matching()[0].values, {0: 0})
-
     def test_two_variables_may_be_alike(self):
         run = run_of((1, 4, 4), rules=[Rule([(0, 1, {0: "v0", 1: "v1"})], [(0, "clear")])])
         self.assertEqual(run.matching()[0].values, {0: 4, 1: 4})

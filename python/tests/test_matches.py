@@ -45,8 +45,8 @@ class Misses(unittest.TestCase):
                     run = Model(read_bytes(image)).at(read_state(state))
                 except Refused:
                     continue
-                for rule, entry in zip(run.model.shape.rules, run.table):
-                    miss = first_miss(rule.tests, run.words, run.model.vocabulary)
+                for rule, entry in enumerate(run.table):
+                    miss = first_miss(run.model, rule, run.words)
                     self.assertEqual(miss is None, entry[0] == 1)
                     seen.add(miss and miss.what)
-        self.assertEqual(seen, {None, "pending", "type", "slot"})
+        self.assertEqual(seen, {None, "pending", "type", "empty", "slot"})

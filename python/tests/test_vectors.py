@@ -1,4 +1,4 @@
-"""Every case of vectors/base.txt, through Python."""
+"""Every case of vectors/01.txt, through Python."""
 import collections
 import unittest
 
@@ -6,12 +6,12 @@ from jirvuntsag import Model, Refused, calls
 
 from . import ROOT
 
-CASES = 456
+CASES = 360
 
 
 def cases():
     """All cases: the line of the call, and that of its answer."""
-    lines = (ROOT / "vectors" / "base.txt").read_text(encoding="ascii").splitlines()
+    lines = (ROOT / "vectors" / "01.txt").read_text(encoding="ascii").splitlines()
     return list(zip(lines[::2], lines[1::2]))
 
 

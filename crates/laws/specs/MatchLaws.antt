@@ -1,6 +1,6 @@
 -- Laws of a match: place by place; and "an entry depends only on the buffers that its rule tests", of a pending buffer only on its being pending.
 use mathlib.Core.Path.{_≡_, refl, sym, ap, ap₂, _∙_}
-use mathlib.Core.Bool.{Bool, true, false, _&&_, _||_, or-false, and-false}
+use mathlib.Core.Bool.{Bool, true, false, _&&_, _||_, not, or-false, and-false, and-true}
 use mathlib.Core.List.{List, [], _∷_, _++_, append-assoc, map}
 use mathlib.Core.Logic.{_⊎_, inl, inr}
 use Prim.Native.Nat.{ℕ, _*_}
@@ -11,7 +11,7 @@ use lib.ListN.{length, replicate, length-append}
 use Rattle.meaning.specs.Base.{if_then_else_, every, anyOf, upFrom}
 use Rattle.meaning.specs.Model.{Term, Symbol, Variable, Rule, Test}
 use Rattle.meaning.specs.Image.{isVariable}
-use Rattle.meaning.specs.Match.{Place, valueIn, termIn, agrees, agreed, places, shows, matches, entryOf, freshTable}
+use Rattle.meaning.specs.Match.{Place, valueIn, termIn, takes, agrees, agreed, places, shows, matches, entryOf, freshTable}
 use Rattle.meaning.specs.declared.Buffer.{Buffer}
 use Rattle.meaning.specs.declared.State.{State}
 use Rattle.meaning.specs.State.{bufferOf, visible}
@@ -55,7 +55,7 @@ unfolding agreedFrom
 agreed-from before [] = refl
 agreed-from before (p ∷ ps) =
     let e : before ++ (p ∷ ps) ≡ before ++ (p ∷ []) ++ ps = sym (append-assoc before (p ∷ []) ps) in
-    rw e (ap₂ (λ (x y : Bool). x && y) (ap (eqb (p .value)) (term-last before p ps (p .term) refl)) (agreed-from (before ++ (p ∷ [])) ps))
+    rw e (ap₂ (λ (x y : Bool). x && y) (ap (λ (x : ℕ). takes (p .term) (p .value) && eqb (p .value) x) (term-last before p ps (p .term) refl)) (agreed-from (before ++ (p ∷ [])) ps))
 
 pub agreed-walk : (ps : List Place) → agreed ps ≡ agreedFrom [] ps
 agreed-walk ps = agreed-from [] ps
@@ -99,14 +99,14 @@ value-other (x ∷ xs) p w e =
       | false ↦ value-other xs p w e
     ]
 
--- what a place is held against, by its term
+-- what a variable's place is held against: the value so far, and nil; at its first place, nil alone
 pub agrees-seen : (before : List Place) (v value : ℕ) → stands before v ≡ true
-    → let p : Place = record { term = Variable v; value = value } in agrees (before ++ (p ∷ [])) p ≡ eqb value (valueIn before v)
+    → let p : Place = record { term = Variable v; value = value } in agrees (before ++ (p ∷ [])) p ≡ (not (eqb value 0) && eqb value (valueIn before v))
 agrees-seen before v value e = rw (value-seen before (record { term = Variable v; value = value }) v e) refl
 
 pub agrees-new : (before : List Place) (v value : ℕ) → stands before v ≡ false
-    → let p : Place = record { term = Variable v; value = value } in agrees (before ++ (p ∷ [])) p ≡ true
-agrees-new before v value e = rw (value-new before (record { term = Variable v; value = value }) v e, self v) (self value)
+    → let p : Place = record { term = Variable v; value = value } in agrees (before ++ (p ∷ [])) p ≡ not (eqb value 0)
+agrees-new before v value e = rw (value-new before (record { term = Variable v; value = value }) v e, self v, self value) (and-true (not (eqb value 0)))
 
 -- ---- an entry
 

@@ -1,6 +1,6 @@
 -- The match test by test gives the entry of the declarative match.
 use mathlib.Core.Path.{_≡_, refl, sym, ap, ap₂, _∙_}
-use mathlib.Core.Bool.{Bool, true, false, _&&_, _||_, not, or-true, or-false}
+use mathlib.Core.Bool.{Bool, true, false, _&&_, _||_, not, or-true, or-false, and-false}
 use mathlib.Core.List.{List, [], _∷_, _++_, map, append-nil, append-assoc}
 use Prim.Native.Nat.{ℕ, zero, suc, _+_, _-_, _*_, _%_, _<_, _≤_}
 use native.Mathlib.Omega.{arith}
@@ -28,6 +28,7 @@ pub record Keeps (v : Vars) (before : List Place) : Type 0 where
   pub eight-v : length (v .values) ≡ 8
   pub which : (k : ℕ) → k < 8 → eqb (getD (v .bound) k 0) 0 ≡ not (stands before k)
   pub what : (k : ℕ) → k < 8 → getD (v .values) k 0 ≡ valueIn before k
+  pub filled : (k : ℕ) → k < 8 → stands before k ≡ true → eqb (valueIn before k) 0 ≡ false
 
 abbrev pub placeOf : Term → ℕ → Place
 placeOf t x = record { term = t; value = x }
@@ -40,6 +41,7 @@ keeps-same v before p s w k =
       eight-v = k .eight-v;
       which = λ j h. k .which j h ∙ sym (ap not (s j));
       what = λ j h. k .what j h ∙ sym (w j);
+      filled = λ j h t. ap (λ (n : ℕ). eqb n 0) (w j) ∙ k .filled j h (sym (s j) ∙ t);
     }
 
 keeps-symbol : (v : Vars) (before : List Place) (y x : ℕ) → Keeps v before → Keeps v (before ++ (placeOf (Symbol y) x ∷ []))
@@ -62,13 +64,15 @@ keeps-seen v before i x s k =
     kept j true t = let q : j ≡ i = eqb-true j i t in rw q (value-seen before (placeOf (Variable i) x) i s)
     kept j false t = value-other before (placeOf (Variable i) x) j t
 
-keeps-new : (v : Vars) (before : List Place) (i x : ℕ) → i < 8 → stands before i ≡ false → Keeps v before → Keeps (bind i x v) (before ++ (placeOf (Variable i) x ∷ []))
-keeps-new v before i x l s k =
+keeps-new : (v : Vars) (before : List Place) (i x : ℕ) → i < 8 → eqb x 0 ≡ false → stands before i ≡ false → Keeps v before
+    → Keeps (bind i x v) (before ++ (placeOf (Variable i) x ∷ []))
+keeps-new v before i x l is-filled s k =
     record {
       eight-b = length-set (v .bound) i 1 ∙ k .eight-b;
       eight-v = length-set (v .values) i x ∙ k .eight-v;
       which = λ j h. stood j h (eqb j i) refl ∙ sym (ap not (stands-more before (placeOf (Variable i) x) j));
       what = λ j h. kept j h (eqb j i) refl;
+      filled = λ j h t. there j h t (eqb j i) refl;
     }
   where
     stood : (j : ℕ) → j < 8 → (t : Bool) → eqb j i ≡ t → eqb (getD (set (v .bound) i 1) j 0) 0 ≡ not (stands before j || eqb j i)
@@ -78,12 +82,21 @@ keeps-new v before i x l s k =
         rw (t, or-true) (rw q (ap (λ (m : ℕ). eqb m 0) (getD-set-same (v .bound) i 1 0 n)))
     stood j h false t = rw (t, or-false) (ap (λ (m : ℕ). eqb m 0) (getD-set-other (v .bound) i j 1 0 (eqb-false j i t)) ∙ k .which j h)
 
+    own : valueIn (before ++ (placeOf (Variable i) x ∷ [])) i ≡ x
+    own = value-new before (placeOf (Variable i) x) i s ∙ (rw (eq-eqb i i refl))
+
     kept : (j : ℕ) → j < 8 → (t : Bool) → eqb j i ≡ t → getD (set (v .values) i x) j 0 ≡ valueIn (before ++ (placeOf (Variable i) x ∷ [])) j
     kept j h true t =
         let q : j ≡ i = eqb-true j i t in
         let n : i < length (v .values) = omega (arith, k .eight-v) in
-        rw q (getD-set-same (v .values) i x 0 n ∙ sym (value-new before (placeOf (Variable i) x) i s ∙ (rw (eq-eqb i i refl))))
+        rw q (getD-set-same (v .values) i x 0 n ∙ sym own)
     kept j h false t = getD-set-other (v .values) i j x 0 (eqb-false j i t) ∙ k .what j h ∙ sym (value-other before (placeOf (Variable i) x) j t)
+
+    there : (j : ℕ) → j < 8 → stands (before ++ (placeOf (Variable i) x ∷ [])) j ≡ true → (t : Bool) → eqb j i ≡ t → eqb (valueIn (before ++ (placeOf (Variable i) x ∷ [])) j) 0 ≡ false
+    there j h stood true t = let q : j ≡ i = eqb-true j i t in rw q (ap (λ (n : ℕ). eqb n 0) own ∙ is-filled)
+    there j h stood false t =
+        let earlier : stands before j ≡ true = sym (stands-more before (placeOf (Variable i) x) j ∙ ap (λ (b : Bool). stands before j || b) t ∙ or-false (stands before j)) ∙ stood in
+        ap (λ (n : ℕ). eqb n 0) (value-other before (placeOf (Variable i) x) j t) ∙ k .filled j h earlier
 
 -- ---- how a run stands to a list of places
 
@@ -91,8 +104,13 @@ abbrev pub Comes : Run → Bool → List Place → Type 0
 Comes stop ok after = ok ≡ false
 Comes (on w) ok after = (ok ≡ true) × Keeps w after
 
-eqb-swap : (a b : ℕ) → eqb a b ≡ eqb b a
-eqb-swap a b = elim (ℕ-discrete a b) [ yes h ↦ eq-eqb a b h ∙ sym (eq-eqb b a (sym h)) | no h ↦ ne-eqb a b h ∙ sym (ne-eqb b a (λ e. h (sym e))) ]
+-- nil need not be looked at where a value that is not nil is wanted
+as-filled : (x y : ℕ) → eqb y 0 ≡ false → (not (eqb x 0) && eqb x y) ≡ eqb y x
+as-filled x y f =
+    elim (ℕ-discrete x y) [
+      | yes h ↦ rw (h, f, eq-eqb y y refl) refl
+      | no h ↦ rw (ne-eqb x y h, ne-eqb y x (λ e. h (sym e)), and-false) refl
+    ]
 
 abbrev pub Low : Term → Type 0
 Low (Symbol x) = Unit {0}
@@ -117,14 +135,22 @@ term-comes x (Variable i) v before l k = go (eqb (getD (v .bound) i 0) 0) refl
     p : Place
     p = placeOf (Variable i) x
 
+    new : (b : Bool) → eqb x 0 ≡ b → stands before i ≡ false → Comes (if b then stop else on (bind i x v)) (agrees (before ++ (p ∷ [])) p) (before ++ (p ∷ []))
+    new true e s = agrees-new before i x s ∙ ap not e
+    new false e s = (agrees-new before i x s ∙ ap not e, keeps-new v before i x l e s k)
+
+    -- what the place asks once its variable has a value: that one
+    asked : stands before i ≡ true → agrees (before ++ (p ∷ [])) p ≡ eqb (getD (v .values) i 0) x
+    asked s = agrees-seen before i x s ∙ as-filled x (valueIn before i) (k .filled i l s) ∙ ap (λ (y : ℕ). eqb y x) (sym (k .what i l))
+
     seen : (b : Bool) → eqb (getD (v .values) i 0) x ≡ b → stands before i ≡ true → Comes (if b then on v else stop) (agrees (before ++ (p ∷ [])) p) (before ++ (p ∷ []))
-    seen true e s = (agrees-seen before i x s ∙ ap (eqb x) (sym (k .what i l)) ∙ eqb-swap x (getD (v .values) i 0) ∙ e, keeps-seen v before i x s k)
-    seen false e s = agrees-seen before i x s ∙ ap (eqb x) (sym (k .what i l)) ∙ eqb-swap x (getD (v .values) i 0) ∙ e
+    seen true e s = (asked s ∙ e, keeps-seen v before i x s k)
+    seen false e s = asked s ∙ e
 
     go : (b : Bool) → eqb (getD (v .bound) i 0) 0 ≡ b
-        → Comes (if b then on (bind i x v) else (if eqb (getD (v .values) i 0) x then on v else stop)) (agrees (before ++ (p ∷ [])) p) (before ++ (p ∷ []))
-    go true e = let s : stands before i ≡ false = not-not true (stands before i) (sym e ∙ k .which i l) in (agrees-new before i x s, keeps-new v before i x l s k)
-    go false e = let s : stands before i ≡ true = not-not false (stands before i) (sym e ∙ k .which i l) in seen (eqb (getD (v .values) i 0) x) refl s
+        → Comes (if b then (if eqb x 0 then stop else on (bind i x v)) else (if eqb (getD (v .values) i 0) x then on v else stop)) (agrees (before ++ (p ∷ [])) p) (before ++ (p ∷ []))
+    go true e = new (eqb x 0) refl (not-not true (stands before i) (sym e ∙ k .which i l))
+    go false e = seen (eqb (getD (v .values) i 0) x) refl (not-not false (stands before i) (sym e ∙ k .which i l))
 
 -- ---- terms, tests
 
@@ -199,7 +225,7 @@ tests-come s (t ∷ ts) v before l k =
 
 none-kept : Keeps noVars []
 unfolding stands valueIn
-none-kept = record { eight-b = refl; eight-v = refl; which = λ k h. ap (λ (n : ℕ). eqb n 0) (zeros 8 k); what = λ k h. zeros 8 k }
+none-kept = record { eight-b = refl; eight-v = refl; which = λ k h. ap (λ (n : ℕ). eqb n 0) (zeros 8 k); what = λ k h. zeros 8 k; filled = λ k h t. cc }
   where
     zeros : (n k : ℕ) → getD {A = ℕ} (replicate n 0) k 0 ≡ 0
     zeros zero zero = refl

@@ -1,7 +1,7 @@
 -- The same laws with the state and the variables in words.
 use Prim.Native.Nat.{ℕ, zero, suc, _+_, _*_, _-_, _%_, _≤_, _<_}
 use mathlib.Core.Path.{_≡_, refl, sym, ap, ap₂, _∙_}
-use mathlib.Core.Bool.{Bool, true, false}
+use mathlib.Core.Bool.{Bool, true, false, not}
 use mathlib.Core.List.{List, [], _∷_}
 use native.Mathlib.Omega.{arith}
 use lib.ListN.{getD, drop, set}
@@ -29,9 +29,13 @@ module _ (bound nine : List ℕ) (x t : ℕ) where
   term-symbol h r e = rw (lt-ltb t 4096 h, e)
 
   module _ (h : 4096 ≤ t) where
-    pub term-new : getD bound (t % 8) 0 ≡ 0 → on (varsIn (set bound (t % 8) 1) (set nine (1 + t % 8) x)) ≡ termRun x (wordTerm t) (varsIn bound nine)
+    pub term-new : getD bound (t % 8) 0 ≡ 0 → (r : Bool) → r ≡ not (eqb x 0)
+        → (if r then on (varsIn (set bound (t % 8) 1) (set nine (1 + t % 8) x)) else stop) ≡ termRun x (wordTerm t) (varsIn bound nine)
     unfolding termRun
-    term-new e = rw (le-ltb t 4096 h, e) (ap (λ (v : List ℕ). on (record { bound = set bound (t % 8) 1; values = v })) (drop-set-add 1 nine (t % 8) x))
+    term-new e r f =
+        let new : Vars = record { bound = set bound (t % 8) 1; values = set (drop 1 nine) (t % 8) x } in
+        rw (le-ltb t 4096 h, e, f, drop-set-add 1 nine (t % 8) x)
+        (elim (eqb x 0) as (λ b. (if not b then on new else stop) ≡ (if b then stop else on new)) [ true ↦ refl | false ↦ refl ])
 
     pub term-seen : (getD bound (t % 8) 0 ≡ 0 → ⊥) → (r : Bool) → r ≡ eqb (getD nine (1 + t % 8) 0) x → (if r then on (varsIn bound nine) else stop) ≡ termRun x (wordTerm t) (varsIn bound nine)
     unfolding termRun

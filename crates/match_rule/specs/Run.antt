@@ -28,10 +28,11 @@ abbrev pub thenOn : Run → (Vars → Run) → Run
 thenOn stop f = stop
 thenOn (on v) f = f v
 
--- a term against a value
+-- a term against a value: nil is looked at where a variable is bound, and no other place of it can then be nil
 unfoldable pub termRun : ℕ → Term → Vars → Run
 termRun x (Symbol t) v = if eqb x t then on v else stop
-termRun x (Variable k) v = if eqb (getD (v .bound) k 0) 0 then on (bind k x v) else (if eqb (getD (v .values) k 0) x then on v else stop)
+termRun x (Variable k) v =
+    if eqb (getD (v .bound) k 0) 0 then (if eqb x 0 then stop else on (bind k x v)) else (if eqb (getD (v .values) k 0) x then on v else stop)
 
 unfoldable pub termsRun : List ℕ → List Named → Vars → Run
 termsRun xs [] v = on v

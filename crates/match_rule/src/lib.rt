@@ -12,14 +12,14 @@ ghost use Rattle.match_rule.specs.Words.{varsIn};
 ghost use Rattle.match_rule.specs.Shut.{isHit, whyOf, Because, Made};
 
 // What trying to match a rule gives: it matches; a word of the state, by its number, has another value than the one wanted;
-// or a variable has two values.
+// or a variable has two values, or none.
 pub enum Tried {
     Hit,
     Differs(u16, u16),
     Varies,
 }
 
-// One term against a slot's value: a symbol is compared; a variable is bound at its first place and compared at every later one.
+// One term against a slot's value: a symbol is compared; a variable is bound at its first place, where nil fails, and compared at every later one.
 // bound: which of the eight variables are bound; their values stand in the rule's entry, where they are to be.
 fn match_term(bound: &mut [u16], nine: &mut [u16], value: u16, term: u16) -> bool
     requires { ⌜ (length (now bound) ≡ 8) × (length (now nine) ≡ 9) ⌝ }
@@ -32,12 +32,12 @@ fn match_term(bound: &mut [u16], nine: &mut [u16], value: u16, term: u16) -> boo
     if bound[k] == 0 {
         bound[k] = 1;
         nine[1 + k] = value;
-        return true;
+        return value != 0;
     }
     nine[1 + k] == value
 }
 
-// Why a slot's value is not what a term wants: it is another symbol than the one wanted at that place of the state, or a variable has two values.
+// Why a slot's value is not what a term wants: it is another symbol than the one wanted at that place of the state, or a variable has two values or none.
 fn why(place: u16, term: u16) -> Tried
     ensures { λ t. ⌜ t ≡ whyOf place term ⌝ }
 {

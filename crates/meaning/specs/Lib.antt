@@ -20,3 +20,4 @@ pub mod Calls
 pub mod Print
 pub mod Examples
 pub mod Telling
+pub mod EmptySlots

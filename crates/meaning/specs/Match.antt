@@ -1,5 +1,5 @@
 -- "A match": the entries of the table.
-use mathlib.Core.Bool.{Bool, _&&_}
+use mathlib.Core.Bool.{Bool, true, _&&_, not}
 use mathlib.Core.List.{List, [], _∷_, _++_, map}
 use Prim.Native.Nat.{ℕ}
 use lib.Dec.{eqb}
@@ -29,14 +29,19 @@ unfoldable pub valueIn : List Place → ℕ → ℕ
 valueIn [] v = 0
 valueIn (p ∷ ps) v = if isVariable v (p .term) then p .value else valueIn ps v
 
--- what a term stands for: "A variable may take any value, nil too."
+-- what a term stands for
 abbrev pub termIn : List Place → Term → ℕ
 termIn ps (Symbol x) = x
 termIn ps (Variable v) = valueIn ps v
 
+-- "a slot test with a variable fails when the slot holds nil; a constant nil still tests for an empty slot"
+abbrev pub takes : Term → ℕ → Bool
+takes (Symbol x) value = true
+takes (Variable v) value = not (eqb value 0)
+
 -- "each named slot's value equals the term; a variable has one value throughout the rule"
 abbrev pub agrees : List Place → Place → Bool
-agrees ps p = eqb (p .value) (termIn ps (p .term))
+agrees ps p = takes (p .term) (p .value) && eqb (p .value) (termIn ps (p .term))
 
 abbrev pub agreed : List Place → Bool
 agreed ps = every (agrees ps) ps

@@ -19,55 +19,55 @@ use Rattle.meaning.specs.Examples.{everything, Row}
 -- ---- a small model: two buffers, type 1 with two slots
 
 -- a chunk of type 1 in a buffer, and eight buffers of which two may hold something
-abbrev holds : ℕ → ℕ → ℕ → Buffer
+abbrev pub holds : ℕ → ℕ → ℕ → Buffer
 holds x y delay = record { isa = 1; slots = x ∷ y ∷ replicate 6 0; delay = delay }
 
-abbrev both : Buffer → Buffer → State
+abbrev pub both : Buffer → Buffer → State
 both b c = record { buffers = b ∷ c ∷ replicate 6 (nilAfter 0); clock = 1000 }
 
 abbrev at : ℕ → State → State
 at clock s = record { buffers = s .buffers; clock = clock }
 
 -- slot 0, and slots 0 and 1, with their terms
-abbrev one : Term → List Named
+abbrev pub one : Term → List Named
 one t = record { slot = 0; term = t } ∷ []
 
-abbrev two : Term → Term → List Named
+abbrev pub two : Term → Term → List Named
 two t u = record { slot = 0; term = t } ∷ record { slot = 1; term = u } ∷ []
 
-abbrev tests1 : ℕ → List Named → Test
+abbrev pub tests1 : ℕ → List Named → Test
 tests1 b ns = record { buffer = b; isa = 1; named = ns }
 
 abbrev testsNil : ℕ → Test
 testsNil b = record { buffer = b; isa = 0; named = [] }
 
-abbrev act : ℕ → Deed → Action
+abbrev pub act : ℕ → Deed → Action
 act b d = record { buffer = b; deed = d }
 
-abbrev rule : ℤ → List Test → List Action → Rule
+abbrev pub rule : ℤ → List Test → List Action → Rule
 rule u ts as′ = record { utility = u; tests = ts; actions = as′ }
 
-abbrev fact : ℕ → ℕ → ℕ → ℕ → Fact
+abbrev pub fact : ℕ → ℕ → ℕ → ℕ → Fact
 fact x y activation latency = record { chunk = record { isa = 1; slots = x ∷ y ∷ replicate 6 0 }; activation = activation; latency = latency }
 
-abbrev model : List Fact → List Rule → Model
+abbrev pub model : List Fact → List Rule → Model
 model fs rs = record { buffers = 2; types = 0 ∷ 2 ∷ []; failure = 70; opening = []; facts = fs; rules = rs }
 
 -- ---- a step, as words: 1, the rule, the clock, the mark and the two buffers; 2, the ms and the same; or 0 and why it stopped
 
-abbrev bufferWords : Buffer → List ℕ
+abbrev pub bufferWords : Buffer → List ℕ
 bufferWords b = b .isa ∷ take 2 (b .slots) ++ (b .delay ∷ [])
 
 abbrev after : State → ℕ → List ℕ
 after s mark = s .clock ∷ mark ∷ bufferWords (bufferOf s 0) ++ bufferWords (bufferOf s 1)
 
-abbrev stepWords : Step → List ℕ
+abbrev pub stepWords : Step → List ℕ
 stepWords (Stopped n) = 0 ∷ n ∷ []
 stepWords (Made (Fired k) s mark) = 1 ∷ k ∷ after s mark
 stepWords (Made (Waited ms) s mark) = 2 ∷ ms ∷ after s mark
 
 -- the step from a state with the fresh table
-abbrev fresh : Model → State → List ℕ
+abbrev pub fresh : Model → State → List ℕ
 fresh m s = stepWords (stepOf m s (freshTable (m .rules) s))
 
 -- the step from the opening of an image, or why it is refused
@@ -80,32 +80,32 @@ unfoldable signs : List ℕ
 signs =
     0x01 ∷ 0x10 ∷ 0x00 ∷ 0x40 ∷ 0x00 ∷ 0x00 ∷ 0x00 ∷ 0x1f ∷ 0xff ∷ 0xe2 ∷ 0x00 ∷ 0x00 ∷ 0x00 ∷ 0x00 ∷ 0x01 ∷ 0x10 ∷ 0x00 ∷ 0x00 ∷ 0x00 ∷ []
 
-abbrev row : List ℕ → List ℕ → Row
+abbrev pub row : List ℕ → List ℕ → Row
 row g s = record { given = g; said = s }
 
 -- ---- the rules of the cases
 
-abbrev v0 : Term
+abbrev pub v0 : Term
 v0 = Variable 0
 
-abbrev v1 : Term
+abbrev pub v1 : Term
 v1 = Variable 1
 
 -- a rule on buffer 0 that does nothing
-abbrev idle : ℤ → Rule
+abbrev pub idle : ℤ → Rule
 idle u = rule u (tests1 0 [] ∷ []) []
 
 -- asks memory for a chunk with the goal's first slot
-abbrev asks : Rule
+abbrev pub asks : Rule
 asks = rule (pos 0) (tests1 0 (one v0) ∷ []) (act 1 (Request 1 (one v0)) ∷ [])
 
 -- writes each of two buffers' first slot into the other
-abbrev swaps : Rule
+abbrev pub swaps : Rule
 swaps =
     rule (pos 0) (tests1 0 (one v0) ∷ tests1 1 (one v1) ∷ []) (act 0 (Modify (one v1)) ∷ act 1 (Modify (one v0)) ∷ [])
 
 -- asks that two slots hold one value
-abbrev twice : Rule
+abbrev pub twice : Rule
 twice = rule (pos 0) (tests1 0 (two v0 v0) ∷ []) (act 0 Clear ∷ [])
 
 unfoldable pub rows : List Row
@@ -125,8 +125,6 @@ rows =
     -- "Binding a variable at its last place without comparing the first."
     ∷ row (entryOf twice (both (holds 5 6 0) (nilAfter 0))) (replicate 9 0)
     ∷ row (entryOf twice (both (holds 6 6 0) (nilAfter 0))) (1 ∷ 6 ∷ replicate 7 0)
-    -- "A variable may take any value, nil too."
-    ∷ row (entryOf twice (both (holds 0 0 0) (nilAfter 0))) (1 ∷ replicate 8 0)
     -- a cleared buffer holds nothing: the rule that cleared it does not match again
     ∷ row (fresh (model [] (twice ∷ [])) (both (holds 6 6 0) (nilAfter 0))) (1 ∷ 0 ∷ 1050 ∷ 1 ∷ 0 ∷ 0 ∷ 0 ∷ 0 ∷ 0 ∷ 0 ∷ 0 ∷ 0 ∷ [])
     -- "Rebuilding the whole table at each refresh.": mark 2 touches the rule on both buffers and leaves the rule on buffer 0 alone

@@ -1,5 +1,5 @@
 -- What is promised: Demands, a statement for each demand. The words of the statements are in Words, Sentences and Published; the statements in Numbers
--- (demand 1), Semantics (demand 2), Refreshing, Marking, Keeping and Clearing (demand 3); their proofs stand apart, in Proofs.
+-- (demand 1), Semantics and Filling (demand 2), Refreshing, Marking, Keeping and Clearing (demand 3); their proofs stand apart, in Proofs.
 pub mod Words
 pub mod Published
 pub mod Sentences
@@ -9,5 +9,6 @@ pub mod Marking
 pub mod Keeping
 pub mod Clearing
 pub mod Semantics
+pub mod Filling
 pub mod Demands
 pub mod Proofs

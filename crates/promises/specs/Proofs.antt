@@ -15,6 +15,7 @@ pub mod Eight
 pub mod Retrieving
 pub mod Effects
 pub mod Transitions
+pub mod Filled
 pub mod Outcomes
 pub mod Stopping
 pub mod Reading

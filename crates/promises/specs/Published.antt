@@ -1,5 +1,5 @@
 -- The published semantics as relations, close to its own text (D. Gall, T. Frühwirth, A Refined Operational Semantics for ACT-R), with the points
--- that document 01 decides. No step, match or choice is computed here; that the steps of `meaning` are these transitions is said in Semantics.
+-- that document 01 and change request 2026-01 decide. No step, match or choice is computed here; that steps of `meaning` are these transitions says Semantics.
 use mathlib.Core.Path.{_≡_}
 use mathlib.Core.Bool.{true, false}
 use mathlib.Core.List.{List, [], _∷_, List·Memᴰ}
@@ -25,11 +25,12 @@ abbrev pub standsFor : (ℕ → ℕ) → Term → ℕ
 standsFor v (Symbol x) = x
 standsFor v (Variable n) = v n
 
--- a test holds under a binding: its buffer is visible, of its type, and each named slot has the value of its term
+-- a test holds under a binding: its buffer is visible, of its type, each named slot has the value of its term, and none that a variable names is empty
 pub record Holds (v : ℕ → ℕ) (s : State) (t : Test) : Type 0 where
   pub visible : bufferOf s (t .buffer) .delay ≡ 0
   pub typed : bufferOf s (t .buffer) .isa ≡ t .isa
   pub valued : (n : Named) → List·Memᴰ n (t .named) → getD (bufferOf s (t .buffer) .slots) (n .slot) 0 ≡ standsFor v (n .term)
+  pub filled : (n : Named) → List·Memᴰ n (t .named) → (w : ℕ) → n .term ≡ Variable w → getD (bufferOf s (t .buffer) .slots) (n .slot) 0 ≡ 0 → ⊥
 
 -- a binding under which all tests of a rule hold
 abbrev pub Binds : Rule → State → (ℕ → ℕ) → Type 0

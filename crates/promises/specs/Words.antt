@@ -8,9 +8,9 @@ use lib.ListN.{length, take, drop}
 use Rattle.meaning.specs.declared.Buffer.{Buffer}
 use Rattle.meaning.specs.declared.State.{State}
 use Rattle.meaning.specs.Base.{every, keep, bit}
-use Rattle.meaning.specs.Model.{Model, Rule, Test, Action}
+use Rattle.meaning.specs.Model.{Model, Rule, Test, Action, Variable}
 use Rattle.meaning.specs.State.{bufferOf}
-use Rattle.meaning.specs.Match.{shows, matches, entryOf}
+use Rattle.meaning.specs.Match.{Place, shows, matches, entryOf}
 use Rattle.meaning.specs.Step.{Event, Fired, largest}
 use Rattle.meaning.specs.Refresh.{testsMarked}
 use Rattle.meaning.specs.Calls.{openOf, runOf, refreshOf}
@@ -58,6 +58,13 @@ pub data Reached (image : List ℕ) : State → List ℕ → Type 0 where
   -- the caller puts other chunks into buffers, or sets the clock, and refreshes with a mark of every buffer that it changed: the refresh answers 0
   changed : {s : State} {table : List ℕ} → Reached image s table → (s′ : State) (mark : ℕ) → Machine s′ → ((b : ℕ) → bit mark b ≡ false → bufferOf s b ≡ bufferOf s′ b)
       → refreshOf image s′ mark table .number ≡ 0 → Reached image s′ (refreshOf image s′ mark table .table)
+
+-- of a list of places, one at which a variable stands and something is there
+pub record FilledAt (ps : List Place) (w : ℕ) : Type 0 where
+  pub place : Place
+  pub place-in : List·Memᴰ place ps
+  pub is : place .term ≡ Variable w
+  pub filled : place .value ≡ 0 → ⊥
 
 -- rule number k matches the state as it is: each of its tests finds a visible chunk of its type in its buffer
 pub record Matching (m : Model) (s : State) (k : ℕ) : Type 0 where

@@ -61,8 +61,8 @@ mod tests {
             "(deftemplate buffer-1 (slot isa) (slot due) (slot s0) (slot s1))",
             "  (fact-1 (rank 1) (latency 100) (s0 2) (s1 3))",
             "(defrule rule-1 (declare (salience 1))
-  ?b0 <- (buffer-0 (isa 2) (s0 ?v0))
-  (buffer-1 (due 0) (isa 1) (s0 ?v0) (s1 ?v1))
+  ?b0 <- (buffer-0 (isa 2) (s0 ?v0&~0))
+  (buffer-1 (due 0) (isa 1) (s0 ?v0) (s1 ?v1&~0))
   =>
   (modify ?b0 (s0 ?v1))
   (assert (ask-1-1-80 (s0 ?v1)))

@@ -72,3 +72,30 @@ pub fn growing() -> Vec<Vec<Measured>> {
         [1, 10, 100].map(steps).into(),
     ]
 }
+
+#[cfg(test)]
+mod tests {
+    use super::*;
+    use jirvuntsag_reference::Model;
+
+    #[test]
+    fn every_measured_run_makes_all_its_steps() {
+        for measured in models().into_iter().chain(growing().into_iter().flatten()) {
+            let model = Model::decode(&measured.image).expect("a valid model");
+            let from = model.open_state();
+            let (number, _, made) = model.run(from, &mut model.fresh_table(&from), measured.steps);
+            assert_eq!((number, made), (0, measured.steps), "{}", measured.name);
+        }
+    }
+
+    #[test]
+    fn where_all_rules_match_each_step_changes_all_entries() {
+        let model = Model::decode(&pack(&all_match(RULES))).expect("a valid model");
+        let mut state = model.open_state();
+        let mut table = model.fresh_table(&state);
+        for values in [[1, 7], [7, 1], [1, 7]] {
+            assert!(table.chunks_exact(9).all(|entry| entry[0] == 1 && entry[1..3] == values), "{values:?}");
+            state = model.run(state, &mut table, 1).1;
+        }
+    }
+}

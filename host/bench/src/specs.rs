@@ -19,12 +19,12 @@ pub const FIRST: Place = Place { buffer: 0, slot: 0 };
 /// The last slot of the last of four buffers.
 pub const LAST: Place = Place { buffer: 3, slot: 1 };
 
-/// Counts round and round through so many successors.
+/// Counts round and round through so many successors, from 1 on: 0 is nil, which no variable takes.
 pub fn counting(facts: u16) -> ModelSpec {
     let successor =
-        |first| FactSpec { chunk: ChunkSpec::new(1, &[first, (first + 1) % facts]), activation: 10, latency: 100 };
+        |first| FactSpec { chunk: ChunkSpec::new(1, &[first, first % facts + 1]), activation: 10, latency: 100 };
     let mut spec = model_a();
-    spec.facts = (0..facts).map(successor).collect();
+    spec.facts = (1..=facts).map(successor).collect();
     // A target that is never reached.
     spec.opening[0].slots[1] = 4_095;
     spec
@@ -96,7 +96,8 @@ pub fn pairs(ring: u16) -> ModelSpec {
     ring_model(2, &places, (0..ring * ring).map(rule).collect())
 }
 
-/// Rules that match whatever the one buffer holds; each step swaps its two slots, so that all entries change.
+/// Rules that match whatever the one buffer holds in its two slots, of which none is empty; each step swaps them, so that
+/// all entries change.
 pub fn all_match(rules: u16) -> ModelSpec {
     let (one, other) = (Term::Variable(0), Term::Variable(1));
     let swap = RuleSpec {
@@ -105,7 +106,9 @@ pub fn all_match(rules: u16) -> ModelSpec {
         actions: vec![ActionSpec::modify(0, &[(0, other), (1, one)])],
         ..RuleSpec::default()
     };
-    ring_model(1, &[FIRST], vec![swap; usize::from(rules)])
+    let mut spec = ring_model(1, &[], vec![swap; usize::from(rules)]);
+    spec.opening[0].slots[0] = 1;
+    spec
 }
 
 /// Two rules that take turns, and others that match at all times, on another buffer, and rest below them.

@@ -1,10 +1,10 @@
-//! The cases of `vectors/base.txt`: a call and its answer on two lines.
+//! The cases of `vectors/01.txt`, which have request 2026-01 in: a call and its answer on two lines.
 
 use jirvuntsag_reference::{Buffer, State};
 
 use crate::Engine;
 
-const PATH: &str = concat!(env!("CARGO_MANIFEST_DIR"), "/../../vectors/base.txt");
+const PATH: &str = concat!(env!("CARGO_MANIFEST_DIR"), "/../../vectors/01.txt");
 
 /// A call and the answer that it must have, as they are written.
 pub struct Case {
@@ -16,7 +16,7 @@ pub struct Case {
 
 /// All cases.
 pub fn cases() -> Vec<Case> {
-    let text = std::fs::read_to_string(PATH).expect("vectors/base.txt");
+    let text = std::fs::read_to_string(PATH).expect("vectors/01.txt");
     let lines: Vec<&str> = text.lines().collect();
     assert_eq!(lines.len() % 2, 0, "a call without an answer");
     lines.chunks_exact(2).map(|pair| Case { call: pair[0].into(), answer: pair[1].into() }).collect()

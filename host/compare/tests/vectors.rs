@@ -5,7 +5,7 @@ use jirvuntsag_compare::{cases, Engine, PROVED, REFERENCE};
 /// Holds an engine to every case, and tells all that differ.
 fn hold(engine: &Engine) {
     let cases = cases();
-    assert_eq!(cases.len(), 456);
+    assert_eq!(cases.len(), 360);
     let mut wrong = String::new();
     for case in &cases {
         let given = case.answered_by(engine);

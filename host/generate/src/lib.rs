@@ -6,6 +6,7 @@
 mod case;
 mod image;
 mod model;
+mod places;
 mod rng;
 mod seeds;
 mod shape;

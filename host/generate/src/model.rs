@@ -4,6 +4,7 @@ use jirvuntsag_packing::{
     pack, ActionSpec, ChunkSpec, Deed, FactSpec, ModelSpec, PatternSpec, RuleSpec, Term, TestSpec,
 };
 
+use crate::places::{variable_places, Place};
 use crate::rng::Rng;
 use crate::shape::Shape;
 
@@ -45,7 +46,10 @@ pub fn model_of(rng: &mut Rng, shape: Shape) -> ModelSpec {
         draft.spec.facts.push(fact);
     }
     for _ in 0..shape.rules {
-        let rule = draft.rule();
+        let rule = match draft.spec.rules.last().cloned() {
+            Some(last) if draft.rng.chance(10) => draft.filler(&last),
+            _ => draft.rule(),
+        };
         draft.spec.rules.push(rule);
     }
     let mut spec = draft.spec;
@@ -96,6 +100,14 @@ impl Draft<'_> {
         self.rng.below(self.shape.symbols.clamp(1, 4_096)) as u16
     }
 
+    /// A symbol that is not nil.
+    fn filled(&mut self) -> u16 {
+        match self.symbol() {
+            0 => self.rng.from_to(1, self.shape.symbols.clamp(2, 4_096) - 1) as u16,
+            symbol => symbol,
+        }
+    }
+
     /// A type from `lowest` to T, 0 if there is none.
     fn any_type(&mut self, lowest: usize) -> u8 {
         self.rng.from_to(lowest.min(self.shape.types), self.shape.types) as u8
@@ -111,10 +123,10 @@ impl Draft<'_> {
         }
     }
 
-    /// A chunk of a type with random slots.
+    /// A chunk of a type with random slots, of which a few are empty.
     fn chunk(&mut self, isa: u8) -> ChunkSpec {
         let count = self.spec.slot_count(isa);
-        let slots: Vec<u16> = (0..count).map(|_| self.symbol()).collect();
+        let slots = (0..count).map(|_| if self.rng.chance(20) { 0 } else { self.filled() }).collect();
         ChunkSpec { isa, slots }
     }
 
@@ -138,7 +150,8 @@ impl Draft<'_> {
     /// A rule whose variables all stand in its tests.
     fn rule(&mut self) -> RuleSpec {
         let utility = if self.rng.chance(75) { self.rng.pick(&UTILITIES) } else { self.rng.word() as u16 };
-        let variables = self.rng.from_to(0, self.shape.variables) as u16;
+        let least = if self.rng.chance(60) { self.shape.variables.min(1) } else { 0 };
+        let variables = self.rng.from_to(least, self.shape.variables) as u16;
         let size = self.count(1, self.shape.tests.clamp(1, self.shape.buffers));
         let buffers = self.rng.subset(self.shape.buffers, size);
         let mut tests: Vec<TestSpec> = buffers.iter().map(|&buffer| self.test(buffer, variables)).collect();
@@ -152,13 +165,33 @@ impl Draft<'_> {
         RuleSpec { utility, variables: variables as u8, tests, actions }
     }
 
+    /// A rule that fills a slot for another, where that has a variable; any rule if it has none.
+    fn filler(&mut self, other: &RuleSpec) -> RuleSpec {
+        let places = variable_places(other);
+        let Some(&Place { buffer, slot, .. }) = places.get(self.rng.below(places.len())) else { return self.rule() };
+        let mut tests = other.tests.clone();
+        for test in tests.iter_mut().filter(|test| test.buffer == buffer) {
+            let emptied = |(at, term)| (at, if at == slot { Term::Symbol(0) } else { term });
+            test.pattern = PatternSpec::new(&test.pattern.named().map(emptied).collect::<Vec<_>>());
+        }
+        let variables = renumber(&mut tests) as u8;
+        let actions = vec![ActionSpec::modify(buffer, &[(slot, Term::Symbol(self.filled()))])];
+        RuleSpec { utility: other.utility, variables, tests, actions }
+    }
+
     /// Lets the rule change a buffer that it tests, so that it mostly does not match again at once.
     fn enliven(&mut self, tests: &[TestSpec], actions: &mut Vec<ActionSpec>) {
         let test = &tests[self.rng.below(tests.len())];
-        let symbols = test.pattern.named().filter(|(_, term)| matches!(term, Term::Symbol(_)));
-        let slots: Vec<usize> = symbols.map(|(slot, _)| slot).collect();
-        let deed = if !slots.is_empty() && self.rng.chance(80) {
-            Deed::Modify(PatternSpec::new(&[(self.rng.pick(&slots), Term::Symbol(self.symbol()))]))
+        let named: Vec<(usize, Term)> = test.pattern.named().collect();
+        let deed = if !named.is_empty() && self.rng.chance(80) {
+            let (slot, term) = self.rng.pick(&named);
+            // Another symbol ends a test for a symbol, and nil one for a variable.
+            let symbol = match term {
+                Term::Symbol(0) => self.filled(),
+                Term::Symbol(_) => self.symbol(),
+                Term::Variable(_) => 0,
+            };
+            Deed::Modify(PatternSpec::new(&[(slot, Term::Symbol(symbol))]))
         } else if self.shape.types > 0 && (test.isa == 0 || self.rng.chance(50)) {
             let isa = self.type_for(usize::from(test.buffer)).max(1);
             Deed::Request(isa, self.pattern(isa, 0, 0))

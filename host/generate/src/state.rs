@@ -3,6 +3,7 @@
 use jirvuntsag_packing::{ModelSpec, RuleSpec, Term};
 use jirvuntsag_reference::{Buffer, State};
 
+use crate::places::variable_places;
 use crate::rng::Rng;
 
 /// Delays on both sides of a firing, and the ends.
@@ -46,6 +47,9 @@ pub fn state(rng: &mut Rng, spec: &ModelSpec) -> State {
     if !spec.rules.is_empty() && rng.chance(75) {
         let rule = &spec.rules[rng.below(spec.rules.len())];
         satisfy(rng, rule, spec, &mut state);
+        if rng.chance(30) {
+            empty_a_variable(rng, rule, &mut state);
+        }
         if rng.chance(25) {
             let b = rng.below(spec.opening.len());
             let isa = state.buffers[b].isa as u8;
@@ -80,9 +84,17 @@ fn value(rng: &mut Rng, spec: &ModelSpec) -> u16 {
     }
 }
 
+/// A value that is not nil.
+fn filled(rng: &mut Rng, spec: &ModelSpec) -> u16 {
+    match value(rng, spec) {
+        0 => rng.from_to(1, 3) as u16,
+        value => value,
+    }
+}
+
 /// Changes the tested buffers so that the rule matches.
 fn satisfy(rng: &mut Rng, rule: &RuleSpec, spec: &ModelSpec, state: &mut State) {
-    let values: Vec<u16> = (0..8).map(|_| value(rng, spec)).collect();
+    let values: Vec<u16> = (0..8).map(|_| filled(rng, spec)).collect();
     for test in &rule.tests {
         let mut fitting = buffer(rng, spec, test.isa);
         fitting.delay = 0;
@@ -93,6 +105,18 @@ fn satisfy(rng: &mut Rng, rule: &RuleSpec, spec: &ModelSpec, state: &mut State) 
             };
         }
         state.buffers[usize::from(test.buffer)] = fitting;
+    }
+}
+
+/// Empties a slot on which a variable of the rule stands, and mostly all slots of that variable.
+fn empty_a_variable(rng: &mut Rng, rule: &RuleSpec, state: &mut State) {
+    let places = variable_places(rule);
+    let Some(&chosen) = places.get(rng.below(places.len())) else { return };
+    let all = rng.chance(60);
+    for place in places {
+        if place == chosen || all && place.variable == chosen.variable {
+            state.buffers[usize::from(place.buffer)].slots[place.slot] = 0;
+        }
     }
 }
 

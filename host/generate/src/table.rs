@@ -3,6 +3,7 @@
 use jirvuntsag_packing::ModelSpec;
 use jirvuntsag_reference::{Model, State};
 
+use crate::places::variable_places;
 use crate::rng::Rng;
 use crate::state::state;
 
@@ -21,13 +22,15 @@ pub enum TableKind {
     FirstWord,
     /// Fresh, with one word off.
     OneOff,
+    /// Partly as kept from before a variable took no empty slot: a used variable is nil.
+    Nil,
     /// Any words.
     Junk,
     /// Not 9 words for each rule.
     WrongLength,
 }
 
-const KINDS: [TableKind; 14] = [
+const KINDS: [TableKind; 16] = [
     TableKind::Fresh,
     TableKind::Fresh,
     TableKind::Fresh,
@@ -40,6 +43,8 @@ const KINDS: [TableKind; 14] = [
     TableKind::Zeros,
     TableKind::FirstWord,
     TableKind::OneOff,
+    TableKind::Nil,
+    TableKind::Nil,
     TableKind::Junk,
     TableKind::WrongLength,
 ];
@@ -58,6 +63,7 @@ pub fn table(rng: &mut Rng, spec: &ModelSpec, model: &Model, at: &State) -> (Tab
         TableKind::Zeros => table.fill(0),
         TableKind::FirstWord => spoil_first_words(rng, &mut table),
         TableKind::OneOff => spoil_one_word(rng, &mut table),
+        TableKind::Nil => keep_nil(rng, spec, at, &mut table),
         TableKind::Junk => table.iter_mut().for_each(|word| *word = rng.pick(&[0, 1, 1, 2, 3, 65_535])),
         TableKind::WrongLength => wrong_length(rng, &mut table),
     }
@@ -103,6 +109,19 @@ fn spoil_one_word(rng: &mut Rng, table: &mut [u16]) {
     let at = 9 * entry + rng.below(9);
     if let Some(word) = table.get_mut(at) {
         *word = word.wrapping_add(rng.pick(&[1, 65_535, 256, 32_768]));
+    }
+}
+
+/// Some entries that match by the values in the state, but for a nil.
+fn keep_nil(rng: &mut Rng, spec: &ModelSpec, at: &State, table: &mut [u16]) {
+    for (rule, entry) in spec.rules.iter().zip(table.chunks_exact_mut(9)) {
+        if rule.variables > 0 && rng.chance(30) {
+            entry[0] = 1;
+            for place in variable_places(rule) {
+                entry[1 + usize::from(place.variable)] = at.buffers[usize::from(place.buffer)].slots[place.slot];
+            }
+            entry[1 + rng.below(usize::from(rule.variables))] = 0;
+        }
     }
 }
 

@@ -14,7 +14,7 @@ pub struct Table {
 pub struct Entry<'a> {
     /// Whether the rule counts as matching: its first word is 1.
     pub matches: bool,
-    /// The values of variables 0 to 7.
+    /// The values of variables 0 to 7; of a rule that matches, 0 for those alone that it does not have.
     pub values: &'a [u16],
 }
 

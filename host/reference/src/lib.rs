@@ -1,4 +1,4 @@
-//! An independent engine for document 01.
+//! An independent engine for document 01 with change request 2026-01.
 //!
 //! An image is decoded once into ordinary structs ([`Model`]); a run keeps the
 //! matches from step to step and matches again only the rules that test a marked

@@ -2,6 +2,7 @@
 
 use crate::board::Board;
 use crate::model::Model;
+use crate::place::Place;
 use crate::plan::{Plan, Ranked};
 use crate::set::{member, Set};
 use crate::state::State;
@@ -9,6 +10,8 @@ use crate::WORDS;
 
 /// An entry of a rule that does not match.
 pub(crate) const NO_MATCH: [u16; WORDS] = [0; WORDS];
+/// What an empty slot holds.
+const NIL: u16 = 0;
 
 /// What is known of a table's entries, by rank.
 #[derive(Clone, Copy, Default)]
@@ -38,9 +41,9 @@ impl Plan {
     /// Of the rules in a word, those that match; `visit` meets each of them.
     #[inline]
     pub fn matches(&self, word: usize, among: u64, board: &Board, mut visit: impl FnMut(&Ranked)) -> u64 {
-        // Types and visibility first, for 64 rules at a time.
+        // Types, visibility and empty slots first, for 64 rules at a time.
         let sets = board.shown.iter().take(self.buffers).map(|&shown| &self.fits[usize::from(shown)]);
-        let mut left = sets.fold(among, |fit, set| fit & set.word(word));
+        let mut left = sets.fold(among, |fit, set| fit & set.word(word)) & !self.unbound(word, board);
         let mut matched = 0;
         while left != 0 {
             let rank = member(word, left);
@@ -52,6 +55,21 @@ impl Plan {
             left &= left - 1;
         }
         matched
+    }
+
+    /// Rules of a word of which a variable stands on an empty slot. A slot test with a variable fails when the slot holds
+    /// nil (request 2026-01); a constant nil still tests for an empty slot. First places will do: the others hold the same.
+    #[inline]
+    fn unbound(&self, word: usize, board: &Board) -> u64 {
+        let (mut unbound, mut left) = (0, self.bound);
+        while left != 0 {
+            let place = left.trailing_zeros();
+            if board.at(place as Place) == NIL {
+                unbound |= self.binders[place as usize].word(word);
+            }
+            left &= left - 1;
+        }
+        unbound
     }
 
     /// Whether the slots agree; given up at the first that differs.

@@ -3,7 +3,7 @@
 use crate::parts::{Parts, RuleHead};
 use crate::place::{place, Place};
 use crate::set::Set;
-use crate::BUFFERS;
+use crate::{BUFFERS, SLOTS};
 
 /// The rules in the order in which they are chosen; a rule's rank is its index here.
 #[derive(Clone, Debug)]
@@ -21,6 +21,10 @@ pub(crate) struct Plan {
     pub fits: Vec<Set>,
     /// What a buffer can show: types 0 to T, or nothing.
     pub shows: usize,
+    /// For each place the ranks of the rules of which a variable first stands there.
+    pub binders: Vec<Set>,
+    /// The places that are a variable's first in some rule, bit p for place p.
+    pub bound: u64,
     /// Slots that must hold a symbol besides the gates, rule after rule.
     pub equals: Vec<Equal>,
     /// Slots that must hold the same value, rule after rule.
@@ -91,6 +95,8 @@ impl Plan {
             testers: [Set::default(); BUFFERS],
             fits: vec![Set::default(); usize::from(parts.buffers) * shows],
             shows,
+            binders: vec![Set::default(); usize::from(parts.buffers) * SLOTS],
+            bound: 0,
             equals: Vec::with_capacity(parts.tests.len()),
             sames: Vec::new(),
         };
@@ -121,7 +127,11 @@ impl Plan {
                     None if rule.gate.care == 0 => rule.gate = Gate { place, care: u16::MAX, symbol },
                     None => equals.push(Equal { place, symbol }),
                     Some(number) => match &mut rule.sources[number] {
-                        source @ &mut NOWHERE => *source = place,
+                        source @ &mut NOWHERE => {
+                            *source = place;
+                            self.binders[usize::from(place)].insert(rank);
+                            self.bound |= 1 << place;
+                        }
                         source => sames.push(Same { place, first: *source }),
                     },
                 }

@@ -95,6 +95,33 @@ Symbols that stand in one place only, which is right or mistyped:
     assert!(told.ends_with(&wanted), "{told}");
 }
 
+#[test]
+fn a_variable_on_an_empty_slot() {
+    let text = "type t a b
+buffer goal t a x
+rule full
+  =goal> t a ?x b ?y
+  ==>
+rule same
+  =goal> t a ?x b ?x
+  ==>
+rule none
+  =goal> t a nil
+  ==>
+rule half
+  =goal> t a ?x b nil
+  ==>
+";
+    let told = explained(&[&file("empty.model", text), "--steps", "0"]);
+    let wanted = "
+  full  fired never; does not match: b of goal is empty, and variable ?y takes no empty slot
+  same  fired never; does not match: b of goal is empty, and variable ?x takes no empty slot
+  none  fired never; does not match: a of goal is x, not nil
+  half  fired never; matches
+";
+    assert!(told.contains(wanted), "{told}");
+}
+
 /// A rule is said not to match exactly where a test of it does not hold: on every example, after each number of steps.
 #[test]
 fn every_rule_is_explained() {

@@ -46,7 +46,7 @@ same-length-2 : tie.Need-same-length-2
 same-length-2 c = search needs
 
 returns-2 : tie.Need-returns-2
-returns-2 c = let a = c .before .before .before .args in term-new (a .bound .now) (a .nine .now) (a .value) (a .term) (c .before .before .if1 .left) (c .if2 .taken)
+returns-2 c = let a = c .before .before .before .args in term-new (a .bound .now) (a .nine .now) (a .value) (a .term) (c .before .before .if1 .left) (c .if2 .taken) _ refl
 
 add-result : tie.Need-add-result
 add-result c = search needs

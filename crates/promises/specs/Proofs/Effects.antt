@@ -55,7 +55,7 @@ put-unnamed (n ∷ ns) entry slots i h =
     put-unnamed ns entry (set slots (n .slot) (valueOf entry (n .term))) i (λ x k. h x (List·Memᴰ·tail k))
     ∙ getD-set-other slots (n .slot) i (valueOf entry (n .term)) 0 (λ q. h n (List·Memᴰ·head refl) (sym q))
 
-put-named : (least : ℕ) (ns : List Named) (entry slots : List ℕ) → rises (λ n. n .slot) least ns ≡ true → (n : Named) → List·Memᴰ n ns → n .slot < length slots
+pub put-named : (least : ℕ) (ns : List Named) (entry slots : List ℕ) → rises (λ n. n .slot) least ns ≡ true → (n : Named) → List·Memᴰ n ns → n .slot < length slots
     → getD (put ns entry slots) (n .slot) 0 ≡ valueOf entry (n .term)
 unfolding put
 put-named least [] entry slots e n h l = absurd (List·Memᴰ·not-nil h)

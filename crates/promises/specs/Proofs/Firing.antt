@@ -58,13 +58,19 @@ module _ (m : Model) (memory : List Fact) (us : List ℤ) (s : State) (table : L
       let q : candidate .rule ≡ r = at-same (fired-rule .0) at in
       sym (how .state-is) ∙ ap (λ (e : List ℕ). fire (m .failure) memory (candidate .rule) e s) (how .entry-is) ∙ ap (λ (x : Rule). fire (m .failure) memory x (entryOf x s) s) q
 
-  pub fired-cleared : (r : Rule) → At r k (m .rules) → (b : ℕ) → b < length (s .buffers) → deedOn (r .actions) b ≡ some Clear → bufferOf s′ b ≡ nilAfter 0
-  unfolding fire done
-  fired-cleared r at b h d =
+  -- what it does to a buffer
+  pub fired-done : (r : Rule) → At r k (m .rules) → (b : ℕ) → b < length (s .buffers) → (d : Deed) → deedOn (r .actions) b ≡ some d
+      → bufferOf s′ b ≡ done (m .failure) memory (entryOf r s) (bufferOf s b) d
+  unfolding fire
+  fired-done r at b h d is =
       let f : ℕ → Buffer → Buffer = λ i x. after (m .failure) memory (entryOf r s) x (deedOn (r .actions) i) in
       ap (λ (x : State). bufferOf x b) (fired-state r at) ∙ getD-change f 0 (s .buffers) b nothing h
       ∙ ap (λ (i : ℕ). after (m .failure) memory (entryOf r s) (bufferOf s b) (deedOn (r .actions) i)) (zero-add b)
-      ∙ ap (λ (o : Option Deed). after (m .failure) memory (entryOf r s) (bufferOf s b) o) d
+      ∙ ap (λ (o : Option Deed). after (m .failure) memory (entryOf r s) (bufferOf s b) o) is
+
+  pub fired-cleared : (r : Rule) → At r k (m .rules) → (b : ℕ) → b < length (s .buffers) → deedOn (r .actions) b ≡ some Clear → bufferOf s′ b ≡ nilAfter 0
+  unfolding done
+  fired-cleared r at b h is = fired-done r at b h Clear is
 
   -- a fired rule finds nothing but an empty chunk in a buffer that holds nil
   pub nil-unseen : (b : ℕ) → bufferOf s b ≡ nilAfter 0 → (r : Rule) → At r k (m .rules) → (t : Test) → List·Memᴰ t (r .tests) → t .buffer ≡ b → t .isa ≡ 0

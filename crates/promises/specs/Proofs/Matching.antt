@@ -1,12 +1,12 @@
 -- The test `matches` finds a binding exactly if there is one, and the entry holds its values.
-use mathlib.Core.Path.{_≡_, refl, sym, ap, _∙_}
+use mathlib.Core.Path.{_≡_, refl, sym, ap, subst, _∙_}
 use mathlib.Core.Logic.{⊎-elim}
-use mathlib.Core.Bool.{Bool, true, false, _||_}
+use mathlib.Core.Bool.{Bool, true, false, _||_, not}
 use mathlib.Core.List.{List, [], _∷_, map, List·Memᴰ, List·Memᴰ·head, List·Memᴰ·tail, List·Memᴰ·not-nil, List·Memᴰ·cases-cons, List·Memᴰ·append-cases, Memᴰ·append-left, Memᴰ·append-right}
 use Prim.Native.Nat.{ℕ, zero, suc, _+_, _<_}
 use native.Mathlib.Nat.{add-zero, zero-add}
 use native.Mathlib.Omega.{arith}
-use borrow.Author.Tests.{eqb-true, eq-eqb, ltb-true}
+use borrow.Author.Tests.{eqb-true, eq-eqb, ne-eqb, ltb-true}
 use lib.Dec.{eqb, ltb}
 use lib.ListN.{getD}
 use Rattle.meaning.specs.declared.Buffer.{Buffer}
@@ -15,7 +15,7 @@ use Rattle.meaning.specs.Base.{if_then_else_, every, anyOf, upFrom}
 use Rattle.meaning.specs.Model.{Rule, Test, Named, Term, Symbol, Variable}
 use Rattle.meaning.specs.State.{bufferOf, visible}
 use Rattle.meaning.specs.Image.{isVariable, standsIn}
-use Rattle.meaning.specs.Match.{Place, place, places, valueIn, termIn, agrees, agreed, shows, matches, entryOf}
+use Rattle.meaning.specs.Match.{Place, place, places, valueIn, termIn, takes, agrees, agreed, shows, matches, entryOf}
 use Rattle.meaning.specs.Retrieval.{valueOf}
 use Rattle.laws.specs.BaseLaws.{no-true, and-left, and-right, every-member}
 use Rattle.promises.specs.Published.{standsFor, Holds, Binds, Matches}
@@ -40,23 +40,37 @@ place-in s (x ∷ ts) t n h k =
     mapped b (y ∷ ns) n k =
         ⊎-elim (λ (q : n ≡ y). List·Memᴰ·head (ap (place b) q)) (λ (m : List·Memᴰ n ns). List·Memᴰ·tail (mapped b ns n m)) (List·Memᴰ·cases-cons k)
 
+-- what holds of each slot that a test names holds of all places
+module _ (P : Place → Type 0) where
+  named-all : (b : Buffer) (ns : List Named) → ((n : Named) → List·Memᴰ n ns → P (place b n)) → (p : Place) → List·Memᴰ p (map (place b) ns) → P p
+  named-all b [] h p k = absurd (List·Memᴰ·not-nil k)
+  named-all b (n ∷ ns) h p k =
+      ⊎-elim (λ (q : p ≡ place b n). subst P (sym q) (h n (List·Memᴰ·head refl))) (λ (m : List·Memᴰ p (map (place b) ns)). named-all b ns (λ x j. h x (List·Memᴰ·tail j)) p m)
+      (List·Memᴰ·cases-cons k)
+
+  places-all : (s : State) (ts : List Test) → ((t : Test) → List·Memᴰ t ts → (n : Named) → List·Memᴰ n (t .named) → P (place (bufferOf s (t .buffer)) n))
+      → (p : Place) → List·Memᴰ p (places ts s) → P p
+  unfolding places
+  places-all s [] h p k = absurd (List·Memᴰ·not-nil k)
+  places-all s (t ∷ ts) h p k =
+      ⊎-elim (λ (m : List·Memᴰ p (map (place (bufferOf s (t .buffer))) (t .named))). named-all (bufferOf s (t .buffer)) (t .named) (h t (List·Memᴰ·head refl)) p m)
+      (λ (m : List·Memᴰ p (places ts s)). places-all s ts (λ x j. h x (List·Memᴰ·tail j)) p m)
+      (List·Memᴰ·append-cases (map (place (bufferOf s (t .buffer))) (t .named)) k)
+
 -- all places have the values of a binding
 abbrev Bound : (ℕ → ℕ) → List Place → Type 0
 Bound v ps = (p : Place) → List·Memᴰ p ps → p .value ≡ standsFor v (p .term)
 
-named-bound : (v : ℕ → ℕ) (b : Buffer) (ns : List Named) → ((n : Named) → List·Memᴰ n ns → getD (b .slots) (n .slot) 0 ≡ standsFor v (n .term)) → Bound v (map (place b) ns)
-named-bound v b [] h p k = absurd (List·Memᴰ·not-nil k)
-named-bound v b (n ∷ ns) h p k =
-    ⊎-elim (λ (q : p ≡ place b n). rw q (h n (List·Memᴰ·head refl))) (λ (m : List·Memᴰ p (map (place b) ns)). named-bound v b ns (λ x j. h x (List·Memᴰ·tail j)) p m)
-    (List·Memᴰ·cases-cons k)
-
 places-bound : (v : ℕ → ℕ) (s : State) (ts : List Test) → ((t : Test) → List·Memᴰ t ts → Holds v s t) → Bound v (places ts s)
-unfolding places
-places-bound v s [] h p k = absurd (List·Memᴰ·not-nil k)
-places-bound v s (t ∷ ts) h p k =
-    ⊎-elim (λ (m : List·Memᴰ p (map (place (bufferOf s (t .buffer))) (t .named))). named-bound v (bufferOf s (t .buffer)) (t .named) (h t (List·Memᴰ·head refl) .valued) p m)
-    (λ (m : List·Memᴰ p (places ts s)). places-bound v s ts (λ x j. h x (List·Memᴰ·tail j)) p m)
-    (List·Memᴰ·append-cases (map (place (bufferOf s (t .buffer))) (t .named)) k)
+places-bound v s ts h = places-all (λ p. p .value ≡ standsFor v (p .term)) s ts (λ t k n j. h t k .valued n j)
+
+-- a term takes a value, if it is no variable or the value no nil
+pub takes-filled : (t : Term) (x : ℕ) → ((w : ℕ) → t ≡ Variable w → x ≡ 0 → ⊥) → takes t x ≡ true
+takes-filled (Symbol y) x h = refl
+takes-filled (Variable w) x h = ap not (ne-eqb x 0 (h w refl))
+
+filled-taken : (t : Term) (x : ℕ) → takes t x ≡ true → (w : ℕ) → t ≡ Variable w → x ≡ 0 → ⊥
+filled-taken t x e w is nil = no-true (sym e ∙ rw (is, nil) refl)
 
 is-variable : (w : ℕ) (t : Term) → isVariable w t ≡ true → t ≡ Variable w
 is-variable w (Symbol x) e = absurd (no-true (sym e))
@@ -93,7 +107,10 @@ unfolding matches
 matches-bind r s e =
     let ps : List Place = places (r .tests) s in
     let seen : every (λ t. shows t (bufferOf s (t .buffer))) (r .tests) ≡ true = and-left (every (λ t. shows t (bufferOf s (t .buffer))) (r .tests)) (agreed ps) e in
-    let agree : agreed ps ≡ true = and-right (every (λ t. shows t (bufferOf s (t .buffer))) (r .tests)) (agreed ps) e in
+    let all : agreed ps ≡ true = and-right (every (λ t. shows t (bufferOf s (t .buffer))) (r .tests)) (agreed ps) e in
+    let value : Buffer → Named → ℕ = λ b n. place b n .value in
+    let agree : (t : Test) → List·Memᴰ t (r .tests) → (n : Named) → List·Memᴰ n (t .named) → agrees ps (place (bufferOf s (t .buffer)) n) ≡ true =
+    λ t h n k. every-member (agrees ps) ps all (place-in s (r .tests) t n h k) in
     record {
       binding = valueIn ps;
       binds = λ t h.
@@ -102,8 +119,8 @@ matches-bind r s e =
           record {
             visible = eqb-true (b .delay) 0 (and-left (visible b) (eqb (b .isa) (t .isa)) y);
             typed = eqb-true (b .isa) (t .isa) (and-right (visible b) (eqb (b .isa) (t .isa)) y);
-            valued = λ n k.
-                eqb-true (getD (b .slots) (n .slot) 0) (termIn ps (n .term)) (every-member (agrees ps) ps agree (place-in s (r .tests) t n h k)) ∙ term-own ps (n .term);
+            valued = λ n k. eqb-true (value b n) (termIn ps (n .term)) (and-right (takes (n .term) (value b n)) _ (agree t h n k)) ∙ term-own ps (n .term);
+            filled = λ n k. filled-taken (n .term) (value b n) (and-left (takes (n .term) (value b n)) _ (agree t h n k));
           };
     }
 
@@ -117,7 +134,11 @@ bind-matches r s v h =
     (λ t k.
     let b : Buffer = bufferOf s (t .buffer) in
     and-true (visible b) (eqb (b .isa) (t .isa)) (eq-eqb (b .delay) 0 (h t k .visible)) (eq-eqb (b .isa) (t .isa) (h t k .typed))))
-    (member-all (agrees ps) ps (λ p k. eq-eqb (p .value) (termIn ps (p .term)) (bound p k ∙ sym (term-bound v ps bound p k (p .term) refl))))
+    (member-all (agrees ps) ps
+    (λ p k.
+    and-true (takes (p .term) (p .value)) (eqb (p .value) (termIn ps (p .term)))
+    (places-all (λ p. takes (p .term) (p .value) ≡ true) s (r .tests) (λ t j n i. takes-filled (n .term) _ (h t j .filled n i)) p k)
+    (eq-eqb (p .value) (termIn ps (p .term)) (bound p k ∙ sym (term-bound v ps bound p k (p .term) refl)))))
 
 -- ---- the entry holds the values of every binding
 
@@ -168,6 +189,13 @@ value-binds r s v h (Variable w) g =
     entry-value r s w (bind-matches r s v h) (ltb-true w 8 (and-left (ltb w 8) (standsIn (r .tests) w) g))
     ∙ value-bound v (places (r .tests) s) (places-bound v s (r .tests) h) w (place (bufferOf s (i .test .buffer)) (i .named))
     (place-in s (r .tests) (i .test) (i .named) (i .test-in) (i .named-in)) (i .is)
+
+-- no variable that stands in a test is bound to nil
+pub bound-filled : (r : Rule) (s : State) (v : ℕ → ℕ) → Binds r s v → (w : ℕ) → standsIn (r .tests) w ≡ true → v w ≡ 0 → ⊥
+bound-filled r s v h w e nil =
+    let i : Standing (r .tests) w = standing (r .tests) w e in
+    let holds : Holds v s (i .test) = h (i .test) (i .test-in) in
+    holds .filled (i .named) (i .named-in) w (i .is) (holds .valued (i .named) (i .named-in) ∙ ap (standsFor v) (i .is) ∙ nil)
 
 -- the relation, for a test
 pub is-match : (r : Rule) (s : State) → Matches r s → matches r s ≡ true

@@ -52,13 +52,13 @@ unfolding deedOn
 deed-none [] b h = refl
 deed-none (x ∷ xs) b h = rw (ne-eqb (x .buffer) b (h x (List·Memᴰ·head refl))) (deed-none xs b (λ a k. h a (List·Memᴰ·tail k)))
 
-record Doer (as′ : List Action) (b : ℕ) (d : Deed) : Type 0 where
-  action : Action
-  member : List·Memᴰ action as′
-  buffer-is′ : action .buffer ≡ b
-  deed-is : action .deed ≡ d
+pub record Doer (as′ : List Action) (b : ℕ) (d : Deed) : Type 0 where
+  pub action : Action
+  pub member : List·Memᴰ action as′
+  pub buffer-is′ : action .buffer ≡ b
+  pub deed-is : action .deed ≡ d
 
-deed-some : (as′ : List Action) (b : ℕ) (d : Deed) → deedOn as′ b ≡ some d → Doer as′ b d
+pub deed-some : (as′ : List Action) (b : ℕ) (d : Deed) → deedOn as′ b ≡ some d → Doer as′ b d
 unfolding deedOn
 deed-some [] b d e = let z : _≡_ {A = ℕ} 0 1 = cc in absurd (omega arith)
 deed-some (x ∷ xs) b d e =
@@ -186,7 +186,7 @@ module _ (m : Model) (d : Decoded m) (s : State) where
     ups : rises (λ a. a .buffer) 0 (r .actions) ≡ true
     ups = and-right (every (goodAction (m .buffers) (m .types) (r .tests)) (r .actions)) (rises (λ a. a .buffer) 0 (r .actions)) good
 
-    good-deed : (a : Action) → List·Memᴰ a (r .actions) → goodDeed (m .types) (r .tests) (a .buffer) (a .deed) ≡ true
+    pub good-deed : (a : Action) → List·Memᴰ a (r .actions) → goodDeed (m .types) (r .tests) (a .buffer) (a .deed) ≡ true
     good-deed a h =
         and-right (ltb (a .buffer) (m .buffers)) (goodDeed (m .types) (r .tests) (a .buffer) (a .deed))
         (every-member (goodAction (m .buffers) (m .types) (r .tests)) (r .actions)

@@ -65,10 +65,11 @@ fn clears(shape: &Shape) -> String {
 /// One rule.
 fn rule(shapes: &[Shape], number: usize, rule: &Rule, salience: usize) -> String {
     let mut text = format!("(defrule rule-{number} (declare (salience {salience}))");
+    let mut bound = BTreeSet::new();
     for test in rule.tests {
         let changes = |action: &Action| action.buffer == test.buffer && Ask::of(action).is_none();
         let name = if rule.actions.iter().any(changes) { format!("?b{} <- ", test.buffer) } else { String::new() };
-        text += &format!("\n  {name}{}", shapes[usize::from(test.buffer)].pattern(test));
+        text += &format!("\n  {name}{}", shapes[usize::from(test.buffer)].pattern(test, &mut bound));
     }
     text += "\n  =>";
     for action in rule.actions {

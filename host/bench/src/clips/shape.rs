@@ -5,7 +5,7 @@ use std::fmt::Display;
 
 use jirvuntsag_reference::{Deed, Model, Test};
 
-use super::text::{slots, template, terms};
+use super::text::{slots, template, tested};
 
 /// What the fact of a buffer has: no more than the model asks for.
 pub struct Shape {
@@ -68,8 +68,8 @@ impl Shape {
         self.chunk::<u16>(due, 0, &[])
     }
 
-    /// The pattern of a test, by which what is late is turned away first.
-    pub fn pattern(&self, test: &Test) -> String {
-        format!("(buffer-{}{}{})", self.buffer, self.head("0", test.isa), terms(&test.pattern))
+    /// The pattern of a test, by which what is late is turned away first; `bound` are the variables that stood before.
+    pub fn pattern(&self, test: &Test, bound: &mut BTreeSet<u8>) -> String {
+        format!("(buffer-{}{}{})", self.buffer, self.head("0", test.isa), tested(&test.pattern, bound))
     }
 }

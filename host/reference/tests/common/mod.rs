@@ -2,11 +2,49 @@
 #![allow(dead_code)] // Not every file uses all of it.
 
 use jirvuntsag_packing as packing;
-use jirvuntsag_packing::ModelSpec;
-use jirvuntsag_reference::{Chunk, Deed, Model, Pattern, Rule, State, Term};
+use jirvuntsag_packing::{ActionSpec, ChunkSpec, FactSpec, ModelSpec, RuleSpec, TestSpec};
+use jirvuntsag_reference::{Buffer, Chunk, Deed, Model, Pattern, Rule, State, Term};
 
 /// Image P1: one buffer and nothing else.
 pub const P1: [u8; 8] = [1, 0x10, 0, 0, 0, 0, 0, 0];
+
+/// Variables 0 and 1.
+pub const V0: packing::Term = packing::Term::Variable(0);
+pub const V1: packing::Term = packing::Term::Variable(1);
+
+/// A model of two-slot types with these facts and rules; all buffers open with nil.
+pub fn model(buffers: usize, facts: &[(u8, [u16; 2], u16, u16)], rules: Vec<RuleSpec>) -> Model {
+    let fact = |&(isa, slots, activation, latency): &(u8, [u16; 2], u16, u16)| FactSpec {
+        chunk: ChunkSpec::new(isa, &slots),
+        activation,
+        latency,
+    };
+    let spec = ModelSpec {
+        failure: 200,
+        types: vec![2, 2],
+        opening: vec![ChunkSpec::nil(); buffers],
+        facts: facts.iter().map(fact).collect(),
+        rules,
+    };
+    Model::decode(&packing::pack(&spec)).expect("a valid model")
+}
+
+/// A rule from its parts.
+pub fn rule(utility: i16, variables: u8, tests: Vec<TestSpec>, actions: Vec<ActionSpec>) -> RuleSpec {
+    RuleSpec { utility: utility as u16, variables, tests, actions }
+}
+
+/// A buffer with a chunk of two slots.
+pub fn buffer(isa: u16, first: u16, second: u16, delay: u16) -> Buffer {
+    Buffer { isa, slots: [first, second, 0, 0, 0, 0, 0, 0], delay }
+}
+
+/// A state with these buffers first.
+pub fn state(clock: u32, buffers: &[Buffer]) -> State {
+    let mut state = State { clock, ..State::default() };
+    state.buffers[..buffers.len()].copy_from_slice(buffers);
+    state
+}
 
 /// The number of a decoding, 0 if accepted.
 pub fn number(image: &[u8]) -> u8 {
@@ -17,7 +55,7 @@ pub fn number(image: &[u8]) -> u8 {
 pub fn spec_of(model: &Model) -> ModelSpec {
     let chunk = |chunk: &Chunk| {
         let count = model.slot_count(u16::from(chunk.isa));
-        packing::ChunkSpec::new(chunk.isa, &chunk.slots[..count])
+        ChunkSpec::new(chunk.isa, &chunk.slots[..count])
     };
     ModelSpec {
         failure: model.failure_latency(),
@@ -26,24 +64,20 @@ pub fn spec_of(model: &Model) -> ModelSpec {
         facts: model
             .facts()
             .iter()
-            .map(|fact| packing::FactSpec {
-                chunk: chunk(&fact.chunk),
-                activation: fact.activation,
-                latency: fact.latency,
-            })
+            .map(|fact| FactSpec { chunk: chunk(&fact.chunk), activation: fact.activation, latency: fact.latency })
             .collect(),
         rules: model.rules().map(rule_spec).collect(),
     }
 }
 
 /// A decoded rule as a specification.
-fn rule_spec(rule: Rule) -> packing::RuleSpec {
-    let test = |test: &jirvuntsag_reference::Test| packing::TestSpec {
+fn rule_spec(rule: Rule) -> RuleSpec {
+    let test = |test: &jirvuntsag_reference::Test| TestSpec {
         buffer: test.buffer,
         isa: test.isa,
         pattern: pattern_spec(&test.pattern),
     };
-    let action = |action: &jirvuntsag_reference::Action| packing::ActionSpec {
+    let action = |action: &jirvuntsag_reference::Action| ActionSpec {
         buffer: action.buffer,
         deed: match action.deed {
             Deed::Modify => packing::Deed::Modify(pattern_spec(&action.pattern)),
@@ -51,7 +85,7 @@ fn rule_spec(rule: Rule) -> packing::RuleSpec {
             Deed::Clear => packing::Deed::Clear,
         },
     };
-    packing::RuleSpec {
+    RuleSpec {
         utility: rule.utility as u16,
         variables: rule.variables,
         tests: rule.tests.iter().map(test).collect(),
@@ -68,7 +102,7 @@ fn pattern_spec(pattern: &Pattern) -> packing::PatternSpec {
     packing::PatternSpec { mask: pattern.mask(), terms: pattern.named().map(term).collect() }
 }
 
-/// The entry of a rule by the letter of document 01's definition of a match.
+/// The entry of a rule by the letter of document 01's definition of a match, as request 2026-01 has it.
 pub fn entry_by_definition(spec: &ModelSpec, rule: usize, state: &State) -> [u16; 9] {
     let mut values: [Option<u16>; 8] = [None; 8];
     for test in &spec.rules[rule].tests {
@@ -80,6 +114,7 @@ pub fn entry_by_definition(spec: &ModelSpec, rule: usize, state: &State) -> [u16
             let found = buffer.slots[slot];
             let wanted = match term {
                 packing::Term::Symbol(symbol) => symbol,
+                packing::Term::Variable(_) if found == 0 => return [0; 9],
                 packing::Term::Variable(number) => *values[usize::from(number)].get_or_insert(found),
             };
             if found != wanted {

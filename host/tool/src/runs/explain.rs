@@ -74,7 +74,7 @@ fn rules(model: &Model, traced: &Traced) -> String {
     let line = |number: usize| {
         let name = &names.rules[number].name;
         // Whether it matches is the word of the library's table, and only why not is found out here.
-        let now = match first_miss(&model.spec().rules[number].tests, &traced.run.state, names) {
+        let now = match first_miss(model, number, &traced.run.state) {
             _ if traced.run.matches(number) => "matches".into(),
             Some(miss) => format!("does not match: {miss}"),
             None => "does not match, by the library's table".into(),
