@@ -58,11 +58,11 @@ openOf image table = openedBy table (accepted image table)
 
 -- the run that a call makes, with its events: "Numbers 1 to 6 and 10 return count 0, the state as handed in .. and an unaltered table."
 -- "Run with 0 steps asked answers 0 after checks 1 to 6."
-abbrev pub tracedBy : Going → ℕ → Read Model → Run
+abbrev pub tracedBy : Going → ℕ → Read Model → Run Going
 tracedBy g steps (Refused n at) = ends n g
 tracedBy g steps (Got m at) = if wellFormed m (g .state) then runFrom m steps g else (ends ill-formed g)
 
-unfoldable pub traceOf : List ℕ → State → List ℕ → ℕ → Run
+unfoldable pub traceOf : List ℕ → State → List ℕ → ℕ → Run Going
 traceOf image s table steps = tracedBy (going s table) steps (accepted image table)
 
 pub record Ran : Type 0 where
@@ -72,7 +72,7 @@ pub record Ran : Type 0 where
   pub made : ℕ
 
 -- what the call gives back of it, and how it leaves the table
-abbrev pub ranBy : Run → Ran
+abbrev pub ranBy : Run Going → Ran
 ranBy r = record { number = r .number; state = r .left .state; table = r .left .table; made = length (r .events) }
 
 unfoldable pub runOf : List ℕ → State → List ℕ → ℕ → Ran

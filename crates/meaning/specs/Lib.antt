@@ -17,6 +17,7 @@ pub mod Step
 pub mod Refresh
 pub mod Run
 pub mod Calls
+pub mod Fresh
 pub mod Print
 pub mod Examples
 pub mod Telling

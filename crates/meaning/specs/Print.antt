@@ -7,7 +7,7 @@ use Rattle.meaning.specs.Read.{Read, Refused, Got}
 use Rattle.meaning.specs.Image.{decode}
 use Rattle.meaning.specs.Match.{freshTable}
 use Rattle.meaning.specs.Step.{Event}
-use Rattle.meaning.specs.Run.{Timed, Run, going, runFrom}
+use Rattle.meaning.specs.Run.{Going, Timed, Run, going, runFrom}
 use Rattle.meaning.specs.Calls.{openState}
 
 -- "one line each: clock after the step, `fire` or `wait`, the rule number or the ms waited. The last line is `end`, the number, the steps made."
@@ -18,7 +18,7 @@ pub data Line : Type 0 where
 abbrev pub lineOf : Timed → Line
 lineOf e = Stepped (e .clock) (e .event)
 
-abbrev pub linesOf : Run → List Line
+abbrev pub linesOf : Run Going → List Line
 linesOf r = map lineOf (r .events) ++ (End (r .number) (length (r .events)) ∷ [])
 
 -- "It .. opens it, runs at most 1,000 steps". "A refused opening prints that line alone."

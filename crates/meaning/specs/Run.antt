@@ -20,27 +20,28 @@ pub record Timed : Type 0 where
   pub clock : ℕ
   pub event : Event
 
--- a run: its events in their order, the number that it ended by, and what it left
-pub record Run : Type 0 where
+-- a run: its events in their order, the number that it ended by, and what it left of what goes from step to step
+pub record Run (Left : Type 0) : Type 0 where
   pub events : List Timed
   pub number : ℕ
-  pub left : Going
+  pub left : Left
 
--- no step more is made, for this reason
-abbrev pub ends : ℕ → Going → Run
-ends number g = record { events = []; number = number; left = g }
+module _ {Left : Type 0} where
+  -- no step more is made, for this reason
+  abbrev pub ends : ℕ → Left → Run Left
+  ends number g = record { events = []; number = number; left = g }
 
--- a step, and the run that follows it
-abbrev pub before : Timed → Run → Run
-before e r = record { events = e ∷ r .events; number = r .number; left = r .left }
+  -- a step, and the run that follows it
+  abbrev pub before : Timed → Run Left → Run Left
+  before e r = record { events = e ∷ r .events; number = r .number; left = r .left }
 
 -- "After each step the table is refreshed with that mark." "Numbers 7, 8 and 9 return the state, table and count after the steps already made;
 -- the step in question changes nothing."
-abbrev pub goOn : Model → Going → (Going → Run) → Step → Run
+abbrev pub goOn : Model → Going → (Going → Run Going) → Step → Run Going
 goOn m g next (Stopped n) = ends n g
 goOn m g next (Made e s′ mark) = before (record { clock = s′ .clock; event = e }) (next (going s′ (refresh (m .rules) s′ mark (g .table))))
 
 -- so many steps at most
-unfoldable pub runFrom : Model → ℕ → Going → Run
+unfoldable pub runFrom : Model → ℕ → Going → Run Going
 runFrom m zero g = ends all-done g
 runFrom m (suc n) g = goOn m g (λ g′. runFrom m n g′) (stepOf m (g .state) (g .table))
