@@ -11,12 +11,11 @@ use lib.Seq.{sets, length-sets, getD-set-same, getD-set-other}
 use Rattle.meaning.specs.declared.State.{State}
 use Rattle.meaning.specs.Base.{if_then_else_}
 use Rattle.meaning.specs.Step.{Event, Fired, Waited}
-use Rattle.meaning.specs.Run.{Timed, Run}
+use Rattle.meaning.specs.Run.{Going, Timed, Run}
 use Rattle.meaning.specs.Calls.{Ran, traceOf, runOf}
 use Rattle.meaning.specs.Print.{Line, Stepped, End, lineOf, linesOf}
 use Rattle.laws.specs.CallsLaws.{made-most}
-use Rattle.step_run.specs.Events.{eventWords, noted, inscribed}
-use Rattle.step_run.specs.Told.{eventBy}
+use Rattle.step_note.specs.Events.{eventWords, eventBy, noted, inscribed}
 use Rattle.actr_lines.specs.Written.{lineIn, linesIn}
 
 -- ---- the words of an event stay as later events are noted
@@ -94,7 +93,7 @@ pub traced-lines : (s : State) (table : List ℕ) (n : ℕ) (lent : List ℕ) �
     → linesIn words 0 (r .made) ++ (End (r .number) (r .made) ∷ []) ≡ linesOf (traceOf image s table n)
 unfolding runOf
 traced-lines s table n lent room image words r e w =
-    let run : Run = traceOf image s table n in
+    let run : Run Going = traceOf image s table n in
     let few : length (run .events) ≤ n = made-most image s table n in
     ap₂ (λ (ws : List ℕ) (a : Ran). linesIn ws 0 (a .made) ++ (End (a .number) (a .made) ∷ [])) w e
     ∙ ap (λ (ls : List Line). ls ++ (End (run .number) (length (run .events)) ∷ [])) (events-back (run .events) lent 0 (omega arith))

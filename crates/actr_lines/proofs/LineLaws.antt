@@ -8,7 +8,7 @@ use lib.Dec.{eqb}
 use Rattle.meaning.specs.Base.{if_then_else_}
 use Rattle.meaning.specs.Step.{Fired, Waited}
 use Rattle.meaning.specs.Print.{Line, Stepped}
-use Rattle.step_run.specs.Told.{eventBy}
+use Rattle.step_note.specs.Events.{eventBy}
 use Rattle.actr_lines.specs.Text.{decimal, fired, waited, happened, newline, letters, text as Text·text}
 use Rattle.actr_lines.specs.Written.{Written, word, lineIn, linesIn}
 use Rattle.actr_lines.proofs.WrittenLaws.{written-none, written-join, written-as}

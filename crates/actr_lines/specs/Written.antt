@@ -6,7 +6,7 @@ use lib.Dec.{eqb}
 use lib.ListN.{length, getD, take}
 use Rattle.meaning.specs.Base.{if_then_else_}
 use Rattle.meaning.specs.Print.{Line, Stepped}
-use Rattle.step_run.specs.Told.{eventBy}
+use Rattle.step_note.specs.Events.{eventBy}
 use Rattle.actr_lines.specs.Text.{fired, waited}
 
 -- letters were put after the first `at` bytes of a text, `most` of them at most, and end at `end`; what stood before them stays

@@ -2,7 +2,7 @@
 ghost use Prim.Native.Nat.{_+_, _*_, _≤_};
 ghost use lib.ListN.{length};
 ghost use Rattle.meaning.specs.Print.{Stepped, End};
-ghost use Rattle.step_run.specs.Told.{eventBy};
+ghost use Rattle.step_note.specs.Events.{eventBy};
 ghost use Rattle.actr_lines.specs.Text.{decimal, letters, text as Text·text};
 ghost use Rattle.actr_lines.specs.Written.{Written, word, linesIn};
 

@@ -9,14 +9,15 @@ use Rattle.meaning.specs.Model.{Model}
 use Rattle.meaning.specs.State.{wellFormed}
 use Rattle.meaning.specs.Read.{Read, Refused, Got}
 use Rattle.meaning.specs.Run.{going, ends}
-use Rattle.meaning.specs.Calls.{accepted, tracedBy}
+use Rattle.meaning.specs.Calls.{ranBy, accepted, tracedBy}
 use Rattle.layout.specs.StateWords.{buffersIn, stateIn}
 use Rattle.layout.specs.declared.Plan.{Plan}
 use Rattle.layout.specs.Plans.{modelOn}
 use Rattle.layout_state.specs.Words.{wellIn}
 use Rattle.layout_state.proofs.ValueLaws.{state-is, well-by}
 use Rattle.step_run.specs.declared.Went.{Went}
-use Rattle.step_run.specs.Events.{inscribed, Tells, WentMet}
+use Rattle.step_note.specs.Events.{inscribed, Tells}
+use Rattle.step_run.specs.Went.{WentMet}
 use Rattle.call_accept.specs.declared.Taken.{Taken}
 use Rattle.call_accept.specs.declared.Taken.the-variants as taken
 use Rattle.call_accept.specs.Acceptance.{settled, TakenMet}
@@ -28,7 +29,7 @@ abbrev done : ℕ → State → ℕ → RunDone
 done number s made = record { number = number; state = s; made = made }
 
 -- a run that ends before its first step
-nothing-done : (n : ℕ) (s : State) (table lent : List ℕ) → Tells (record { number = n; state = s; table = table; made = 0 }) (ends n (going s table)) lent lent
+nothing-done : (n : ℕ) (s : State) (table lent : List ℕ) → Tells ranBy (record { number = n; state = s; table = table; made = 0 }) (ends n (going s table)) lent lent
 unfolding inscribed
 nothing-done n s table lent = record { is-run = refl; events = refl }
 

@@ -7,7 +7,7 @@ ghost use Rattle.meaning.specs.Calls.{accepted, traceOf, runOf};
 ghost use Rattle.layout.specs.Plans.{modelOn, Planned};
 ghost use Rattle.read_image.specs.Whole.{Begun};
 ghost use Rattle.match_beds.specs.Beds.{Roomy, Cleared};
-ghost use Rattle.step_run.specs.Events.{inscribed};
+ghost use Rattle.step_note.specs.Events.{inscribed};
 ghost use Rattle.call_run.specs.Answers.{RunMet, ranBack};
 use call_accept::Taken;
 use layout::LARGE_TAPE;

@@ -4,7 +4,7 @@ use mathlib.Core.List.{List}
 use Prim.Native.Nat.{ℕ}
 use Rattle.meaning.specs.declared.State.{State}
 use Rattle.meaning.specs.Calls.{Opened, openOf, Ran, traceOf, runOf, Refreshed, refreshOf, tableLength}
-use Rattle.step_run.specs.Events.{inscribed}
+use Rattle.step_note.specs.Events.{inscribed}
 use Rattle.call_open.specs.declared.OpenDone.{OpenDone}
 use Rattle.call_open.specs.Answers.{openedIn}
 use Rattle.call_refresh.specs.declared.RefreshDone.{RefreshDone}

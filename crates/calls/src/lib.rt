@@ -2,7 +2,7 @@
 // and does its work or refuses by number; none has a `requires`.
 ghost use mathlib.Core.Path.{_≡_};
 ghost use Rattle.meaning.specs.Calls.{tableLength, openOf, traceOf, runOf, refreshOf};
-ghost use Rattle.step_run.specs.Events.{inscribed};
+ghost use Rattle.step_note.specs.Events.{inscribed};
 ghost use Rattle.call_open.specs.Answers.{openedIn};
 ghost use Rattle.call_refresh.specs.Answers.{refreshedIn};
 ghost use Rattle.call_run.specs.Answers.{ranBack};

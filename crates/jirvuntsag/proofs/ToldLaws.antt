@@ -11,9 +11,9 @@ use Rattle.meaning.specs.Base.{if_then_else_}
 use Rattle.meaning.specs.Model.{Model}
 use Rattle.meaning.specs.State.{wellFormed}
 use Rattle.meaning.specs.Read.{Read, Refused, Got}
-use Rattle.meaning.specs.Run.{going, Run, ends}
+use Rattle.meaning.specs.Run.{Going, going, Run, ends}
 use Rattle.meaning.specs.Calls.{accepted, Opened, openOf, Ran, tracedBy, traceOf, ranBy, runOf, Refreshed, refreshOf, refreshedBy}
-use Rattle.step_run.specs.Events.{inscribed}
+use Rattle.step_note.specs.Events.{inscribed}
 use Rattle.jirvuntsag.specs.Words.{stateOf, wordsOf, fits, unfitState, givenBy}
 use Rattle.jirvuntsag.specs.Told.{answer, unfitBy, told, toldOpen, toldRun, toldRefresh, openIn, runIn, refreshIn, eventsIn}
 
@@ -70,7 +70,7 @@ module _ (image w table : List ℕ) (k : ℕ) where
   events-by : (b : Bool) → traceOf image (if b then stateOf w else unfitState) table k .events ≡ (if b then traceOf image (stateOf w) table k .events else [])
   unfolding traceOf
   events-by true = refl
-  events-by false = ap (λ (r : Run). r .events) (unfit-ran table k (accepted image table))
+  events-by false = ap (λ (r : Run Going). r .events) (unfit-ran table k (accepted image table))
 
   pub events-told : (s : State) (lent lent′ : List ℕ) → s ≡ givenBy w → lent′ ≡ inscribed lent 0 (traceOf image s table k .events)
       → lent′ ≡ inscribed lent 0 (eventsIn image w table k)

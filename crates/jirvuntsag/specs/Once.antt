@@ -3,7 +3,7 @@ use mathlib.Core.Path.{_≡_, sym, ap, _∙_}
 use mathlib.Core.List.{List}
 use Prim.Native.Nat.{ℕ}
 use Rattle.meaning.specs.Calls.{tableLength}
-use Rattle.step_run.specs.Events.{inscribed}
+use Rattle.step_note.specs.Events.{inscribed}
 use Rattle.jirvuntsag.specs.Told.{Told, told, openIn, runIn, refreshIn, eventsIn}
 
 -- two results that tell the same: their answers, words and tables are the same

@@ -6,7 +6,7 @@ ghost use mathlib.Core.List.{_∷_};
 ghost use lib.ListN.{length, getD, drop};
 ghost use Rattle.meaning.specs.Base.{if_then_else_};
 ghost use Rattle.meaning.specs.Calls.{tableLength};
-ghost use Rattle.step_run.specs.Events.{inscribed};
+ghost use Rattle.step_note.specs.Events.{inscribed};
 ghost use Rattle.jirvuntsag.specs.Words.{wordsOf, fits, unfitState, givenBy};
 ghost use Rattle.jirvuntsag.specs.Told.{told, openIn, runIn, refreshIn, eventsIn};
 ghost use Rattle.jirvuntsag.specs.Told.{answer as Told·answer};

@@ -1,4 +1,3 @@
 -- Laws of the choice.
-pub mod KeyLaws
 pub mod TurnLaws
 pub mod RankLaws

@@ -8,7 +8,7 @@ use Rattle.meaning.specs.Base.{bit}
 use Rattle.meaning.specs.Step.{largest}
 use Rattle.meaning.specs.Run.{Timed}
 use Rattle.meaning.specs.Calls.{Ran}
-use Rattle.step_run.specs.Events.{eventWords}
+use Rattle.step_note.specs.Events.{eventWords}
 use Rattle.jirvuntsag.specs.Words.{stateOf}
 use Rattle.jirvuntsag.specs.Told.{Told, openIn, runIn, refreshIn}
 

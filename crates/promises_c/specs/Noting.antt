@@ -6,7 +6,7 @@ use Rattle.meaning.specs.Model.{Model}
 use Rattle.meaning.specs.Read.{Got}
 use Rattle.meaning.specs.Image.{decode}
 use Rattle.meaning.specs.Run.{Timed}
-use Rattle.step_run.specs.Events.{inscribed}
+use Rattle.step_note.specs.Events.{inscribed}
 use Rattle.jirvuntsag.specs.Words.{stateOf}
 use Rattle.jirvuntsag.specs.Told.{Told, runIn, eventsIn}
 use Rattle.promises.specs.Published.{RanOn}

@@ -5,15 +5,10 @@ use mathlib.Core.List.{List}
 use lib.ListN.{take}
 use Rattle.layout.specs.declared.Plan.{Plan}
 use Rattle.layout.specs.Plans.{modelOn, Planned}
-use Rattle.step_retrieve.specs.Chains.{ChainsOn}
 use Rattle.step_once.specs.Choosing.{RankedOn}
 use Rattle.step_run.specs.Aided.{Aided}
 
--- ---- one section each: it stands in its place, and what stood before it is as it was
-
-pub record ChainsLaid (p : Plan) (before after : List ℕ) : Type 0 where
-  pub below : take (p .chains) after ≡ take (p .chains) before
-  pub chains : ChainsOn p after
+-- ---- the order (the chains are `step_chains`'): it stands in its place, and what stood before it is as it was
 
 pub record OrderLaid (p : Plan) (before after : List ℕ) : Type 0 where
   pub below : take (p .order) after ≡ take (p .order) before

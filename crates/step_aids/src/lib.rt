@@ -1,21 +1,7 @@
-// What a run lays on the tape after the model's sections: the chains of the facts, and the order of the rules.
+// What a run with a table lays on the tape after the model's sections: the chains of the facts, and the order of the rules.
 ghost use Rattle.layout.specs.Plans.{Planned};
-ghost use Rattle.step_aids.specs.Aids.{ChainsLaid, OrderLaid, AidsLaid};
-use layout::FACTS_AT;
+ghost use Rattle.step_aids.specs.Aids.{OrderLaid, AidsLaid};
 use layout::Plan;
-
-// The chains of the facts: 64 words, and a word for each fact.
-// No part of a tape is lent to be written while another is lent to be read, so they are laid by themselves and then copied onto the tape.
-fn lay_chains(plan: Plan, tape: &mut [u16])
-    requires { ⌜ Planned plan (now tape) ⌝ }
-    ensures { λ _. ⌜ ChainsLaid plan (now (tape .entry)) (now (tape .exit)) ⌝ }
-{
-    let n = plan.facts as usize;
-    let mut index = [0u16; 576];
-    step_retrieve::chain(&mut index, &tape[FACTS_AT..], n);
-    let end = 64 + n;
-    layout::copy_into(tape, plan.chains, &index[..end]);
-}
 
 // The order of the rules, two words for each; in most models their ranks fall already.
 fn lay_order(plan: Plan, tape: &mut [u16])
@@ -39,6 +25,6 @@ pub fn lay_aids(plan: Plan, tape: &mut [u16])
     requires { ⌜ Planned plan (now tape) ⌝ }
     ensures { λ _. ⌜ AidsLaid plan (now (tape .entry)) (now (tape .exit)) ⌝ }
 {
-    lay_chains(plan, tape);
+    step_chains::lay_chains(plan, tape);
     lay_order(plan, tape);
 }

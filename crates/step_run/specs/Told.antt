@@ -4,18 +4,15 @@ use mathlib.Core.Path.{_≡_}
 use mathlib.Core.List.{List}
 use lib.Dec.{eqb}
 use Rattle.meaning.specs.Base.{if_then_else_}
-use Rattle.meaning.specs.Step.{Event, Fired, Waited, Step, Stopped, Made, largest}
+use Rattle.meaning.specs.Step.{Step, Stopped, Made, largest}
 use Rattle.layout.specs.StateWords.{stateIn}
+use Rattle.step_note.specs.Events.{eventBy}
 use Rattle.step_once.specs.declared.StepDone.{StepDone}
 use Rattle.step_once.specs.declared.StepDone.the-variants as done-variants
 use Rattle.step_once.specs.Done.{stepIn, ClockFits}
 use Rattle.step_run.specs.declared.Told.{Told}
 
--- kind 0 is a firing of rule `value`, kind 1 a wait of `value` ms
-abbrev pub eventBy : ℕ → ℕ → Event
-eventBy kind value = if eqb kind 0 then Fired value else Waited value
-
--- kind 2 is no step, for the reason `value`
+-- kind 2 is no step, for the reason `value`; else the kind is the event's
 abbrev pub toldIn : Told → List ℕ → ℕ → Step
 toldIn r w clock = if eqb (r .kind) 2 then Stopped (r .value) else Made (eventBy (r .kind) (r .value)) (stateIn w (clock + r .elapsed)) (r .mark)
 

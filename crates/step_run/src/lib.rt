@@ -1,6 +1,5 @@
 // A run: step after step, the table refreshed after each, until all are made or one is refused.
 ghost use mathlib.Core.Path.{_≡_};
-ghost use mathlib.Core.List.{_∷_, []};
 ghost use Prim.Native.Nat.{ℕ, _+_, _*_, _≤_, _<_};
 ghost use lib.ListN.{length};
 ghost use Rattle.meaning.specs.Refresh.{refresh};
@@ -8,7 +7,7 @@ ghost use Rattle.layout.specs.StateWords.{stateIn};
 ghost use Rattle.layout.specs.Plans.{modelOn, Planned};
 ghost use Rattle.step_run.specs.Aided.{Aided, RestingOn, SteppedOn};
 ghost use Rattle.step_run.specs.Told.{ToldMet};
-ghost use Rattle.step_run.specs.Events.{noted, WentMet};
+ghost use Rattle.step_run.specs.Went.{WentMet};
 use layout::Plan;
 use meaning::numbers::ALL_DONE;
 use step_once::StepDone;
@@ -57,22 +56,6 @@ fn tell(done: StepDone) -> Told
             mark: mark,
             elapsed: ms,
         },
-    }
-}
-
-// Notes event k in three words, if there is room: the clock after the step, its kind (0 fire, 1 wait), the rule or the ms.
-fn note(events: &mut [u32], k: u16, clock: u32, kind: u16, value: u16)
-    ensures { λ _. ⌜ now (events .exit) ≡ noted (now (events .entry)) k (clock ∷ kind ∷ value ∷ []) ⌝ }
-{
-    let at = 3 * (k as usize);
-    if events.len() < at + 3 {
-        return;
-    }
-    let three = [clock, kind as u32, value as u32];
-    let mut i = 0;
-    while i < 3 {
-        events[at + i] = three[i];
-        i += 1;
     }
 }
 
@@ -126,7 +109,7 @@ pub fn advance(
         }
         now += t.elapsed as u32;
         renew(table, sets, plan, tape, state, t.mark);
-        note(events, made, now, t.kind, t.value);
+        step_note::note(events, made, now, t.kind, t.value);
         made += 1;
     }
     Went {

@@ -8,7 +8,7 @@ use lib.ListN.{length, drop, length-append}
 use lib.Seq.{sets-eq, take-at, drop-at, drop-drop}
 use Rattle.meaning.specs.Step.{Event, Fired, Waited}
 use Rattle.meaning.specs.Run.{Timed}
-use Rattle.step_run.specs.Events.{eventWords, noted, inscribed}
+use Rattle.step_note.specs.Events.{eventWords, noted, inscribed}
 use Rattle.promises_c.specs.Handing.{layEvents}
 
 three : (clock : ℕ) (e : Event) → length (eventWords clock e) ≡ 3

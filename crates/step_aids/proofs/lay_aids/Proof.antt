@@ -1,6 +1,6 @@
 -- `step_aids::lay_aids` meets its contract: the chains, and after them the order.
-use mathlib.Core.List.{[]}
-use Rattle.step_aids.proofs.AidLaws.{planned-chained, aids-laid}
+use Rattle.step_chains.proofs.ChainLaws.{planned-chained}
+use Rattle.step_aids.proofs.AidLaws.{aids-laid}
 use borrow.Author.Needs.{needs}
 use Rattle.step_aids.proofs.lay_aids.Statement.{statement}
 use Rattle.step_aids.proofs.lay_aids.Tie as tie
@@ -22,7 +22,7 @@ lay-order-requires : tie.Need-lay-order-requires
 lay-order-requires c κs =
     let k = chained c in
     let s = start k in
-    planned-chained (s .args .plan) (s .args .tape .now) _ [] (s .pre) (k .lay-chains .ensures) (k .lay-chains .kept .1 .0)
+    planned-chained (s .args .plan) (s .args .tape .now) _ (s .pre) (k .lay-chains .ensures) (k .lay-chains .kept .1 .0)
 
 same-length : tie.Need-same-length
 same-length c = search needs

@@ -218,7 +218,7 @@ returns-2 c =
     let a = s .args in
     let l = c .before .loop in
     going-end (model s) (a .steps) (a .state .now) (a .clock) (a .table .now) (a .events .now) (l .made) (l .state) (l .now) (l .table) (l .events)
-    (l .inv .so-far) (c .loop-test .left) (l .inv .within)
+    (l .inv .so-far) (c .loop-test .left)
 
 pub advance-spec : {M : Type 1} → statement M
 advance-spec =

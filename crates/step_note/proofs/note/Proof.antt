@@ -1,4 +1,4 @@
--- `step_run::note` meets its contract: three words, if there is room for them.
+-- `step_note::note` meets its contract: three words, if there is room for them.
 use Prim.Native.Nat.{ℕ, _+_, _*_, _-_, _≤_, _<_}
 use mathlib.Core.Path.{_≡_, refl, sym, ap, _∙_}
 use mathlib.Core.List.{List, _∷_, []}
@@ -7,9 +7,9 @@ use native.Mathlib.Omega.{arith}
 use lib.ListN.{length, drop}
 use lib.Seq.{sets}
 use Rattle.layout.proofs.WordLaws.{sets-step, sets-end}
-use Rattle.step_run.proofs.RunLaws.{noted-none, noted-room}
-use Rattle.step_run.proofs.note.Statement.{statement}
-use Rattle.step_run.proofs.note.Tie as tie
+use Rattle.step_note.proofs.NoteLaws.{noted-none, noted-room}
+use Rattle.step_note.proofs.note.Statement.{statement}
+use Rattle.step_note.proofs.note.Tie as tie
 
 abbrev Inv-loop : tie.InvT-loop
 Inv-loop events₀ k clock kind value at three i₀ events i = (i ≤ 3) × (length three ≡ 3) × (length events ≡ length events₀) × (sets events (at + i) (drop i three) ≡ sets events₀ at three)

@@ -1,4 +1,4 @@
--- `step_aids::lay_chains` meets its contract: the chains are laid by themselves, and copied to their place.
+-- `step_chains::lay_chains` meets its contract: the chains are laid by themselves, and copied to their place.
 use Prim.Native.Nat.{ℕ, _+_}
 use mathlib.Core.Path.{sym}
 use mathlib.Core.List.{List}
@@ -6,10 +6,10 @@ use native.Mathlib.Omega.{arith}
 use lib.ListN.{length, take}
 use lib.Seq.{length-take-le}
 use Rattle.layout.proofs.PlanLaws.{sections, to-end}
-use Rattle.step_aids.proofs.AidLaws.{chains-laid}
+use Rattle.step_chains.proofs.ChainLaws.{chains-laid}
 use borrow.Author.Needs.{needs}
-use Rattle.step_aids.proofs.lay_chains.Statement.{statement}
-use Rattle.step_aids.proofs.lay_chains.Tie as tie
+use Rattle.step_chains.proofs.lay_chains.Statement.{statement}
+use Rattle.step_chains.proofs.lay_chains.Tie as tie
 
 -- ---- the places of the code, each named once
 
@@ -72,7 +72,7 @@ returns c =
     let copied = c .before .before in
     let k = chained (copied .before) in
     let s = begun k in
-    chains-laid (s .args .plan) (s .args .tape .now) _ (index k) (s .pre) (simp to-end at (k .chain .ensures)) (copied .copy-into .ensures)
+    chains-laid (s .args .plan) (s .args .tape .now) _ (s .pre) (index k) (simp to-end at (k .chain .ensures)) (copied .copy-into .ensures)
 
 pub lay-chains-spec : {M : Type 1} → statement M
 lay-chains-spec =

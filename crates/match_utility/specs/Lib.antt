@@ -1,0 +1,2 @@
+-- The order of utilities as the code has it.
+pub mod Keys

@@ -1,0 +1,2 @@
+-- Laws of chains on a tape.
+pub mod ChainLaws

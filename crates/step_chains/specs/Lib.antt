@@ -1,0 +1,2 @@
+-- Chains on a tape.
+pub mod Laid

@@ -1,0 +1,3 @@
+-- Laws of noted events, and of a run that notes them.
+pub mod NoteLaws
+pub mod TurnLaws

@@ -1,0 +1,2 @@
+-- The events of a run in words.
+pub mod Events
