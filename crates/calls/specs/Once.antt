@@ -4,6 +4,7 @@ use mathlib.Core.List.{List}
 use Prim.Native.Nat.{ℕ}
 use Rattle.meaning.specs.declared.State.{State}
 use Rattle.meaning.specs.Calls.{Opened, openOf, Ran, traceOf, runOf, Refreshed, refreshOf, tableLength}
+use Rattle.meaning.specs.Fresh.{FreshRan, freshTraceOf, freshOf}
 use Rattle.step_note.specs.Events.{inscribed}
 use Rattle.call_open.specs.declared.OpenDone.{OpenDone}
 use Rattle.call_open.specs.Answers.{openedIn}
@@ -11,6 +12,8 @@ use Rattle.call_refresh.specs.declared.RefreshDone.{RefreshDone}
 use Rattle.call_refresh.specs.Answers.{refreshedIn}
 use Rattle.call_run.specs.declared.RunDone.{RunDone}
 use Rattle.call_run.specs.Answers.{ranBack}
+use Rattle.fresh_call.specs.declared.FreshDone.{FreshDone}
+use Rattle.fresh_call.specs.Answers.{freshBack}
 
 -- the words that a table needs
 pub length-once : (image : List ℕ) (r r′ : ℕ) → r ≡ tableLength image → r′ ≡ tableLength image → r ≡ r′
@@ -41,3 +44,12 @@ pub refresh-once : (image : List ℕ) (s : State) (mark : ℕ) (table : List ℕ
 refresh-once image s mark table r r′ left left′ p q =
     let same : refreshedIn r left ≡ refreshedIn r′ left′ = p ∙ sym q in
     (ap (λ (o : Refreshed). record { number = o .number; count = o .count }) same, ap (λ (o : Refreshed). o .table) same)
+
+-- what a run without a table gives: number, state and steps made
+pub fresh-once : (image : List ℕ) (s : State) (steps : ℕ) (r r′ : FreshDone) → freshBack r ≡ freshOf image s steps → freshBack r′ ≡ freshOf image s steps → r ≡ r′
+fresh-once image s steps r r′ p q = ap (λ (o : FreshRan). record { number = o .number; state = o .state; made = o .made }) (p ∙ sym q)
+
+-- and what it notes, every word of it
+pub fresh-events-once : (image : List ℕ) (s : State) (steps : ℕ) (events noted noted′ : List ℕ)
+    → noted ≡ inscribed events 0 (freshTraceOf image s steps .events) → noted′ ≡ inscribed events 0 (freshTraceOf image s steps .events) → noted ≡ noted′
+fresh-events-once image s steps events noted noted′ p q = p ∙ sym q

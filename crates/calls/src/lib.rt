@@ -1,14 +1,17 @@
-// The calls: open, run and refresh, and the length of the table that they need. Each takes whatever it is handed,
+// The calls: open, run and refresh, and the length of the table that they need; and the runs without a table. Each takes whatever it is handed,
 // and does its work or refuses by number; none has a `requires`.
 ghost use mathlib.Core.Path.{_≡_};
 ghost use Rattle.meaning.specs.Calls.{tableLength, openOf, traceOf, runOf, refreshOf};
+ghost use Rattle.meaning.specs.Fresh.{freshTraceOf, freshOf};
 ghost use Rattle.step_note.specs.Events.{inscribed};
 ghost use Rattle.call_open.specs.Answers.{openedIn};
 ghost use Rattle.call_refresh.specs.Answers.{refreshedIn};
 ghost use Rattle.call_run.specs.Answers.{ranBack};
+ghost use Rattle.fresh_call.specs.Answers.{freshBack};
 pub use call_open::OpenDone;
 pub use call_refresh::RefreshDone;
 pub use call_run::RunDone;
+pub use fresh_call::FreshDone;
 use layout::Walk;
 use meaning::State;
 
@@ -58,4 +61,19 @@ pub fn refresh(image: &[u8], state: State, mark: u16, table: &mut [u16]) -> Refr
     ensures { λ r. ⌜ refreshedIn r (now (table .exit)) ≡ refreshOf (now (image .entry)) state mark (now (table .entry)) ⌝ }
 {
     call_refresh::refresh(image, state, mark, table)
+}
+
+// Runs at most `steps` steps from a state with nothing kept, every rule matched afresh at each step: the number, the state and the steps made.
+pub fn run_fresh(image: &[u8], state: State, steps: u16) -> FreshDone
+    ensures { λ r. ⌜ freshBack r ≡ freshOf (now (image .entry)) state steps ⌝ }
+{
+    fresh_call::run_fresh(image, state, steps)
+}
+
+// Runs as `run_fresh` does, and notes each step in three lent words, as `trace` does.
+pub fn trace_fresh(image: &[u8], state: State, steps: u16, events: &mut [u32]) -> FreshDone
+    ensures { λ r. ⌜ (freshBack r ≡ freshOf (now (image .entry)) state steps)
+        × (now (events .exit) ≡ inscribed (now (events .entry)) 0 (freshTraceOf (now (image .entry)) state steps .events)) ⌝ }
+{
+    fresh_call::trace_fresh(image, state, steps, events)
 }

@@ -1,3 +1,4 @@
 -- Laws of the state in words, and of the calls on words.
 pub mod WordLaws
 pub mod ToldLaws
+pub mod FreshLaws

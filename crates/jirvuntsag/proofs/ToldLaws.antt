@@ -21,11 +21,11 @@ and-none : (b : Bool) → (b && false) ≡ false
 and-none true = refl
 and-none false = refl
 
-unfit : (m : Model) → wellFormed m unfitState ≡ false
+pub unfit : (m : Model) → wellFormed m unfitState ≡ false
 unfolding wellFormed
 unfit m = rw (and-none (ltb 0 (length (m .types))))
 
-answer-none : (n : ℕ) → answer n 0 ≡ n
+pub answer-none : (n : ℕ) → answer n 0 ≡ n
 answer-none n = omega arith
 
 abbrev refreshedNone : ℕ → List ℕ → Refreshed

@@ -25,7 +25,7 @@ one-large [] (suc k) h = absurd (omega arith)
 one-large (x ∷ xs) zero h = rw (lt-leb x 65535 h)
 one-large (x ∷ xs) (suc k) h = rw (one-large xs k h) (and-none (leb x 65535))
 
-unfit : (w : List ℕ) (k : ℕ) → 65535 < getD (drop 1 w) k 0 → fits w ≡ false
+pub unfit : (w : List ℕ) (k : ℕ) → 65535 < getD (drop 1 w) k 0 → fits w ≡ false
 unfolding fits
 unfit w k h = one-large (drop 1 w) k h
 

@@ -3,3 +3,4 @@ pub mod Words
 pub mod Told
 pub mod Once
 pub mod Back
+pub mod Fresh

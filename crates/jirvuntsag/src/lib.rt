@@ -1,4 +1,4 @@
-// The library for C: open, run, trace and refresh over plain words (include/jirvuntsag.h).
+// The library for C: open, run, trace and refresh, and the runs without a table, over plain words (include/jirvuntsag.h).
 // Each takes whatever it is handed, and none has a `requires`.
 ghost use mathlib.Core.Path.{_≡_};
 ghost use mathlib.Core.Bool.{true};
@@ -10,6 +10,7 @@ ghost use Rattle.step_note.specs.Events.{inscribed};
 ghost use Rattle.jirvuntsag.specs.Words.{wordsOf, fits, unfitState, givenBy};
 ghost use Rattle.jirvuntsag.specs.Told.{told, openIn, runIn, refreshIn, eventsIn};
 ghost use Rattle.jirvuntsag.specs.Told.{answer as Told·answer};
+ghost use Rattle.jirvuntsag.specs.Fresh.{freshTold, freshIn, freshEventsIn};
 use layout::STATE_WORDS;
 use meaning::Buffer;
 use meaning::State;
@@ -183,4 +184,36 @@ pub extern "C" fn jirvuntsag_refresh(
     let from = before.state;
     let done = calls::refresh(image, from, mark, table);
     answer(done.number, done.count)
+}
+
+// Runs at most `steps` steps with nothing kept, every rule matched afresh at each: writes the state after them.
+#[no_mangle]
+pub extern "C" fn jirvuntsag_run_fresh(image: &[u8], state: &mut [u32; 81], steps: u16) -> u32
+    ensures { λ r. ⌜ freshTold r (now (state .exit)) ≡ freshIn (now (image .entry)) (now (state .entry)) steps ⌝ }
+{
+    let before = given(state);
+    let from = before.state;
+    let done = calls::run_fresh(image, from, steps);
+    let after = done.state;
+    lay_back(before.fitting, after, state);
+    answer(done.number, done.made)
+}
+
+// Runs as `jirvuntsag_run_fresh` does, and notes each step in three lent words, as `jirvuntsag_trace` does.
+#[no_mangle]
+pub extern "C" fn jirvuntsag_trace_fresh(
+    image: &[u8],
+    state: &mut [u32; 81],
+    steps: u16,
+    events: &mut [u32],
+) -> u32
+    ensures { λ r. ⌜ (freshTold r (now (state .exit)) ≡ freshIn (now (image .entry)) (now (state .entry)) steps)
+        × (now (events .exit) ≡ inscribed (now (events .entry)) 0 (freshEventsIn (now (image .entry)) (now (state .entry)) steps)) ⌝ }
+{
+    let before = given(state);
+    let from = before.state;
+    let done = calls::trace_fresh(image, from, steps, events);
+    let after = done.state;
+    lay_back(before.fitting, after, state);
+    answer(done.number, done.made)
 }

@@ -16,8 +16,9 @@ use Rattle.laws.specs.BaseLaws.{no-true}
 use Rattle.laws.specs.BaseLaws.{by-lt}
 use Rattle.match_sets.specs.Sets.{has, member}
 use Rattle.match_sets.proofs.SetLaws.{put-in, put-kept, put-other}
-use Rattle.match_choice.specs.declared.Chosen.the-variants.{Rule, NoRule}
-use Rattle.match_choice.specs.Chosen.{candidateOf, Below}
+use Rattle.match_best.specs.declared.Chosen.the-variants.{Rule, NoRule}
+use Rattle.match_choice.specs.Chosen.{candidateOf}
+use Rattle.match_best.specs.Chosen.{Below}
 use Rattle.match_choice.specs.Ranks.{rankAt, Matching, Highest}
 use Rattle.match_choice.proofs.RankLaws.{none-chosen, highest-chosen}
 use Rattle.match_order.specs.Order.{Words16, Ranked, Hitting, HitAt, hits, ruleAt, placeOf}

@@ -19,9 +19,10 @@ use Rattle.meaning.specs.Step as meaning
 use Rattle.layout.specs.declared.Plan.{Plan}
 use Rattle.layout.specs.StateWords.{buffersIn, stateIn}
 use Rattle.layout.specs.Plans.{factsOn, headsOn, rowsOn, rulesOn, modelOn}
-use Rattle.match_choice.specs.declared.Chosen.{Chosen}
-use Rattle.match_choice.specs.declared.Chosen.the-variants.{Rule, NoRule}
-use Rattle.match_choice.specs.Chosen.{candidateAt, candidateOf, Below}
+use Rattle.match_best.specs.declared.Chosen.{Chosen}
+use Rattle.match_best.specs.declared.Chosen.the-variants.{Rule, NoRule}
+use Rattle.match_choice.specs.Chosen.{candidateAt, candidateOf}
+use Rattle.match_best.specs.Chosen.{Below}
 use Rattle.step_once.specs.declared.StepDone.{StepDone}
 use Rattle.step_once.specs.declared.StepDone.the-variants.{Stopped, Fired, Waited}
 use Rattle.step_once.specs.Done.{StepMet}

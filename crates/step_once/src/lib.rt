@@ -21,7 +21,7 @@ use layout::Plan;
 use layout::RULE_WORDS;
 use layout::SIDE_WORDS;
 use match_beds::SURE_AT;
-use match_choice::Chosen;
+use match_best::Chosen;
 use meaning::numbers::CLOCK_FULL;
 use meaning::numbers::HALTED;
 use meaning::numbers::NOT_FRESH;

@@ -5,7 +5,8 @@ use native.Mathlib.Omega.{arith}
 use Rattle.meaning.specs.Choice.{choose, utilities}
 use Rattle.layout.specs.Plans.{headsOn, rowsOn, orderOn, rulesOn}
 use Rattle.layout.proofs.PlanLaws.{sections, to-end}
-use Rattle.match_choice.specs.Chosen.{candidateOf, Below}
+use Rattle.match_choice.specs.Chosen.{candidateOf}
+use Rattle.match_best.specs.Chosen.{Below}
 use lib.Seq.{getD-drop}
 use Prim.Native.Nat.{_+_}
 use Rattle.match_order.specs.Order.{Words16}

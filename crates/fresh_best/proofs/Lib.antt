@@ -1,0 +1,2 @@
+-- Laws of the choice with nothing kept.
+pub mod FreshLaws

@@ -1,0 +1,2 @@
+-- Laws of the calls without a table.
+pub mod CallLaws

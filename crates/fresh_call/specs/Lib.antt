@@ -1,0 +1,2 @@
+-- What the calls without a table answer.
+pub mod Answers

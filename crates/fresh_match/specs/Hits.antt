@@ -1,0 +1,20 @@
+-- Whether a rule matches, and its entry.
+use Prim.Native.Nat.{ℕ}
+use mathlib.Core.Path.{_≡_}
+use mathlib.Core.Bool.{Bool, true}
+use mathlib.Core.List.{List}
+use lib.Dec.{eqb}
+use lib.ListN.{getD, replicate}
+use Rattle.meaning.specs.Model.{Rule}
+use Rattle.meaning.specs.Match.{entryOf}
+use Rattle.layout.specs.Rows.{testsIn}
+use Rattle.layout.specs.StateWords.{stateIn}
+
+-- no rule with the n tests that stand in words from o on matches the state
+abbrev pub NoMatch : List ℕ → ℕ → ℕ → List ℕ → Type 0
+NoMatch words o n state = (r : Rule) (clock : ℕ) → r .tests ≡ testsIn words o n → entryOf r (stateIn state clock) ≡ replicate 9 0
+
+-- the answer says whether any rule with these tests matches, that is, whether the first word of its entry is 1; if so, the nine words are the entry
+pub record HitMet (hit : Bool) (nine words : List ℕ) (o n : ℕ) (state : List ℕ) : Type 0 where
+  pub counted : (r : Rule) (clock : ℕ) → r .tests ≡ testsIn words o n → hit ≡ eqb (getD (entryOf r (stateIn state clock)) 0 0) 1
+  pub entered : hit ≡ true → (r : Rule) (clock : ℕ) → r .tests ≡ testsIn words o n → nine ≡ entryOf r (stateIn state clock)

@@ -1,0 +1,2 @@
+-- What a match by itself says.
+pub mod Hits

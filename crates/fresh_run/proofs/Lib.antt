@@ -1,0 +1,2 @@
+-- Laws of a run with nothing kept.
+pub mod RunLaws

@@ -1,0 +1,2 @@
+-- What a run with nothing kept answers.
+pub mod Went

@@ -1,0 +1,2 @@
+-- Laws of a step with nothing kept.
+pub mod MoveLaws

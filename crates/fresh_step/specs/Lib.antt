@@ -1,0 +1,2 @@
+-- What a step says of itself.
+pub mod Moves

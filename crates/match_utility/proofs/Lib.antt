@@ -1,2 +1,0 @@
--- Laws of keys.
-pub mod KeyLaws

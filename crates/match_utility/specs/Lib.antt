@@ -1,2 +1,0 @@
--- The order of utilities as the code has it.
-pub mod Keys
