@@ -1,4 +1,4 @@
-//! Links the archive that `rt staticlib jirvuntsag` writes.
+//! Links the archive that `tools/archive` makes.
 
 use std::path::Path;
 

@@ -11,7 +11,7 @@ pub fn print_proved(image: &[u8]) -> String {
         .stdin(Stdio::piped())
         .stdout(Stdio::piped())
         .spawn()
-        .unwrap_or_else(|error| panic!("target/bin/actr: {error}: make it with `rt check actr`"));
+        .unwrap_or_else(|error| panic!("target/bin/actr: {error}: make it with `tools/prove program`"));
     let mut input = program.stdin.take().expect("its standard input");
     match input.write_all(image) {
         // The program reads no further than it takes to see that an image is too long.
