@@ -1,4 +1,4 @@
-//! The five calls as they are: on an image's bytes and a table's words, with all that they give back, refused or not.
+//! The seven calls as they are: on an image's bytes and a table's words, with all that they give back, refused or not.
 
 use crate::linked;
 use crate::number::Number;
@@ -36,4 +36,20 @@ pub fn trace(image: &[u8], state: &State, table: &mut [u16], steps: u16) -> (Num
 /// Buffer b has weight 2 to the power b in `mark`.
 pub fn refresh(image: &[u8], state: &State, mark: u16, table: &mut [u16]) -> (Number, u16) {
     number_and_count(linked::refresh(image, &words_of(state), mark, table))
+}
+
+/// Runs at most `steps` steps without a table, and matches every rule afresh at each: the number, the state after the steps
+/// made, and how many these are. All three are those of [`run`] handed the fresh table of the state.
+pub fn run_fresh(image: &[u8], state: &State, steps: u16) -> (Number, State, u16) {
+    let mut words = words_of(state);
+    let (number, made) = number_and_count(linked::run_fresh(image, &mut words, steps));
+    (number, state_of(&words), made)
+}
+
+/// Runs as [`run_fresh`] does, and tells each step made.
+pub fn trace_fresh(image: &[u8], state: &State, steps: u16) -> (Number, State, Vec<Event>) {
+    let mut words = words_of(state);
+    let mut noted = vec![0; words::EVENT * usize::from(steps)];
+    let (number, made) = number_and_count(linked::trace_fresh(image, &mut words, steps, &mut noted));
+    (number, state_of(&words), events(&noted, made))
 }

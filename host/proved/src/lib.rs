@@ -1,10 +1,10 @@
 //! The proved library for Rust: runs ACT-R models from a packed image.
 //!
 //! [`Model::open`] takes an image and gives the model, its opening [`State`] and its kept [`Table`]; [`Model::run`] makes
-//! steps. A call that is refused says why by a [`Refusal`] and has changed nothing; a run that was made says by an [`End`]
+//! steps, and so does [`Model::run_fresh`], which keeps nothing. A call that is refused says why by a [`Refusal`] and has changed nothing; a run that was made says by an [`End`]
 //! why it made no more steps. No call panics, keeps anything between calls, or asks for memory but for what it gives back;
 //! each needs less than 131,072 bytes of stack.
-//! [`calls`] has the five calls of the library as they are, on bytes and words that the caller owns.
+//! [`calls`] has the seven calls of the library as they are, on bytes and words that the caller owns.
 //!
 //! ```
 //! use jirvuntsag_proved::{End, Model, Refusal, Step};
@@ -21,6 +21,31 @@
 //! assert_eq!(ran.end.to_string(), "halted before the steps asked were made");
 //!
 //! assert_eq!(Model::open(&image[1..]).err(), Some(Refusal::Broken));
+//! # Ok::<(), Box<dyn std::error::Error>>(())
+//! ```
+//!
+//! # Matches that are kept, and matches that are made afresh
+//!
+//! [`Model::run`] and [`Model::trace`] keep the matches of all rules in the table from step to step and from call to call,
+//! and match again only the rules that test a buffer that a step changed. They are for who runs a model of many rules in
+//! short calls and has to be quick, as the author of a tutor has, who answers a pupil between two keystrokes.
+//!
+//! [`Model::run_fresh`] and [`Model::trace_fresh`] take no table and match every rule at each step. They are for who wants
+//! nothing kept that could outlive its chunk, as a memory laboratory does, and for who changes states by hand: there is no
+//! table to refresh, and no refusal or end that speaks of one ([`Refusal::TableLength`], [`End::Stale`]).
+//!
+//! Nobody can tell them apart, and that is proved: for every image and every state the end, the state, the steps made and
+//! each step told are those of the kept run that is handed the fresh table of that state.
+//!
+//! ```
+//! use jirvuntsag_proved::{End, Model};
+//!
+//! # let path = concat!(env!("CARGO_MANIFEST_DIR"), "/../../examples/counting.image");
+//! # let image = std::fs::read(path)?;
+//! let (model, state, mut table) = Model::open(&image)?;
+//! let afresh = model.run_fresh(state, 1_000)?;
+//! assert_eq!((afresh.end, afresh.made, afresh.state.clock), (End::Halted, 7, 550));
+//! assert_eq!(afresh, model.run(state, &mut table, 1_000)?);
 //! # Ok::<(), Box<dyn std::error::Error>>(())
 //! ```
 

@@ -38,6 +38,15 @@ extern "C" {
         table: *mut u16,
         table_len: usize,
     ) -> u32;
+    fn jirvuntsag_run_fresh(image: *const u8, image_len: usize, state: *mut [u32; STATE], steps: u16) -> u32;
+    fn jirvuntsag_trace_fresh(
+        image: *const u8,
+        image_len: usize,
+        state: *mut [u32; STATE],
+        steps: u16,
+        events: *mut u32,
+        events_len: usize,
+    ) -> u32;
 }
 
 // Safety, of each call below: addresses and lengths are those of Rust's own slices, borrowed for the call, and what is
@@ -63,4 +72,12 @@ pub fn trace(image: &[u8], state: &mut [u32; STATE], table: &mut [u16], steps: u
 
 pub fn refresh(image: &[u8], state: &[u32; STATE], mark: u16, table: &mut [u16]) -> u32 {
     unsafe { jirvuntsag_refresh(image.as_ptr(), image.len(), state, mark, table.as_mut_ptr(), table.len()) }
+}
+
+pub fn run_fresh(image: &[u8], state: &mut [u32; STATE], steps: u16) -> u32 {
+    unsafe { jirvuntsag_run_fresh(image.as_ptr(), image.len(), state, steps) }
+}
+
+pub fn trace_fresh(image: &[u8], state: &mut [u32; STATE], steps: u16, events: &mut [u32]) -> u32 {
+    unsafe { jirvuntsag_trace_fresh(image.as_ptr(), image.len(), state, steps, events.as_mut_ptr(), events.len()) }
 }

@@ -1,7 +1,7 @@
 //! A model that was opened, and its runs.
 
 use crate::calls;
-use crate::number::{End, Refusal};
+use crate::number::{End, Number, Refusal};
 use crate::state::{Event, State};
 use crate::table::Table;
 
@@ -37,15 +37,12 @@ impl<'a> Model<'a> {
 
     /// Runs at most `steps` steps from a state, and keeps the table. A refused run leaves the table as it was.
     pub fn run(&self, state: State, table: &mut Table, steps: u16) -> Result<Ran, Refusal> {
-        let (number, state, made) = calls::run(self.image, &state, table.words_mut(), steps);
-        number.ended().map(|end| Ran { end, state, made })
+        ran(calls::run(self.image, &state, table.words_mut(), steps))
     }
 
     /// Runs as [`Model::run`] does, and tells each step made.
     pub fn trace(&self, state: State, table: &mut Table, steps: u16) -> Result<(Ran, Vec<Event>), Refusal> {
-        let (number, state, events) = calls::trace(self.image, &state, table.words_mut(), steps);
-        let made = events.len() as u16;
-        number.ended().map(|end| (Ran { end, state, made }, events))
+        told(calls::trace(self.image, &state, table.words_mut(), steps))
     }
 
     /// Makes the entries of the rules that test a marked buffer afresh, and gives how many these are.
@@ -54,4 +51,26 @@ impl<'a> Model<'a> {
         let (number, count) = calls::refresh(self.image, state, mark, table.words_mut());
         number.ended().map(|_| count)
     }
+
+    /// Runs at most `steps` steps from a state and keeps nothing: every rule is matched afresh at each step. What it gives
+    /// is what [`Model::run`] gives that is handed the fresh table of the state. It never ends by [`End::Stale`].
+    pub fn run_fresh(&self, state: State, steps: u16) -> Result<Ran, Refusal> {
+        ran(calls::run_fresh(self.image, &state, steps))
+    }
+
+    /// Runs as [`Model::run_fresh`] does, and tells each step made.
+    pub fn trace_fresh(&self, state: State, steps: u16) -> Result<(Ran, Vec<Event>), Refusal> {
+        told(calls::trace_fresh(self.image, &state, steps))
+    }
+}
+
+/// A traced run as its types: the steps made are as many as were told.
+fn told((number, state, events): (Number, State, Vec<Event>)) -> Result<(Ran, Vec<Event>), Refusal> {
+    let made = events.len() as u16;
+    number.ended().map(|end| (Ran { end, state, made }, events))
+}
+
+/// A run as its types.
+fn ran((number, state, made): (Number, State, u16)) -> Result<Ran, Refusal> {
+    number.ended().map(|end| Ran { end, state, made })
 }

@@ -66,6 +66,49 @@ fn each_end_of_a_run_is_told() {
 }
 
 #[test]
+fn a_fresh_run_gives_what_the_kept_run_gives() {
+    let image = counting();
+    let (model, state, table) = Model::open(&image).expect("an accepted image");
+    for steps in [0, 1, 6, 7, 8, u16::MAX] {
+        assert_eq!(model.run_fresh(state, steps), model.run(state, &mut table.clone(), steps));
+        assert_eq!(model.trace_fresh(state, steps), model.trace(state, &mut table.clone(), steps));
+    }
+}
+
+#[test]
+fn each_refusal_of_a_fresh_run_is_told() {
+    let image = counting();
+    let (model, state, _) = Model::open(&image).expect("an accepted image");
+    let mut unfit = state;
+    unfit.buffers[0].isa = 3;
+    assert_eq!(model.run_fresh(unfit, 1), Err(Refusal::State));
+    assert_eq!(model.trace_fresh(unfit, 1), Err(Refusal::State));
+    let follows = [&image[..], &[0]].concat();
+    let images: [(&[u8], Refusal); 4] = [
+        (&[0; 65_537], Refusal::TooLong),
+        (&image[..70], Refusal::Missing),
+        (&[2], Refusal::Broken),
+        (&follows, Refusal::Follows),
+    ];
+    for (image, refusal) in images {
+        assert_eq!(calls::run_fresh(image, &unfit, 1), (Number::Refused(refusal), unfit, 0));
+        assert_eq!(calls::trace_fresh(image, &unfit, 1), (Number::Refused(refusal), unfit, vec![]));
+    }
+}
+
+#[test]
+fn each_end_of_a_fresh_run_is_told() {
+    let image = counting();
+    let (model, state, _) = Model::open(&image).expect("an accepted image");
+    let end = |state: State, steps| model.run_fresh(state, steps).map(|ran| (ran.end, ran.made));
+    assert_eq!(end(state, 7), Ok((End::Done, 7)));
+    assert_eq!(end(state, 8), Ok((End::Halted, 7)));
+    assert_eq!(end(State { clock: u32::MAX, ..state }, 1), Ok((End::ClockFull, 0)));
+    assert_eq!(end(State { clock: u32::MAX, ..state }, 0), Ok((End::Done, 0)));
+    assert_eq!(end(State { clock: u32::MAX - 200, ..state }, 7), Ok((End::ClockFull, 3)));
+}
+
+#[test]
 fn each_number_has_its_own_words() {
     use Refusal::{Broken, Follows, Mark, Missing, State, TableLength, TooLong};
     let refusals = [TooLong, Missing, Broken, Follows, TableLength, State, Mark].map(Number::Refused);
