@@ -75,15 +75,7 @@ impl Model {
 
     /// Whether a state is well formed for this model.
     pub fn is_well_formed(&self, state: &State) -> bool {
-        let (used, unused) = state.buffers.split_at(self.buffers());
-        let fits = |buffer: &Buffer| {
-            let count = self.slot_count(buffer.isa);
-            let (own, past) = buffer.slots.split_at(count);
-            usize::from(buffer.isa) <= self.types()
-                && own.iter().all(|&value| value <= 4_095)
-                && past.iter().all(|&value| value == 0)
-        };
-        used.iter().all(fits) && unused.iter().all(|buffer| *buffer == Buffer::default())
+        self.parts.is_well_formed(state)
     }
 
     /// `open` on a decoded model.

@@ -1,13 +1,15 @@
-//! An independent engine for document 01 with change request 2026-01.
+//! An independent engine for document 01 with change requests 2026-01 and 2026-02.
 //!
 //! An image is decoded once into ordinary structs ([`Model`]); a run keeps the
 //! matches from step to step and matches again only the rules that test a marked
-//! buffer. Every call is total: any bytes, state, table, mark and step count.
+//! buffer. A fresh run ([`run_fresh`]) keeps nothing, and is written by itself.
+//! Every call is total: any bytes, state, table, mark and step count.
 
 mod bits;
 mod board;
 mod calls;
 mod decode;
+mod fresh;
 mod matching;
 mod memory;
 mod model;
@@ -18,9 +20,11 @@ mod print;
 mod set;
 mod state;
 mod step;
+mod well_formed;
 
 pub use bits::Refusal;
 pub use calls::{open, refresh, run, table_len, trace, Event, Kind};
+pub use fresh::{run_fresh, trace_fresh};
 pub use model::Model;
 pub use parts::{Action, Chunk, Deed, Fact, Pattern, Rule, Term, Test};
 pub use print::{print, PRINTED_STEPS};

@@ -141,15 +141,6 @@ impl Plan {
         rule.sames = (first_same as u16, sames.len() as u16);
     }
 
-    /// All rules of a word.
-    #[inline]
-    pub fn all(&self, word: usize) -> u64 {
-        match self.rules.len() - 64 * word {
-            64.. => u64::MAX,
-            rest => (1 << rest) - 1,
-        }
-    }
-
     /// A rule that does not test a buffer fits whatever that buffer shows.
     fn admit_untested(&mut self) {
         for (buffer, fits) in self.fits.chunks_exact_mut(self.shows).enumerate() {

@@ -1,11 +1,10 @@
 //! One step: fire, wait or stop.
 
 use crate::board::Board;
-use crate::matching::{Known, NO_MATCH};
+use crate::matching::Known;
 use crate::model::Model;
 use crate::parts::{Action, Deed};
 use crate::place::place;
-use crate::set::Set;
 use crate::state::{Buffer, State};
 use crate::{FIRING, WORDS};
 
@@ -129,34 +128,5 @@ fn show(model: &Model, board: &mut Board, mark: u8) {
     while left != 0 {
         board.show(&model.plan, left.trailing_zeros() as usize);
         left &= left - 1;
-    }
-}
-
-impl Model {
-    /// A run that keeps no table: every rule is matched afresh at each step. For measurements.
-    pub fn run_fresh(&self, state: State, steps: u16) -> (u8, State, u16) {
-        if !self.is_well_formed(&state) {
-            return (6, state, 0);
-        }
-        let mut board = Board::new(&self.plan, &state);
-        for made in 0..steps {
-            let mut matching = Set::default();
-            for word in 0..self.plan.words {
-                *matching.word_mut(word) = self.plan.matches(word, self.plan.all(word), &board, |_| ());
-            }
-            let (step, _) = match matching.first() {
-                Some(rank) => {
-                    let rule = &self.plan.rules[rank];
-                    let mut entry = NO_MATCH;
-                    rule.write_entry(&board, &mut entry);
-                    fire(self, rule.number, &entry, &mut board)
-                }
-                None => wait(self, &mut board),
-            };
-            if let Step::Stop(number) = step {
-                return (number, board.state(), made);
-            }
-        }
-        (0, board.state(), steps)
     }
 }

@@ -22,8 +22,10 @@ fn goal_rule(utility: i16, named: &[(usize, Term)], actions: Vec<ActionSpec>) ->
 fn assert_entries([first, second]: [Term; 2], cases: &[([u16; 2], [u16; 3])]) {
     let model = model(1, &[], vec![goal_rule(0, &[(0, first), (1, second)], vec![])]);
     for (slots, wanted) in cases {
-        let table = model.fresh_table(&state(0, &[buffer(1, slots[0], slots[1], 0)]));
+        let from = state(0, &[buffer(1, slots[0], slots[1], 0)]);
+        let table = model.fresh_table(&from);
         assert_eq!((&table[..3], &table[3..]), (&wanted[..], &[0; 6][..]), "{first:?} {second:?} {slots:?}");
+        assert_eq!(model.run_fresh(from, 1).2, wanted[0], "{first:?} {second:?} {slots:?}");
     }
 }
 
@@ -105,7 +107,7 @@ fn a_kept_match_follows_a_slot_that_is_filled_and_emptied() {
     assert_eq!(kinds, [1, 0, 1, 0, 1].map(Kind::Fire));
     assert_eq!((number, after), (0, state(250, &[buffer(1, 3, 3, 0)])));
     assert_eq!(table, [1, 3, 3, 0, 0, 0, 0, 0, 0, 0, 0, 0, 0, 0, 0, 0, 0, 0]);
-    assert_eq!(model.run_fresh(from, 5), (0, after, 5));
+    assert_eq!(model.trace_fresh(from, 5), (0, after, events));
 }
 
 #[test]

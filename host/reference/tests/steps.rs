@@ -9,11 +9,12 @@ use jirvuntsag_reference::{Buffer, Model, State};
 const S1: Term = Term::Symbol(1);
 const LAST_CLOCK: u32 = 4_294_967_295;
 
-/// One step from a state with its fresh table.
+/// One step from a state, by the kept run with its fresh table and by the fresh run.
 fn step(model: &Model, from: State) -> (u8, State) {
     let mut table = model.fresh_table(&from);
     let (number, after, made) = model.run(from, &mut table, 1);
     assert_eq!(made, u16::from(number == 0));
+    assert_eq!(model.run_fresh(from, 1), (number, after, made));
     (number, after)
 }
 
@@ -225,15 +226,20 @@ fn a_run_that_ends_where_the_model_halts() {
     for (steps, number, made) in [(6, 0, 6), (7, 0, 7), (8, 9, 7), (65_535, 9, 7)] {
         let from = model.open_state();
         let mut table = model.fresh_table(&from);
-        let (given, _, count) = model.run(from, &mut table, steps);
-        assert_eq!((given, count), (number, made));
+        let ran = model.run(from, &mut table, steps);
+        assert_eq!((ran.0, ran.2), (number, made));
+        assert_eq!(model.run_fresh(from, steps), ran);
     }
 }
 
 #[test]
 fn states_that_are_not_well_formed() {
     let model = model(2, &[], vec![]);
-    let answer = |from: State| model.run(from, &mut [], 0).0;
+    let answer = |from: State| {
+        let (number, after, made) = model.run(from, &mut [], 0);
+        assert_eq!(model.run_fresh(from, 0), (number, after, made));
+        number
+    };
     assert_eq!(answer(state(LAST_CLOCK, &[buffer(2, 4_095, 4_095, 65_535), buffer(0, 0, 0, 1)])), 0);
     assert_eq!(answer(state(0, &[buffer(3, 0, 0, 0)])), 6);
     assert_eq!(answer(state(0, &[buffer(1, 4_096, 0, 0)])), 6);
