@@ -1,10 +1,10 @@
-//! The cases of `vectors/01.txt`, which have request 2026-01 in: a call and its answer on two lines.
+//! The cases of `vectors/02.txt`, which have requests 2026-01 and 2026-02 in: a call and its answer on two lines.
 
 use jirvuntsag_reference::{Buffer, State};
 
 use crate::Engine;
 
-const PATH: &str = concat!(env!("CARGO_MANIFEST_DIR"), "/../../vectors/01.txt");
+const PATH: &str = concat!(env!("CARGO_MANIFEST_DIR"), "/../../vectors/02.txt");
 
 /// A call and the answer that it must have, as they are written.
 pub struct Case {
@@ -16,7 +16,7 @@ pub struct Case {
 
 /// All cases.
 pub fn cases() -> Vec<Case> {
-    let text = std::fs::read_to_string(PATH).expect("vectors/01.txt");
+    let text = std::fs::read_to_string(PATH).expect("vectors/02.txt");
     let lines: Vec<&str> = text.lines().collect();
     assert_eq!(lines.len() % 2, 0, "a call without an answer");
     lines.chunks_exact(2).map(|pair| Case { call: pair[0].into(), answer: pair[1].into() }).collect()
@@ -46,6 +46,11 @@ impl Case {
                 let steps = steps.parse().expect("steps");
                 let (number, after, made) = (engine.run)(&bytes(image), state(from), &mut table, steps);
                 format!("{number} {} {} {made}", show_state(&after), show_words(&table))
+            }
+            ["fresh", image, from, steps] => {
+                let steps = steps.parse().expect("steps");
+                let (number, after, made) = (engine.run_fresh)(&bytes(image), state(from), steps);
+                format!("{number} {} {made}", show_state(&after))
             }
             ["refresh", image, from, mark, table] => {
                 let mut table = words(table);

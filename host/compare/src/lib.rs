@@ -22,6 +22,10 @@ pub struct Engine {
     pub run: fn(&[u8], State, &mut [u16], u16) -> (u8, State, u16),
     /// Number, state and each step; the table is written.
     pub trace: fn(&[u8], State, &mut [u16], u16) -> (u8, State, Vec<Event>),
+    /// Number, state and steps made, without a table.
+    pub run_fresh: fn(&[u8], State, u16) -> (u8, State, u16),
+    /// Number, state and each step, without a table.
+    pub trace_fresh: fn(&[u8], State, u16) -> (u8, State, Vec<Event>),
     /// Number and count of refreshed rules; the table is written.
     pub refresh: fn(&[u8], &State, u16, &mut [u16]) -> (u8, u16),
     /// The lines of the printing program.
@@ -35,6 +39,8 @@ pub const REFERENCE: Engine = Engine {
     open: reference::open,
     run: reference::run,
     trace: reference::trace,
+    run_fresh: reference::run_fresh,
+    trace_fresh: reference::trace_fresh,
     refresh: reference::refresh,
     print: reference::print,
 };
@@ -46,6 +52,8 @@ pub const PROVED: Engine = Engine {
     open: proved::open,
     run: proved::run,
     trace: proved::trace,
+    run_fresh: proved::run_fresh,
+    trace_fresh: proved::trace_fresh,
     refresh: proved::refresh,
     print: printing::print_proved,
 };

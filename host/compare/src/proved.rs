@@ -1,7 +1,7 @@
 //! The proved library's calls in the reference engine's types.
 
 use jirvuntsag_proved as proved;
-use jirvuntsag_proved::calls;
+use jirvuntsag_proved::{calls, Number};
 use jirvuntsag_reference::{Buffer, Event, Kind, State};
 
 /// A state for the proved library.
@@ -31,16 +31,34 @@ pub fn open(image: &[u8], table: &mut [u16]) -> (u8, State) {
     (number.number(), from_proved(&state))
 }
 
+/// A run that the proved library answered.
+fn ran((number, state, made): (Number, proved::State, u16)) -> (u8, State, u16) {
+    (number.number(), from_proved(&state), made)
+}
+
+/// A traced run that the proved library answered.
+fn traced((number, state, events): (Number, proved::State, Vec<proved::Event>)) -> (u8, State, Vec<Event>) {
+    (number.number(), from_proved(&state), events.iter().map(event).collect())
+}
+
 /// The number, the state and the steps made.
 pub fn run(image: &[u8], state: State, table: &mut [u16], steps: u16) -> (u8, State, u16) {
-    let (number, state, made) = calls::run(image, &to_proved(&state), table, steps);
-    (number.number(), from_proved(&state), made)
+    ran(calls::run(image, &to_proved(&state), table, steps))
 }
 
 /// The number, the state and each step.
 pub fn trace(image: &[u8], state: State, table: &mut [u16], steps: u16) -> (u8, State, Vec<Event>) {
-    let (number, state, events) = calls::trace(image, &to_proved(&state), table, steps);
-    (number.number(), from_proved(&state), events.iter().map(event).collect())
+    traced(calls::trace(image, &to_proved(&state), table, steps))
+}
+
+/// The number, the state and the steps made, without a table.
+pub fn run_fresh(image: &[u8], state: State, steps: u16) -> (u8, State, u16) {
+    ran(calls::run_fresh(image, &to_proved(&state), steps))
+}
+
+/// The number, the state and each step, without a table.
+pub fn trace_fresh(image: &[u8], state: State, steps: u16) -> (u8, State, Vec<Event>) {
+    traced(calls::trace_fresh(image, &to_proved(&state), steps))
 }
 
 /// The number and the count.

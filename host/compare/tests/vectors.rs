@@ -1,6 +1,8 @@
 //! Every case of the vectors, on both engines.
 
-use jirvuntsag_compare::{cases, Engine, PROVED, REFERENCE};
+use std::collections::BTreeSet;
+
+use jirvuntsag_compare::{cases, Case, Engine, PROVED, REFERENCE};
 
 /// Holds an engine to every case, and tells all that differ.
 fn hold(engine: &Engine) {
@@ -24,6 +26,15 @@ fn the_reference_answers_every_case() {
 #[test]
 fn the_proved_library_answers_every_case() {
     hold(&PROVED);
+}
+
+#[test]
+fn every_number_of_a_fresh_run_comes_up_but_1() {
+    let fresh = cases().into_iter().filter(|case| case.call.starts_with("fresh "));
+    let number = |case: Case| case.answer.split(' ').next().expect("a number").parse().expect("a number");
+    let numbers: Vec<u8> = fresh.map(number).collect();
+    assert_eq!(numbers.len(), 69);
+    assert_eq!(BTreeSet::from_iter(numbers), BTreeSet::from([0, 2, 3, 4, 6, 8, 9]));
 }
 
 #[test]
