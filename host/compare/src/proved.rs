@@ -4,6 +4,8 @@ use jirvuntsag_proved as proved;
 use jirvuntsag_proved::{calls, Number};
 use jirvuntsag_reference::{Buffer, Event, Kind, State};
 
+use crate::{Ran, Told};
+
 /// A state for the proved library.
 fn to_proved(state: &State) -> proved::State {
     let buffer = |buffer: Buffer| proved::Buffer { isa: buffer.isa, slots: buffer.slots, delay: buffer.delay };
@@ -32,32 +34,32 @@ pub fn open(image: &[u8], table: &mut [u16]) -> (u8, State) {
 }
 
 /// A run that the proved library answered.
-fn ran((number, state, made): (Number, proved::State, u16)) -> (u8, State, u16) {
+fn ran((number, state, made): (Number, proved::State, u16)) -> Ran {
     (number.number(), from_proved(&state), made)
 }
 
 /// A traced run that the proved library answered.
-fn traced((number, state, events): (Number, proved::State, Vec<proved::Event>)) -> (u8, State, Vec<Event>) {
+fn traced((number, state, events): (Number, proved::State, Vec<proved::Event>)) -> Told {
     (number.number(), from_proved(&state), events.iter().map(event).collect())
 }
 
 /// The number, the state and the steps made.
-pub fn run(image: &[u8], state: State, table: &mut [u16], steps: u16) -> (u8, State, u16) {
+pub fn run(image: &[u8], state: State, table: &mut [u16], steps: u16) -> Ran {
     ran(calls::run(image, &to_proved(&state), table, steps))
 }
 
 /// The number, the state and each step.
-pub fn trace(image: &[u8], state: State, table: &mut [u16], steps: u16) -> (u8, State, Vec<Event>) {
+pub fn trace(image: &[u8], state: State, table: &mut [u16], steps: u16) -> Told {
     traced(calls::trace(image, &to_proved(&state), table, steps))
 }
 
 /// The number, the state and the steps made, without a table.
-pub fn run_fresh(image: &[u8], state: State, steps: u16) -> (u8, State, u16) {
+pub fn run_fresh(image: &[u8], state: State, steps: u16) -> Ran {
     ran(calls::run_fresh(image, &to_proved(&state), steps))
 }
 
 /// The number, the state and each step, without a table.
-pub fn trace_fresh(image: &[u8], state: State, steps: u16) -> (u8, State, Vec<Event>) {
+pub fn trace_fresh(image: &[u8], state: State, steps: u16) -> Told {
     traced(calls::trace_fresh(image, &to_proved(&state), steps))
 }
 

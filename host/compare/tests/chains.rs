@@ -2,13 +2,15 @@
 
 use std::collections::BTreeMap;
 
-use jirvuntsag_compare::{Engine, PROVED, REFERENCE};
+use jirvuntsag_compare::{hold_fresh_to, Engine, BOTH, PROVED, REFERENCE};
 use jirvuntsag_generate::{broken_state, clock, damage, each_seed, mark, model, steps, Rng};
 use jirvuntsag_packing::{pack_with_fields, ModelSpec, Packed};
 use jirvuntsag_reference::{Event, Model, State};
 
 /// Links of a chain.
 const LINKS: usize = 24;
+/// Steps of the runs that are made beside a chain after each link, the kept ones on a copy of its table.
+const BESIDE: u16 = 12;
 
 /// One link: a call, or something that befalls state or table between two calls.
 #[derive(Clone, Debug)]
@@ -16,9 +18,9 @@ enum Link {
     Run(u16),
     Trace(u16),
     Refresh(u16),
-    /// A run and a refresh that are handed this image.
+    /// A run, a refresh and a fresh run that are handed this image.
     DamagedImage(Vec<u8>),
-    /// A run and a refresh that are handed this state.
+    /// A run, a refresh and a fresh run that are handed this state.
     BrokenState(Box<State>),
     /// A run and a refresh that are handed the table with one word more.
     LongTable,
@@ -39,6 +41,8 @@ struct Said {
     numbers: Vec<u8>,
     counts: Vec<u16>,
     events: Vec<Event>,
+    /// What a fresh run beside them answers, which takes no part in the chain.
+    fresh: Option<(u8, State, u16)>,
 }
 
 impl Said {
@@ -81,9 +85,11 @@ fn misuse(engine: &Engine, image: &[u8], link: &Link, hand: &mut Hand) -> Said {
     let mut said = Said::default();
     match link {
         Link::DamagedImage(damaged) => {
+            said.fresh = Some((engine.run_fresh)(damaged, hand.state, 3));
             hand.state = run_and_refresh(engine, damaged, hand.state, &mut hand.table, &mut said);
         }
         Link::BrokenState(broken) => {
+            assert_eq!((engine.run_fresh)(image, **broken, 3), (6, **broken, 0), "a broken state is refused afresh");
             let after = run_and_refresh(engine, image, **broken, &mut hand.table, &mut said);
             assert_eq!(after, **broken, "a broken state comes back as it was");
         }
@@ -151,7 +157,7 @@ impl Chain {
     /// Opens an image on both engines.
     fn open(image: &[u8]) -> Chain {
         let decoded = Model::decode(image).expect("a valid model");
-        let [proved, reference] = [&PROVED, &REFERENCE].map(|engine| {
+        let [proved, reference] = BOTH.map(|engine| {
             let mut table = vec![0; (engine.table_len)(image)];
             let (_, state) = (engine.open)(image, &mut table);
             Hand { state, table }
@@ -171,8 +177,25 @@ impl Chain {
         self.kept = self.kept && keeps(link, &said);
         if self.kept {
             assert_eq!(self.proved.table, self.decoded.fresh_table(&self.proved.state), "kept after {link:?}");
+            self.hold_fresh(before.state, link, &said);
         }
         said
+    }
+
+    /// While the table is kept nobody can tell a fresh run from a kept one: that of the link, and one from where it led.
+    fn hold_fresh(&self, before: State, link: &Link, said: &Said) {
+        let Hand { state, table } = &self.proved;
+        for engine in BOTH {
+            if let Link::Trace(steps) = *link {
+                hold_fresh_to(engine, &self.image, before, steps, &(said.numbers[0], *state, said.events.clone()));
+            }
+            if let Link::Run(steps) = *link {
+                let ran = (said.numbers[0], *state, said.counts[0]);
+                assert_eq!((engine.run_fresh)(&self.image, before, steps), ran, "{} {link:?}", engine.name);
+            }
+            let kept = (engine.trace)(&self.image, *state, &mut table.clone(), BESIDE);
+            hold_fresh_to(engine, &self.image, *state, BESIDE, &kept);
+        }
     }
 }
 

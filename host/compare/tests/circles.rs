@@ -66,6 +66,6 @@ fn a_circle_would_be_seen() {
     let module = |name: &str, text: &str| (name.to_owned(), named(text));
     let imports = [module("a", "use crate::b::B;"), module("b", "use crate::{X};\ncrate::a::f()"), module("c", "")];
     let imports: Imports =
-        imports.map(|(name, others)| (name, others.into_iter().filter(|one| one != "").collect())).into();
+        imports.map(|(name, others)| (name, others.into_iter().filter(|one| !one.is_empty()).collect())).into();
     assert_eq!(circle(imports), ["a", "b"]);
 }

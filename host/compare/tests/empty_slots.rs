@@ -1,10 +1,8 @@
 //! A variable takes no empty slot, and a constant nil takes no other: runs worked out by hand, on both engines.
 
-use jirvuntsag_compare::{Engine, PROVED, REFERENCE};
+use jirvuntsag_compare::{hold_fresh_to, Engine, BOTH};
 use jirvuntsag_reference::{Kind, State};
 use jirvuntsag_text::Model;
-
-const BOTH: [&Engine; 2] = [&PROVED, &REFERENCE];
 
 /// The image of a model whose types have the slots a and b; symbols are numbered as they first stand.
 fn image(rest: &str) -> Vec<u8> {
@@ -20,10 +18,12 @@ fn opened(engine: &Engine, image: &[u8]) -> (State, Vec<u16>) {
     (state, table)
 }
 
-/// The steps of a run from the opening, and the state after them.
+/// The steps of a run from the opening, kept or fresh, and the state after them.
 fn steps(engine: &Engine, image: &[u8], asked: u16) -> (Vec<Kind>, State) {
     let (state, mut table) = opened(engine, image);
-    let (_, after, events) = (engine.trace)(image, state, &mut table, asked);
+    let told = (engine.trace)(image, state, &mut table, asked);
+    hold_fresh_to(engine, image, state, asked, &told);
+    let (_, after, events) = told;
     (events.iter().map(|event| event.kind).collect(), after)
 }
 

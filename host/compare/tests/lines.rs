@@ -1,19 +1,8 @@
 //! Document 01's cases "On both sides of the line", on both engines.
 
-use jirvuntsag_compare::{Engine, PROVED, REFERENCE};
-use jirvuntsag_packing::{model_a, pack, ActionSpec, ChunkSpec, ModelSpec, RuleSpec, TestSpec};
+use jirvuntsag_compare::{always_fires, Engine, BOTH, P1};
+use jirvuntsag_packing::{model_a, pack};
 use jirvuntsag_reference::State;
-
-/// Image P1: one buffer and nothing else.
-const P1: [u8; 8] = [1, 0x10, 0, 0, 0, 0, 0, 0];
-const BOTH: [&Engine; 2] = [&PROVED, &REFERENCE];
-
-/// Two buffers, and a rule that clears the first whenever it is empty, so that it always fires.
-fn always_fires() -> Vec<u8> {
-    let tests = vec![TestSpec::new(0, 0, &[])];
-    let rule = RuleSpec { tests, actions: vec![ActionSpec::clear(0)], ..RuleSpec::default() };
-    pack(&ModelSpec { opening: vec![ChunkSpec::nil(); 2], rules: vec![rule], ..ModelSpec::default() })
-}
 
 /// Model A opened by an engine: image, state, table.
 fn opened_a(engine: &Engine) -> (Vec<u8>, State, Vec<u16>) {

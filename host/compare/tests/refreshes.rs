@@ -1,11 +1,9 @@
 //! A refresh matches the rules that test a marked buffer and no others: by its count, and by wrong words that must stay.
 
-use jirvuntsag_compare::{Engine, PROVED, REFERENCE};
+use jirvuntsag_compare::{Engine, BOTH, REFERENCE};
 use jirvuntsag_generate::{each_seed, model, state, Rng};
 use jirvuntsag_packing::{model_a, pack, ModelSpec};
 use jirvuntsag_reference::{Model, State};
-
-const BOTH: [&Engine; 2] = [&PROVED, &REFERENCE];
 
 /// Whether a rule tests a marked buffer.
 fn is_marked(spec: &ModelSpec, rule: usize, mark: u16) -> bool {

@@ -13,6 +13,8 @@ struct Said {
     ran: (u8, State, u16, Vec<u16>),
     traced: (u8, State, Vec<Event>, Vec<u16>),
     refreshed: (u8, u16, Vec<u16>),
+    ran_fresh: (u8, State, u16),
+    traced_fresh: (u8, State, Vec<Event>),
 }
 
 /// Makes every call on a case, each on the case's own table.
@@ -29,6 +31,8 @@ fn said(engine: &Engine, case: &Case) -> Said {
         ran: (run.0, run.1, run.2, ran),
         traced: (trace.0, trace.1, trace.2, traced),
         refreshed: (refresh.0, refresh.1, refreshed),
+        ran_fresh: (engine.run_fresh)(&case.image, case.state, case.steps),
+        traced_fresh: (engine.trace_fresh)(&case.image, case.state, case.steps),
     }
 }
 

@@ -2,7 +2,7 @@
 
 use std::collections::BTreeSet;
 
-use jirvuntsag_compare::{cases, Case, Engine, PROVED, REFERENCE};
+use jirvuntsag_compare::{cases, Case, Engine, BOTH, PROVED, REFERENCE};
 
 /// Holds an engine to every case, and tells all that differ.
 fn hold(engine: &Engine) {
@@ -42,7 +42,7 @@ fn an_accepted_table_has_the_length_that_is_told() {
     let openings: Vec<_> = cases().iter().filter_map(|case| case.accepted_opening()).collect();
     assert!(!openings.is_empty());
     for (image, words) in &openings {
-        for engine in [&REFERENCE, &PROVED] {
+        for engine in BOTH {
             assert_eq!((engine.table_len)(image), *words, "{}", engine.name);
         }
     }

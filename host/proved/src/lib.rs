@@ -50,6 +50,8 @@
 //! ```
 
 pub mod calls;
+#[cfg(test)]
+mod lent;
 mod linked;
 mod model;
 mod number;
