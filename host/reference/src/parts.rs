@@ -140,9 +140,9 @@ impl Pattern {
     /// The same with packed terms.
     #[inline]
     pub(crate) fn packed(&self) -> impl Iterator<Item = (usize, PackedTerm)> + '_ {
-        let mut left = self.slots;
+        let mut left = u32::from(self.slots);
         std::iter::from_fn(move || {
-            // Of no bits there are 8 trailing zeros, where no term is.
+            // Of no bits there are 32 trailing zeros, where no term is.
             let slot = left.trailing_zeros() as usize;
             let term = *self.terms.get(slot)?;
             left &= left - 1;

@@ -43,11 +43,8 @@ fn bind(tests: &[Test], state: &State) -> Option<Values> {
         }
         for (slot, term) in test.pattern.packed() {
             let found = buffer.slots[slot];
-            let agrees = match term.variable() {
-                None => found == term.0,
-                Some(variable) => takes(&mut values[variable], found),
-            };
-            if !agrees {
+            // The term of a variable is above every value, and so is none of them.
+            if found != term.0 && !term.variable().is_some_and(|variable| takes(&mut values[variable], found)) {
                 return None;
             }
         }
