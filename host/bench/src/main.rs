@@ -3,6 +3,8 @@
 mod clips;
 mod engine;
 mod figures;
+mod growth;
+mod keeping;
 mod models;
 mod opened;
 mod peers;
@@ -12,6 +14,7 @@ mod stored;
 mod tables;
 mod timing;
 mod traces;
+mod ways;
 
 use std::process::ExitCode;
 

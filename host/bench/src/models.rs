@@ -54,21 +54,21 @@ pub fn models() -> Vec<Measured> {
 }
 
 /// One model in several sizes, with the size in its name.
-fn sizes<T: Copy + Display>(name: &str, sizes: [T; 3], spec: impl Fn(T) -> ModelSpec) -> Vec<Measured> {
+fn sizes<T: Copy + Display>(name: &str, sizes: &[T], spec: impl Fn(T) -> ModelSpec) -> Vec<Measured> {
     sizes.iter().map(|&size| model(&name.replace("{}", &size.to_string()), MANY, &spec(size))).collect()
 }
 
 /// Models with more and more of one thing: facts, rules, buffers that a step touches, tests of a rule, or steps.
 pub fn growing() -> Vec<Vec<Measured>> {
-    let rules = [32, 128, RULES];
+    let rules = &[32, 128, RULES];
     let steps = |asked| model(&format!("counting, 500 facts, steps asked: {asked}"), asked, &counting(500));
     vec![
-        sizes("counting, {} facts", [32, 128, 500], counting),
-        sizes("all of {} rules touched", rules, |all| tokens(all, FIRST)),
+        sizes("counting, {} facts", &[32, 128, 500], counting),
+        sizes("all of {} rules touched", &[1, 2, 4, 8, 16, 32, 128, RULES], |all| tokens(all, FIRST)),
         sizes("all of {} rules touched, last test differs", rules, |all| tokens(all, LAST)),
         sizes("32 of {} rules touched", rules, |all| few_of_many(32, all)),
-        sizes("256 rules, buffers touched by a step: {}", [1, 2, 8], touching),
-        sizes("256 rules, tests a rule: {}", [1, 3, 8], |tests| tests_a_rule(RULES, tests)),
+        sizes("256 rules, buffers touched by a step: {}", &[1, 2, 8], touching),
+        sizes("256 rules, tests a rule: {}", &[1, 3, 8], |tests| tests_a_rule(RULES, tests)),
         [1, 10, 100].map(steps).into(),
     ]
 }

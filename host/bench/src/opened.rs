@@ -24,17 +24,20 @@ pub struct Opened<'a> {
 }
 
 impl<'a> Opened<'a> {
-    /// Opens a model and runs it once on both engines, so that nothing is measured that is not the same.
+    /// Opens a model and runs it once on both engines, kept and fresh, so that nothing is measured that is not the same.
     pub fn new(model: &'a Measured) -> Opened<'a> {
         let decoded = reference::Model::decode(&model.image).expect("a valid model");
         let mut fresh = vec![0; decoded.table_len()];
         let (_, state) = reference::open(&model.image, &mut fresh);
         let mut tables = [fresh.clone(), fresh.clone()];
         let (_, proved) = proved::calls::open(&model.image, &mut tables[0]);
-        let (number, after, made) = proved::calls::run(&model.image, &proved, &mut tables[0], model.steps);
-        let (same, there, count) = reference::run(&model.image, state, &mut tables[1], model.steps);
-        assert_eq!((number.number(), after.clock, made), (same, there.clock, count), "{}", model.name);
+        let kept = proved::calls::run(&model.image, &proved, &mut tables[0], model.steps);
+        let there = reference::run(&model.image, state, &mut tables[1], model.steps);
+        let (number, after, made) = kept;
+        assert_eq!((number.number(), after.clock, made), (there.0, there.1.clock, there.2), "{}", model.name);
         assert!(tables[0] == tables[1] && made == model.steps, "{}", model.name);
+        assert_eq!(proved::calls::run_fresh(&model.image, &proved, model.steps), kept, "{}", model.name);
+        assert_eq!(reference::run_fresh(&model.image, state, model.steps), there, "{}", model.name);
         Opened { model, decoded, proved, reference: state, fresh, made }
     }
 
@@ -44,20 +47,34 @@ impl<'a> Opened<'a> {
     }
 }
 
-/// The measured run by the proved library, from the opening state and table.
-pub fn by_proved<'a>(opened: &'a Opened<'a>) -> impl FnMut() + 'a {
+/// A run by the proved library, from the opening state and table. Here and below each call is handed the packed image.
+pub fn by_proved<'a>(opened: &'a Opened<'a>, steps: u16) -> impl FnMut() + 'a {
     let mut table = opened.fresh.clone();
     move || {
         table.copy_from_slice(&opened.fresh);
-        black_box(proved::calls::run(black_box(&opened.model.image), &opened.proved, &mut table, opened.model.steps));
+        black_box(proved::calls::run(black_box(&opened.model.image), &opened.proved, &mut table, steps));
     }
 }
 
 /// The same by the reference engine.
-pub fn by_reference<'a>(opened: &'a Opened<'a>) -> impl FnMut() + 'a {
+pub fn by_reference<'a>(opened: &'a Opened<'a>, steps: u16) -> impl FnMut() + 'a {
     let mut table = opened.fresh.clone();
     move || {
         table.copy_from_slice(&opened.fresh);
-        black_box(reference::run(black_box(&opened.model.image), opened.reference, &mut table, opened.model.steps));
+        black_box(reference::run(black_box(&opened.model.image), opened.reference, &mut table, steps));
+    }
+}
+
+/// A fresh run by the proved library, from the opening state.
+pub fn fresh_by_proved<'a>(opened: &'a Opened<'a>, steps: u16) -> impl FnMut() + 'a {
+    move || {
+        black_box(proved::calls::run_fresh(black_box(&opened.model.image), &opened.proved, steps));
+    }
+}
+
+/// The same by the reference engine.
+pub fn fresh_by_reference<'a>(opened: &'a Opened<'a>, steps: u16) -> impl FnMut() + 'a {
+    move || {
+        black_box(reference::run_fresh(black_box(&opened.model.image), opened.reference, steps));
     }
 }

@@ -79,7 +79,7 @@ fn measured(model: &Measured) -> Result<(u32, Vec<Figure>), Failure> {
 fn run_ways<'a>(opened: &'a Opened, clips: &'a RefCell<Clips>) -> Result<Vec<Telling<'a, Failure>>, Failure> {
     let firings = same_steps(opened, &mut clips.borrow_mut())?;
     let theirs = Box::new(move || clips.borrow_mut().timed(firings));
-    Ok(vec![theirs, telling(by_proved(opened))])
+    Ok(vec![theirs, telling(by_proved(opened, opened.model.steps))])
 }
 
 /// From the stored model to the last step: in CLIPS from text, ours, and in CLIPS from a binary image.

@@ -30,6 +30,17 @@ pub struct Times {
     rounds: Vec<Vec<f64>>,
 }
 
+/// What a step is measured by: a run, less a shorter one where that is timed too, over the steps that it has more.
+#[derive(Clone, Copy)]
+pub struct Span {
+    /// The way that runs.
+    pub run: usize,
+    /// The way that makes the first steps of the same run: what it takes to be called and to read the image is in both.
+    pub less: Option<usize>,
+    /// The steps of the run that are not of the shorter one.
+    pub steps: u16,
+}
+
 impl Spread {
     /// Of some values; of none it is nothing but NaN.
     fn of(values: impl Iterator<Item = f64>) -> Spread {
@@ -100,6 +111,23 @@ impl Times {
         Spread::of(self.differences(way, less).zip(self.differences(over, over_less)).map(|(one, other)| one / other))
     }
 
+    /// Nanoseconds of one step.
+    pub fn step(&self, span: Span) -> Spread {
+        Spread::of(self.steps(span))
+    }
+
+    /// What a step takes over what another takes in the same round.
+    pub fn step_ratio(&self, span: Span, over: Span) -> Spread {
+        Spread::of(self.steps(span).zip(self.steps(over)).map(|(one, other)| one / other))
+    }
+
+    /// Nanoseconds of one step, round by round.
+    fn steps(&self, span: Span) -> impl Iterator<Item = f64> + '_ {
+        let less = move |round: usize| span.less.map_or(0.0, |way| self.rounds[way][round]);
+        let of = move |(round, time): (usize, &f64)| (time - less(round)) / f64::from(span.steps);
+        self.rounds[span.run].iter().enumerate().map(of)
+    }
+
     /// What one way takes more than another, round by round.
     fn differences(&self, way: usize, less: usize) -> impl Iterator<Item = f64> + '_ {
         self.rounds[way].iter().zip(&self.rounds[less]).map(|(one, other)| one - other)
@@ -140,6 +168,16 @@ mod tests {
         assert_eq!((times.difference(0, 1).low, times.difference(0, 1).high), (60.0, 60.0));
         let ratio = times.ratio_of_differences([0, 1], [2, 3]);
         assert_eq!((ratio.low, ratio.median, ratio.high), (10.0, 20.0, 30.0));
+    }
+
+    #[test]
+    fn a_step_is_what_a_run_takes_more_over_the_steps_that_it_has_more() {
+        let times = Times { rounds: vec![vec![1_000.0, 1_900.0], vec![100.0, 100.0], vec![50.0, 300.0]] };
+        let (alone, whole) = (Span { run: 0, less: Some(1), steps: 9 }, Span { run: 2, less: None, steps: 10 });
+        let shown = |spread: Spread| (spread.low, spread.high);
+        assert_eq!(shown(times.step(alone)), (100.0, 200.0));
+        assert_eq!(shown(times.step(whole)), (5.0, 30.0));
+        assert_eq!(times.step_ratio(alone, whole).high, 20.0);
     }
 
     #[test]

@@ -1,9 +1,9 @@
 //! The proved library for Rust: runs ACT-R models from a packed image.
 //!
 //! [`Model::open`] takes an image and gives the model, its opening [`State`] and its kept [`Table`]; [`Model::run`] makes
-//! steps, and so does [`Model::run_fresh`], which keeps nothing. A call that is refused says why by a [`Refusal`] and has changed nothing; a run that was made says by an [`End`]
-//! why it made no more steps. No call panics, keeps anything between calls, or asks for memory but for what it gives back;
-//! each needs less than 131,072 bytes of stack.
+//! steps, and so does [`Model::run_fresh`], which keeps nothing. A call that is refused says why by a [`Refusal`] and has
+//! changed nothing; a run that was made says by an [`End`] why it made no more steps. No call panics, keeps anything between
+//! calls, or asks for memory but for what it gives back; each needs less than 131,072 bytes of stack.
 //! [`calls`] has the seven calls of the library as they are, on bytes and words that the caller owns.
 //!
 //! ```
