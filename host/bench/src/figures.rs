@@ -1,6 +1,6 @@
 //! What is told of a model beside CLIPS: for each figure both times and their ratio.
 
-use crate::timing::{Spread, Times};
+use crate::timing::{Span, Spread, Times};
 
 /// The ratio that is aimed at.
 const AIM: f64 = 20.0;
@@ -37,10 +37,10 @@ impl Figure {
         Figure { ratio: times.ratio(theirs, ours), times: [theirs, ours].map(|way| times.of(way).median) }
     }
 
-    /// What a step more takes: of each side a run, and then one that is so many steps shorter.
-    fn of_step(times: &Times, theirs: [usize; 2], ours: [usize; 2], steps: u16) -> Figure {
-        let step = |[run, short]: [usize; 2]| times.difference(run, short).median / f64::from(steps);
-        Figure { ratio: times.ratio_of_differences(theirs, ours), times: [theirs, ours].map(step) }
+    /// A step alone on each side.
+    fn of_step(times: &Times, theirs: Span, ours: Span) -> Figure {
+        let step = |span| times.step(span).median;
+        Figure { ratio: times.step_ratio(theirs, ours), times: [theirs, ours].map(step) }
     }
 }
 
@@ -51,7 +51,8 @@ pub fn of_whole(times: &Times) -> Vec<Figure> {
 
 /// The figures of runs, from rounds that go on with theirs: of both a run, and then one that is so many steps shorter.
 pub fn of_runs(times: &Times, fewer: u16) -> Vec<Figure> {
-    let step = Figure::of_step(times, [ways::RUN, ways::SHORT], [ways::OUR_RUN, ways::OUR_SHORT], fewer);
+    let alone = |run, short| Span { run, less: Some(short), steps: fewer };
+    let step = Figure::of_step(times, alone(ways::RUN, ways::SHORT), alone(ways::OUR_RUN, ways::OUR_SHORT));
     vec![Figure::of(times, ways::RUN, ways::OUR_RUN), step]
 }
 

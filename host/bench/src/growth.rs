@@ -62,7 +62,8 @@ fn pays_from(names: &[&str], pays: &[bool]) -> String {
 
 /// The table of models that grow.
 pub fn print_growing(growing: &[Vec<Measured>], progress: &mut Progress) {
-    println!("\n| run, ns a step | proved | reference | proved, fresh | reference, fresh | proved / reference, fresh | fresh / kept |");
+    let fresh = "proved, fresh | reference, fresh | proved / reference, fresh | fresh / kept";
+    println!("\n| run, ns a step | proved | reference | {fresh} |");
     println!("|---|---|---|---|---|---|---|");
     let mut pays = Vec::new();
     for sizes in growing {

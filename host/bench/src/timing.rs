@@ -101,16 +101,6 @@ impl Times {
         Spread::of(self.rounds[way].iter().zip(&self.rounds[over]).map(|(one, other)| one / other))
     }
 
-    /// What one way takes more than another in the same round.
-    pub fn difference(&self, way: usize, less: usize) -> Spread {
-        Spread::of(self.differences(way, less))
-    }
-
-    /// A difference over another one in the same round; of each the first way less the second.
-    pub fn ratio_of_differences(&self, [way, less]: [usize; 2], [over, over_less]: [usize; 2]) -> Spread {
-        Spread::of(self.differences(way, less).zip(self.differences(over, over_less)).map(|(one, other)| one / other))
-    }
-
     /// Nanoseconds of one step.
     pub fn step(&self, span: Span) -> Spread {
         Spread::of(self.steps(span))
@@ -126,11 +116,6 @@ impl Times {
         let less = move |round: usize| span.less.map_or(0.0, |way| self.rounds[way][round]);
         let of = move |(round, time): (usize, &f64)| (time - less(round)) / f64::from(span.steps);
         self.rounds[span.run].iter().enumerate().map(of)
-    }
-
-    /// What one way takes more than another, round by round.
-    fn differences(&self, way: usize, less: usize) -> impl Iterator<Item = f64> + '_ {
-        self.rounds[way].iter().zip(&self.rounds[less]).map(|(one, other)| one - other)
     }
 }
 
@@ -160,15 +145,6 @@ fn round(way: &mut impl FnMut(), calls: u32) -> f64 {
 #[cfg(test)]
 mod tests {
     use super::*;
-
-    #[test]
-    fn differences_are_those_within_a_round() {
-        let rounds = vec![vec![70.0, 80.0, 90.0], vec![10.0, 20.0, 30.0], vec![9.0, 5.0, 7.0], vec![3.0, 2.0, 5.0]];
-        let times = Times { rounds };
-        assert_eq!((times.difference(0, 1).low, times.difference(0, 1).high), (60.0, 60.0));
-        let ratio = times.ratio_of_differences([0, 1], [2, 3]);
-        assert_eq!((ratio.low, ratio.median, ratio.high), (10.0, 20.0, 30.0));
-    }
 
     #[test]
     fn a_step_is_what_a_run_takes_more_over_the_steps_that_it_has_more() {
