@@ -5,7 +5,7 @@ use std::collections::{BTreeMap, BTreeSet};
 
 use jirvuntsag_generate::{broken_state, case, damage, each_seed, model, state, Damage};
 use jirvuntsag_packing::{pack, pack_with_fields};
-use jirvuntsag_reference::{open, refresh, run, trace, Deed, Event, Kind, Model, Rule, State, Term};
+use jirvuntsag_reference::{open, refresh, run, run_fresh, trace, Deed, Event, Kind, Model, Rule, State, Term};
 
 #[test]
 fn equal_seeds_give_equal_cases() {
@@ -50,6 +50,8 @@ fn every_answer_comes_up() {
         *answers.entry(("refresh", number)).or_default() += 1;
         let (number, _, made) = run(&case.image, case.state, &mut case.table.clone(), case.steps);
         *answers.entry(("run", number)).or_default() += 1;
+        let (number, _, _) = run_fresh(&case.image, case.state, case.steps);
+        *answers.entry(("fresh", number)).or_default() += 1;
         long += u32::from(made > 5);
         let (_, _, events) = trace(&case.image, case.state, &mut case.table.clone(), case.steps.min(20));
         fired += events.iter().filter(|event| matches!(event.kind, Kind::Fire(_))).count();
@@ -64,6 +66,7 @@ fn every_answer_comes_up() {
     }
     for number in 0..=9 {
         assert!(answers.contains_key(&("run", number)), "run {number}");
+        assert_eq!(answers.contains_key(&("fresh", number)), number != 5 && number != 7, "fresh {number}");
     }
     assert!(fired > 1_000 && waited > 500 && long > 200, "{fired} {waited} {long}");
 }
