@@ -1,5 +1,6 @@
 //! How the cost of a step grows with a model, kept and fresh.
 
+use crate::keeping::PAYS;
 use crate::models::Measured;
 use crate::opened::{by_proved, by_reference, fresh_by_proved, fresh_by_reference, Opened};
 use crate::progress::Progress;
@@ -46,7 +47,7 @@ fn grown(sizes: &[Opened]) -> (Vec<String>, String) {
     let spans: Vec<Spans> = sizes.iter().map(|opened| Spans::of(&mut ways, opened)).collect();
     let times = ways.take();
     let row = |(opened, spans): (&Opened, &Spans)| format!("| {} | {} |", opened.model.name, spans.row(&times));
-    let pays: Vec<bool> = spans.iter().map(|one| times.step_ratio(one.fresh, one.kept).median > 1.0).collect();
+    let pays: Vec<bool> = spans.iter().map(|one| times.step_ratio(one.fresh, one.kept).median >= PAYS).collect();
     let names: Vec<&str> = sizes.iter().map(|opened| opened.model.name.as_str()).collect();
     (sizes.iter().zip(&spans).map(row).collect(), pays_from(&names, &pays))
 }
