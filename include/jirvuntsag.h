@@ -13,6 +13,11 @@
  * A type, slot or delay over 65,535 makes the state not well formed (6).
  * A table is nine 16-bit words for each rule: 1 and the values of variables 0 to 7 if the rule matches, nine zeros if not.
  * No variable takes an empty slot: of a rule that matches, those that are 0 are the variables that it does not have.
+ *
+ * Two engines make steps. jirvuntsag_run and jirvuntsag_trace keep the matches of all rules in a table from step to step and from call to
+ * call: for who must be quick, as a tutor that answers between two keystrokes. jirvuntsag_run_fresh and jirvuntsag_trace_fresh take no
+ * table and match every rule afresh at each step: for who wants nothing kept that could outlive its chunk, as a memory laboratory.
+ * Nobody can tell them apart: from the fresh table of a state both give the same number, count, state and events, for every image.
  */
 #ifndef JIRVUNTSAG_H
 #define JIRVUNTSAG_H
@@ -26,9 +31,9 @@ extern "C" {
 
 /* The version of this header, and by a function that of the library that is linked. */
 #define JIRVUNTSAG_VERSION_MAJOR 0
-#define JIRVUNTSAG_VERSION_MINOR 3
+#define JIRVUNTSAG_VERSION_MINOR 4
 #define JIRVUNTSAG_VERSION_PATCH 0
-#define JIRVUNTSAG_VERSION "0.3.0"
+#define JIRVUNTSAG_VERSION "0.4.0"
 const char *jirvuntsag_version(void);
 
 #define JIRVUNTSAG_STATE_WORDS 81
@@ -69,6 +74,18 @@ uint32_t jirvuntsag_trace(const uint8_t *image, size_t image_len, uint32_t state
  * Answers a number (0 to 6, or 10) and, times 65,536, how many rules test a marked buffer (0 if the number is not 0).
  * Leaves: at 0 these rules' entries fresh and the others as they were; otherwise the table as it was. The state is only read. */
 uint32_t jirvuntsag_refresh(const uint8_t *image, size_t image_len, const uint32_t state[81], uint16_t mark, uint16_t *table, size_t table_len);
+
+/* Runs at most `steps` steps, up to 65,535 (jirvuntsag_steps), without a table: at each step every rule is matched afresh, and nothing is
+ * kept between two steps but the state. What jirvuntsag_open leaves may be handed in, or any other state; the table that it filled is not
+ * needed, and a buffer may be changed between two calls without a refresh.
+ * Answers a number and, times 65,536, the steps made: what jirvuntsag_run answers that is handed the fresh table of the state. The number
+ * is 0 to 4, 6, 8 or 9; there is no table that could be of another length (5) or stale (7).
+ * Leaves: the state after the steps made; at 1 to 4 and 6 as it was, and no step is made. */
+uint32_t jirvuntsag_run_fresh(const uint8_t *image, size_t image_len, uint32_t state[81], uint16_t steps);
+
+/* Runs as jirvuntsag_run_fresh does, with the same answer, and notes each step in events as jirvuntsag_trace does.
+ * Leaves: as jirvuntsag_run_fresh; the words of events past those of the steps made as they were. */
+uint32_t jirvuntsag_trace_fresh(const uint8_t *image, size_t image_len, uint32_t state[81], uint16_t steps, uint32_t *events, size_t events_len);
 
 #ifdef __cplusplus
 }
