@@ -1,24 +1,12 @@
-/* The five functions of jirvuntsag.h on model A, answers and all that they leave. Also compiled as C++. Exits with 1 at the first that differs. */
-#include <stdio.h>
-#include <stdlib.h>
+/* The functions of jirvuntsag.h on model A, answers and all that they leave; those without a table are in fresh_calls.c.
+ * Also compiled as C++. Exits with 1 at the first that differs. */
+#include "calls.h"
+
 #include <string.h>
 
-#include "jirvuntsag.h"
-
-enum { LENGTH = 71, WORDS = 27, STATE = JIRVUNTSAG_STATE_WORDS };
-
-/* A check that holds in every build, unlike assert. */
-#define CHECK(holds)                                                            \
-    do {                                                                        \
-        if (!(holds)) {                                                         \
-            fprintf(stderr, "%s:%d: not so: %s\n", __FILE__, __LINE__, #holds); \
-            exit(1);                                                            \
-        }                                                                       \
-    } while (0)
-
-static uint8_t image[LENGTH];
-static uint16_t fresh[WORDS];
-static uint32_t opening[STATE];
+uint8_t image[LENGTH];
+uint16_t fresh[WORDS];
+uint32_t opening[STATE];
 
 static void read_image(const char *path) {
     FILE *file = fopen(path, "rb");
@@ -26,8 +14,14 @@ static void read_image(const char *path) {
     fclose(file);
 }
 
-static uint32_t answered(uint32_t number, uint32_t count) {
+uint32_t answered(uint32_t number, uint32_t count) {
     return number + 65536 * count;
+}
+
+void large_word(uint32_t state[STATE], size_t word) {
+    const uint32_t large[] = {65536, 65537, 131072, 1u << 31, UINT32_MAX};
+    memcpy(state, opening, sizeof opening);
+    state[word] += large[word % 5];
 }
 
 /* Opens model A, and three images that are refused. */
@@ -62,13 +56,11 @@ static void check_run(void) {
 
 /* A word that is too large for its field is 6 in each call, and every word comes back as it was. */
 static void check_large_words(void) {
-    const uint32_t large[] = {65536, 65537, 131072, 1u << 31, UINT32_MAX};
     for (size_t word = 1; word < STATE; word++) {
         uint32_t state[STATE], before[STATE], events[3] = {1, 2, 3};
         uint16_t table[WORDS];
         memcpy(table, fresh, sizeof table);
-        memcpy(state, opening, sizeof state);
-        state[word] += large[word % 5];
+        large_word(state, word);
         memcpy(before, state, sizeof state);
         CHECK(jirvuntsag_run(image, LENGTH, state, table, WORDS, 5) == 6);
         CHECK(jirvuntsag_trace(image, LENGTH, state, table, WORDS, 5, events, 3) == 6);
@@ -85,20 +77,23 @@ static void check_large_words(void) {
     CHECK(jirvuntsag_run(image, LENGTH, state, table, WORDS, 5) == 8 && state[0] == UINT32_MAX);
 }
 
-/* Events are noted as far as there is room, and no word past those of the steps made is written. */
-static void check_trace(void) {
+void check_noted(Trace trace) {
     const uint32_t noted[] = {50, 0, 0, 150, 1, 100, 200, 0, 1, 300, 1, 100};
     for (size_t room = 0; room <= 12; room++) {
         uint32_t state[STATE], events[16];
-        uint16_t table[WORDS];
         memset(events, 255, sizeof events);
-        memcpy(table, fresh, sizeof table);
         memcpy(state, opening, sizeof state);
-        CHECK(jirvuntsag_trace(image, LENGTH, state, table, WORDS, 4, events, room) == answered(0, 4));
+        CHECK(trace(state, 4, events, room) == answered(0, 4));
         CHECK(state[0] == 300);
         for (size_t word = 0; word < 16; word++)
             CHECK(events[word] == (word < room / 3 * 3 ? noted[word] : UINT32_MAX));
     }
+}
+
+static uint32_t trace_kept(uint32_t *state, uint16_t steps, uint32_t *events, size_t room) {
+    uint16_t table[WORDS];
+    memcpy(table, fresh, sizeof table);
+    return jirvuntsag_trace(image, LENGTH, state, table, WORDS, steps, events, room);
 }
 
 /* Only the rules that test a marked buffer are counted and written. */
@@ -116,7 +111,7 @@ static void check_refresh(void) {
     CHECK(memcmp(table, fresh, sizeof table) == 0);
 }
 
-/* What the header has besides the five functions: where words stand in a state, steps from an int, the version. */
+/* What the header has besides the calls: where words stand in a state, steps from an int, the version. */
 static void check_header(void) {
     CHECK(opening[JIRVUNTSAG_TYPE(0)] == 2 && opening[JIRVUNTSAG_SLOT(0, 0)] == 1 && opening[JIRVUNTSAG_SLOT(0, 1)] == 3);
     uint16_t table[WORDS];
@@ -144,8 +139,9 @@ int main(int count, char **arguments) {
     check_open();
     check_run();
     check_large_words();
-    check_trace();
+    check_noted(trace_kept);
     check_refresh();
+    check_fresh_calls();
     check_header();
     return 0;
 }

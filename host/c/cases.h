@@ -1,4 +1,4 @@
-/* Cases that `cargo run --example cases` in host/generate writes: what the five calls are handed. */
+/* Cases that `cargo run --example cases` in host/generate writes: what the calls are handed. */
 #ifndef CASES_H
 #define CASES_H
 

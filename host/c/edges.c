@@ -1,4 +1,4 @@
-/* Makes the five calls on cases, with every buffer lent in exactly its size: edges end|start|heap [short] < CASES.
+/* Makes each call on cases, with every buffer lent in exactly its size: edges end|start|heap [short] < CASES.
  * end: each buffer ends where an unmapped page begins. start: each begins where one ends. Both lend what is only read as read-only.
  * heap: each is malloc'ed in its size, for memcheck and AddressSanitizer.
  * short: images are lent one byte shorter than they are said to be, which must be seen: it shows that an overrun would be.
@@ -74,38 +74,65 @@ static void add(const void *from, size_t size) {
         sum = (sum ^ *byte) * 1099511628211u;
 }
 
-/* Takes an answer and what it left into the sum. */
-static void note(uint32_t answer, const uint32_t *state, const uint16_t *table, const Case *one) {
+/* Takes an answer and the state that it left into the sum. */
+static void note(uint32_t answer, const uint32_t *state) {
     calls++;
     add(&answer, sizeof answer);
-    add(state, sizeof one->state);
+    add(state, STATE_WORDS * sizeof state[0]);
+}
+
+/* The same, and the table. */
+static void note_kept(uint32_t answer, const uint32_t *state, const uint16_t *table, const Case *one) {
+    note(answer, state);
     add(table, sizeof one->table[0] * one->table_length);
 }
 
-/* Each call on its own copies. */
+/* Room for events, in which nothing stands yet. */
+static uint32_t *lend_events(const Case *one) {
+    static const uint32_t unwritten[LONGEST_EVENTS];
+    return lend(&events_place, unwritten, sizeof unwritten[0] * one->events_length);
+}
+
+static uint32_t *lend_state(const Case *one) { return lend(&state_place, one->state, sizeof one->state); }
+static uint16_t *lend_table(const Case *one) { return lend(&table_place, one->table, sizeof one->table[0] * one->table_length); }
+
+/* Each call that takes a table, on its own copies. */
+static void make_kept_calls(const Case *one, const uint8_t *image) {
+    size_t length = one->image_length, words = one->table_length;
+    uint16_t *table = lend_table(one);
+    uint32_t *state = lend_state(one);
+    note_kept(jirvuntsag_open(image, length, table, words, state), state, table, one);
+    table = lend_table(one);
+    state = lend_state(one);
+    note_kept(jirvuntsag_run(image, length, state, table, words, one->steps), state, table, one);
+    table = lend_table(one);
+    state = lend_state(one);
+    uint32_t *events = lend_events(one);
+    note_kept(jirvuntsag_trace(image, length, state, table, words, one->steps, events, one->events_length), state, table, one);
+    add(events, sizeof events[0] * one->events_length);
+    table = lend_table(one);
+    const uint32_t *read = lend_to_read(&state_place, one->state, sizeof one->state);
+    note_kept(jirvuntsag_refresh(image, length, read, one->mark, table, words), read, table, one);
+}
+
+/* Each call that makes steps without a table, on its own copies. */
+static void make_fresh_calls(const Case *one, const uint8_t *image) {
+    uint32_t *state = lend_state(one);
+    note(jirvuntsag_run_fresh(image, one->image_length, state, one->steps), state);
+    state = lend_state(one);
+    uint32_t *events = lend_events(one);
+    note(jirvuntsag_trace_fresh(image, one->image_length, state, one->steps, events, one->events_length), state);
+    add(events, sizeof events[0] * one->events_length);
+}
+
 static void make_calls(const Case *one) {
     size_t lent = one->image_length - (is_short && one->image_length > 0);
     const uint8_t *image = lend_to_read(&image_place, one->image, lent);
-    size_t words = one->table_length, table_size = words * sizeof one->table[0];
     uint32_t answer = jirvuntsag_table_len(image, one->image_length);
     add(&answer, sizeof answer);
     calls++;
-    uint16_t *table = lend(&table_place, one->table, table_size);
-    uint32_t *state = lend(&state_place, one->state, sizeof one->state);
-    note(jirvuntsag_open(image, one->image_length, table, words, state), state, table, one);
-    table = lend(&table_place, one->table, table_size);
-    state = lend(&state_place, one->state, sizeof one->state);
-    note(jirvuntsag_run(image, one->image_length, state, table, words, one->steps), state, table, one);
-    static const uint32_t unwritten[LONGEST_EVENTS];
-    size_t events_size = sizeof unwritten[0] * one->events_length;
-    table = lend(&table_place, one->table, table_size);
-    state = lend(&state_place, one->state, sizeof one->state);
-    uint32_t *events = lend(&events_place, unwritten, events_size);
-    note(jirvuntsag_trace(image, one->image_length, state, table, words, one->steps, events, one->events_length), state, table, one);
-    add(events, events_size);
-    table = lend(&table_place, one->table, table_size);
-    const uint32_t *read = lend_to_read(&state_place, one->state, sizeof one->state);
-    note(jirvuntsag_refresh(image, one->image_length, read, one->mark, table, words), read, table, one);
+    make_kept_calls(one, image);
+    make_fresh_calls(one, image);
 }
 
 int main(int count, char **arguments) {

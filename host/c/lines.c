@@ -1,6 +1,9 @@
-/* Runs the model image at a path by jirvuntsag_trace and prints a line for each step: lines PATH. */
+/* Runs the model image at a path by jirvuntsag_trace and prints a line for each step: lines PATH [fresh].
+ * With the word fresh it runs by jirvuntsag_trace_fresh, which takes no table; the lines are the same. */
+#include <stdbool.h>
 #include <stdio.h>
 #include <stdlib.h>
+#include <string.h>
 
 #include "jirvuntsag.h"
 
@@ -23,15 +26,18 @@ static size_t read_image(const char *path) {
 }
 
 int main(int count, char **arguments) {
-    if (count != 2) {
-        fprintf(stderr, "usage: lines PATH\n");
+    bool is_fresh = count == 3 && strcmp(arguments[2], "fresh") == 0;
+    if (count != 2 + is_fresh) {
+        fprintf(stderr, "usage: lines PATH [fresh]\n");
         return 2;
     }
     size_t length = read_image(arguments[1]);
     size_t words = jirvuntsag_table_len(image, length);
     uint32_t state[JIRVUNTSAG_STATE_WORDS];
     uint32_t answer = jirvuntsag_open(image, length, table, words, state);
-    if (JIRVUNTSAG_NUMBER(answer) == 0)
+    if (JIRVUNTSAG_NUMBER(answer) == 0 && is_fresh)
+        answer = jirvuntsag_trace_fresh(image, length, state, STEPS, events, 3 * STEPS);
+    else if (JIRVUNTSAG_NUMBER(answer) == 0)
         answer = jirvuntsag_trace(image, length, state, table, words, STEPS, events, 3 * STEPS);
     for (uint32_t step = 0; step < JIRVUNTSAG_COUNT(answer); step++) {
         const uint32_t *event = events + 3 * step;

@@ -12,9 +12,12 @@
 #include "cases.h"
 #include "jirvuntsag.h"
 
-enum { PAGE = 4096, CALLS = 6, PAINT = 0xa5 };
-typedef enum { NOTHING, TABLE_LEN, OPEN, RUN, TRACE, REFRESH } Call;
-static const char *const NAMES[CALLS] = {"nothing", "jirvuntsag_table_len", "jirvuntsag_open", "jirvuntsag_run", "jirvuntsag_trace", "jirvuntsag_refresh"};
+enum { PAGE = 4096, CALLS = 8, PAINT = 0xa5 };
+typedef enum { NOTHING, TABLE_LEN, OPEN, RUN, TRACE, REFRESH, RUN_FRESH, TRACE_FRESH } Call;
+static const char *const NAMES[CALLS] = {
+    "nothing",          "jirvuntsag_table_len", "jirvuntsag_open",      "jirvuntsag_run",
+    "jirvuntsag_trace", "jirvuntsag_refresh",   "jirvuntsag_run_fresh", "jirvuntsag_trace_fresh",
+};
 
 static Case one;
 /* Copies of what the case holds, so that each call is handed the same. */
@@ -33,6 +36,8 @@ static void make_call(void) {
     case RUN: jirvuntsag_run(one.image, length, state, table, words, one.steps); break;
     case TRACE: jirvuntsag_trace(one.image, length, state, table, words, one.steps, events, one.events_length); break;
     case REFRESH: jirvuntsag_refresh(one.image, length, state, one.mark, table, words); break;
+    case RUN_FRESH: jirvuntsag_run_fresh(one.image, length, state, one.steps); break;
+    case TRACE_FRESH: jirvuntsag_trace_fresh(one.image, length, state, one.steps, events, one.events_length); break;
     }
 }
 

@@ -1,0 +1,42 @@
+/* What the checks of the calls share: model A, what opening it leaves, and a check that holds in every build. */
+#ifndef CALLS_H
+#define CALLS_H
+
+#include <stdio.h>
+#include <stdlib.h>
+
+#include "jirvuntsag.h"
+
+/* Bytes of model A's image, words of its table, words of a state. */
+enum { LENGTH = 71, WORDS = 27, STATE = JIRVUNTSAG_STATE_WORDS };
+
+/* A check that holds in every build, unlike assert. */
+#define CHECK(holds)                                                            \
+    do {                                                                        \
+        if (!(holds)) {                                                         \
+            fprintf(stderr, "%s:%d: not so: %s\n", __FILE__, __LINE__, #holds); \
+            exit(1);                                                            \
+        }                                                                       \
+    } while (0)
+
+/* The image of model A, and the table and the state that it opens with. */
+extern uint8_t image[LENGTH];
+extern uint16_t fresh[WORDS];
+extern uint32_t opening[STATE];
+
+/* An answer of this number and count. */
+uint32_t answered(uint32_t number, uint32_t count);
+
+/* The opening with a word that is too large for its field: each word after the clock has one of several numbers over 65,535 added. */
+void large_word(uint32_t state[STATE], size_t word);
+
+/* A trace of model A from its opening, by one of the two engines. */
+typedef uint32_t (*Trace)(uint32_t *state, uint16_t steps, uint32_t *events, size_t room);
+
+/* Events are noted as far as there is room, and no word past those of the steps made is written. */
+void check_noted(Trace trace);
+
+/* The two calls without a table, in fresh_calls.c. */
+void check_fresh_calls(void);
+
+#endif
