@@ -17,6 +17,7 @@ Says in one line what the text or the image in the file MODEL ('-' for standard 
 symbols stand in one place only, and may be mistyped. A text that is refused is explained by each fault with its line
 and column, an image by the number, the bit (from 0 on) and the field.",
     options: &[],
+    flags: &[],
     run,
 };
 

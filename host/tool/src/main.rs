@@ -3,6 +3,7 @@
 mod arguments;
 mod c_header;
 mod check;
+mod compare;
 mod explain;
 mod failure;
 mod files;
@@ -30,11 +31,14 @@ struct Command {
     usage: &'static str,
     /// Options that are followed by a value.
     options: &'static [&'static str],
+    /// Options that stand alone.
+    flags: &'static [&'static str],
     run: fn(Arguments) -> Result<(), Failure>,
 }
 
 /// All subcommands.
-const COMMANDS: [&Command; 5] = [&explain::COMMAND, &trace::COMMAND, &check::COMMAND, &pack::COMMAND, &unpack::COMMAND];
+const COMMANDS: [&Command; 6] =
+    [&explain::COMMAND, &trace::COMMAND, &compare::COMMAND, &check::COMMAND, &pack::COMMAND, &unpack::COMMAND];
 
 fn main() -> ExitCode {
     match words().and_then(dispatch) {
@@ -72,7 +76,7 @@ fn run(command: &Command, words: Vec<String>) -> Result<(), Failure> {
         return files::write_out(format!("{}\n", command.usage).as_bytes());
     }
     let refused = |why| Failure::usage(format!("{}: {why}\n{}", command.name, command.usage));
-    (command.run)(Arguments::new(words, command.options).map_err(refused)?)
+    (command.run)(Arguments::new(words, command.options, command.flags).map_err(refused)?)
 }
 
 /// The list of subcommands.
@@ -83,7 +87,7 @@ fn help() -> String {
 
 /// What the list of subcommands ends with.
 const MORE: &str = "A MODEL is a text or an image. Exit status: 0 done, 1 the input is
-refused, 2 not used rightly, or a file cannot be read or written.";
+refused, or what is compared differs, 2 not used rightly, or a file cannot be read or written.";
 
 /// The version of all that is built here.
 const VERSION: &str = env!("CARGO_PKG_VERSION");

@@ -17,6 +17,7 @@ output. With --names the names of buffers, types, slots, symbols, rules and vari
 With --header constants for buffers, types, slots, symbols and rules are written to FILE, for C and C++; their names
 begin with that of FILE. A text that is no model is refused with each fault's line and column; nothing is written then.",
     options: &["-o", "--names", "--header"],
+    flags: &[],
     run,
 };
 

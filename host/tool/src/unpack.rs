@@ -14,6 +14,7 @@ Writes the model in the file IMAGE ('-' for standard input) as text to the file 
 again, the text gives the same bytes. Names are those of FILE, as 'pack --names' writes it; without it they are
 invented: b0, t1, s0, x1, r0, v0. An image that is refused is explained: the number, the bit and the field.",
     options: &["-o", "--names"],
+    flags: &[],
     run,
 };
 

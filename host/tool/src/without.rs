@@ -13,6 +13,11 @@ pub fn explain(_: Arguments) -> Result<(), Failure> {
     Err(without())
 }
 
+/// `compare`, which needs the library.
+pub fn compare(_: Arguments) -> Result<(), Failure> {
+    Err(without())
+}
+
 fn without() -> Failure {
     Failure::usage("this build is without the proved library: 'tools/tool' builds it in where a model is run")
 }

@@ -129,7 +129,7 @@ fn help_and_wrong_use() {
     let first = |output: &[u8]| text(output).lines().next().unwrap_or_default().to_owned();
     let help = call(&folder, &["--help"], &[]);
     assert!(help.status.success() && first(&help.stdout) == "usage: jirvuntsag-tool SUBCOMMAND ..");
-    for name in ["pack", "unpack", "check", "trace", "explain"] {
+    for name in ["pack", "unpack", "check", "trace", "explain", "compare"] {
         let help = call(&folder, &[name, "--help"], &[]);
         assert!(help.status.success() && first(&help.stdout).starts_with(&format!("usage: jirvuntsag-tool {name} ")));
     }
@@ -141,6 +141,9 @@ fn help_and_wrong_use() {
         (&["pack", "a", "-o"], "jirvuntsag-tool: pack: option '-o' needs a value"),
         (&["pack", "a", "-o", "b", "-o", "c"], "jirvuntsag-tool: pack: option '-o' is given twice"),
         (&["check", "a", "-o", "b"], "jirvuntsag-tool: check: unknown option '-o'"),
+        (&["check", "a", "--fresh"], "jirvuntsag-tool: check: unknown option '--fresh'"),
+        (&["trace", "a", "--fresh", "--fresh"], "jirvuntsag-tool: trace: option '--fresh' is given twice"),
+        (&["trace", "a", "--fresh", "b"], "jirvuntsag-tool: trace: one file is read, and 2 are given"),
     ] {
         let (status, said) = failed(&folder, arguments, &[]);
         assert_eq!((status, first(said.as_bytes()).as_str()), (Some(2), wanted));
@@ -172,7 +175,7 @@ fn texts_and_images_are_told_from_each_other() {
 /// The input that is offered to the command without an end, so that only one who stops reading can answer.
 #[test]
 fn what_is_too_large_is_not_read_to_its_end() {
-    for subcommand in ["pack", "unpack", "check", "trace", "explain"] {
+    for subcommand in ["pack", "unpack", "check", "trace", "explain", "compare"] {
         let file = std::fs::File::open("/dev/zero").expect("zeros");
         let mut command = Command::new(env!("CARGO_BIN_EXE_jirvuntsag-tool"));
         let output = command.args([subcommand, "-"]).stdin(file).output().expect("the command");

@@ -1,33 +1,11 @@
 //! One command for a text: its trace, how the run ended, what the buffers hold, and why rules do not match.
 
-use std::path::{Path, PathBuf};
-use std::process::{Command, Output};
+mod calling;
 
+use std::path::Path;
+
+use calling::{examples, file, printed, refused, EXAMPLES};
 use jirvuntsag_text::Model;
-
-fn examples() -> PathBuf {
-    Path::new(env!("CARGO_MANIFEST_DIR")).join("../../examples")
-}
-
-/// Calls a subcommand in the folder of the examples.
-fn call(arguments: &[&str]) -> Output {
-    let mut command = Command::new(env!("CARGO_BIN_EXE_jirvuntsag-tool"));
-    command.args(arguments).current_dir(examples()).output().expect("the command")
-}
-
-/// What it prints.
-fn printed(arguments: &[&str]) -> String {
-    let output = call(arguments);
-    assert!(output.status.success(), "{}", String::from_utf8_lossy(&output.stderr));
-    String::from_utf8(output.stdout).expect("text")
-}
-
-/// A text in a file of its own.
-fn file(name: &str, text: &str) -> String {
-    let path = Path::new(env!("CARGO_TARGET_TMPDIR")).join(name);
-    std::fs::write(&path, text).expect("the text");
-    path.to_string_lossy().into_owned()
-}
 
 /// What `explain` prints after the trace.
 fn explained(arguments: &[&str]) -> String {
@@ -125,7 +103,7 @@ rule half
 /// A rule is said not to match exactly where a test of it does not hold: on every example, after each number of steps.
 #[test]
 fn every_rule_is_explained() {
-    for name in ["addition", "count-chr", "count-rule", "counting", "parents", "rule-order", "successor"] {
+    for name in EXAMPLES {
         let path = format!("{name}.model");
         let text = std::fs::read_to_string(examples().join(&path)).expect("the text");
         let rules = Model::from_text(&text).expect("a model").spec().rules.len();
@@ -144,12 +122,22 @@ fn every_rule_is_explained() {
     }
 }
 
+/// The engine that keeps no table explains a run as the other does, and knows which rules match without one.
+#[test]
+fn the_engine_without_a_table_explains_the_same() {
+    for name in EXAMPLES {
+        let path = format!("{name}.model");
+        for steps in ["0", "1", "3", "1000"] {
+            let arguments = ["explain", &path, "--steps", steps];
+            assert_eq!(printed(&[&arguments[..], &["--fresh"]].concat()), printed(&arguments));
+        }
+    }
+}
+
 #[test]
 fn all_faults_come_first() {
     let path = file("faults.model", "type\nchunk-type t\nbuffer\n");
-    let output = call(&["explain", &path]);
-    let said = String::from_utf8(output.stderr).expect("text");
-    assert!(output.status.code() == Some(1) && output.stdout.is_empty());
+    let said = refused(&["explain", &path], 1);
     assert_eq!(said.lines().count(), 3, "{said}");
     assert!(said.contains(":2:1: 'chunk-type' is ACT-R's: write 'type NAME SLOT ..'\n"), "{said}");
 }

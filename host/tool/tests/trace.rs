@@ -1,20 +1,14 @@
 //! The trace: line by line that of ACT-R where one is published, and its other kinds of lines.
 
+mod calling;
+
 use std::path::Path;
-use std::process::{Command, Output};
 
-/// Calls `jirvuntsag-tool trace` in the folder of the examples.
-fn call(arguments: &[&str]) -> Output {
-    let examples = Path::new(env!("CARGO_MANIFEST_DIR")).join("../../examples");
-    let mut command = Command::new(env!("CARGO_BIN_EXE_jirvuntsag-tool"));
-    command.arg("trace").args(arguments).current_dir(examples).output().expect("the command")
-}
+use calling::{file, printed, refused, EXAMPLES};
 
-/// What it prints.
+/// What `jirvuntsag-tool trace` prints in the folder of the examples.
 fn trace(arguments: &[&str]) -> String {
-    let output = call(arguments);
-    assert!(output.status.success(), "{}", String::from_utf8_lossy(&output.stderr));
-    String::from_utf8(output.stdout).expect("text")
+    printed(&[&["trace"], arguments].concat())
 }
 
 /// The published chunks, whose names an image does not hold.
@@ -83,11 +77,18 @@ fn an_image_with_names_is_traced_as_its_text() {
     for name in ["counting", "parents", "addition"] {
         let (model, image) = (format!("{name}.model"), format!("{name}.image"));
         let names = folder.join(format!("{name}.json")).to_string_lossy().into_owned();
-        let examples = Path::new(env!("CARGO_MANIFEST_DIR")).join("../../examples");
-        let mut pack = Command::new(env!("CARGO_BIN_EXE_jirvuntsag-tool"));
-        pack.current_dir(examples).args(["pack", &model, "-o", "/dev/null", "--names", &names]);
-        assert!(pack.status().expect("the command").success());
+        printed(&["pack", &model, "-o", "/dev/null", "--names", &names]);
         assert_eq!(trace(&[&image, "--names", &names]), trace(&[&model]));
+    }
+}
+
+/// The engine that keeps no table traces every example as the other does.
+#[test]
+fn the_engine_without_a_table_traces_the_same() {
+    for name in EXAMPLES {
+        let path = format!("{name}.image");
+        assert_eq!(trace(&[&path, "--fresh"]), trace(&[&path]));
+        assert_eq!(trace(&["--fresh", &path, "--steps", "2"]), trace(&[&path, "--steps", "2"]));
     }
 }
 
@@ -102,10 +103,8 @@ fn what_cannot_be_traced_is_refused() {
         (&["counting.image", "--steps", "65536"], 2, "jirvuntsag-tool: '65536' is no number of steps, 0 to 65535\n"),
         (&["README.md"], 1, "README.md:3:1: 'Each' begins no line; "),
     ] {
-        let output = call(arguments);
-        let said = String::from_utf8(output.stderr).expect("text");
-        assert!(output.status.code() == Some(status) && said.starts_with(beginning), "{said}");
-        assert!(output.stdout.is_empty());
+        let said = refused(&[&["trace"], arguments].concat(), status);
+        assert!(said.starts_with(beginning), "{said}");
     }
 }
 
@@ -118,19 +117,15 @@ fn the_example_of_the_page() {
         let (_, rest) = page.split_once(&format!("\n```{mark}\n")).expect("the block");
         rest.split_once("```").expect("its end").0.to_owned()
     };
-    let path = Path::new(env!("CARGO_TARGET_TMPDIR")).join("count.model");
-    std::fs::write(&path, block("model")).expect("the text");
-    assert_eq!(trace(&[&path.to_string_lossy()]), block("trace"));
+    assert_eq!(trace(&[&file("count.model", &block("model"))]), block("trace"));
 }
 
 /// Names that capitals would make one are printed as they are written.
 #[test]
 fn names_that_differ_in_capitals_alone_stay_apart() {
-    let path = Path::new(env!("CARGO_TARGET_TMPDIR")).join("capitals.model");
-    std::fs::write(&path, "type t a b\nbuffer goal t a Alice b alice\n").expect("the text");
-    let traced = trace(&[&path.to_string_lossy()]);
+    let traced = trace(&[&file("capitals.model", "type t a b\nbuffer goal t a Alice b alice\n")]);
     let line = traced.lines().next().expect("a line");
     assert_eq!(line, "     0.000   goal                   SET-BUFFER-CHUNK goal t(Alice,alice)");
-    std::fs::write(&path, "type t a b\nbuffer goal t a Alice b bob\n").expect("the text");
-    assert!(trace(&[&path.to_string_lossy()]).contains("SET-BUFFER-CHUNK GOAL T(ALICE,BOB)"));
+    let traced = trace(&[&file("capitals.model", "type t a b\nbuffer goal t a Alice b bob\n")]);
+    assert!(traced.contains("SET-BUFFER-CHUNK GOAL T(ALICE,BOB)"));
 }

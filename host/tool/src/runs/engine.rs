@@ -1,40 +1,97 @@
-//! The proved library, one step at a time.
+//! The proved library, by either of its engines.
 
-use jirvuntsag_proved::{calls, End, Number};
+use jirvuntsag_proved::{calls, End, Event, Number};
 pub use jirvuntsag_proved::{Buffer, State, Step};
+use jirvuntsag_text::Model;
 
+use super::told::{Steps, Told};
+use crate::arguments::Arguments;
 use crate::failure::Failure;
 
 /// Words of a rule's entry in the table; the first is 1 if the rule matches.
 const ENTRY: usize = 9;
 
+/// Which of the two engines makes the steps.
+#[derive(Clone, Copy)]
+pub enum Engine {
+    /// The one that keeps the matches of all rules in a table.
+    Kept,
+    /// The one that keeps nothing, and matches every rule afresh at each step.
+    Fresh,
+}
+
+impl Engine {
+    /// The engine that is asked for: by `--fresh` the one that keeps nothing.
+    pub fn asked(arguments: &Arguments) -> Engine {
+        if arguments.flag("--fresh") {
+            Engine::Fresh
+        } else {
+            Engine::Kept
+        }
+    }
+}
+
 /// A run under way.
+#[derive(Clone)]
 pub struct Run {
     image: Vec<u8>,
-    table: Vec<u16>,
+    buffers: usize,
+    /// The kept table, if the engine keeps one.
+    table: Option<Vec<u16>>,
     /// The state after the steps made.
     pub state: State,
 }
 
 impl Run {
-    /// Opens an image.
-    pub fn open(image: Vec<u8>) -> Result<Run, Failure> {
+    /// Opens a model for an engine.
+    pub fn open(model: &Model, engine: Engine) -> Result<Run, Failure> {
+        let (image, buffers) = (model.image(), model.spec().opening.len());
         let mut table = vec![0; calls::table_length(&image)];
         match calls::open(&image, &mut table) {
-            (Number::Ended(End::Done), state) => Ok(Run { image, table, state }),
+            (Number::Ended(End::Done), state) => {
+                let table = matches!(engine, Engine::Kept).then_some(table);
+                Ok(Run { image, buffers, table, state })
+            }
             (number, _) => Err(Failure::refused(format!("the library refuses the image: {number}"))),
         }
     }
 
     /// Makes a step and says what it was, or gives the number with which none is made.
     pub fn step(&mut self) -> Result<Step, Number> {
-        let (number, state, events) = calls::trace(&self.image, &self.state, &mut self.table, 1);
-        self.state = state;
-        events.first().map(|event| event.step).ok_or(number)
+        let Told { number, events, .. } = self.trace(1);
+        events.first().map(|event: &Event| event.step).ok_or(number)
     }
 
-    /// Whether a rule matches now, by the kept table.
-    pub fn matches(&self, rule: usize) -> bool {
-        self.table[ENTRY * rule] == 1
+    /// Whether each rule matches now: by the kept table, or, where none is kept, by one that is made for this answer alone.
+    pub fn matching(&self) -> Vec<bool> {
+        let table = self.table.clone().unwrap_or_else(|| self.fresh_table());
+        table.chunks_exact(ENTRY).map(|entry| entry[0] == 1).collect()
+    }
+
+    /// The fresh table of the state: every rule tests a buffer, and all are marked.
+    fn fresh_table(&self) -> Vec<u16> {
+        let mut table = vec![0; calls::table_length(&self.image)];
+        calls::refresh(&self.image, &self.state, (1 << self.buffers) - 1, &mut table);
+        table
+    }
+}
+
+impl Steps for Run {
+    fn run(&mut self, steps: u16) -> Told {
+        let (number, state, count) = match &mut self.table {
+            Some(table) => calls::run(&self.image, &self.state, table, steps),
+            None => calls::run_fresh(&self.image, &self.state, steps),
+        };
+        self.state = state;
+        Told { number, state, count, events: Vec::new() }
+    }
+
+    fn trace(&mut self, steps: u16) -> Told {
+        let (number, state, events) = match &mut self.table {
+            Some(table) => calls::trace(&self.image, &self.state, table, steps),
+            None => calls::trace_fresh(&self.image, &self.state, steps),
+        };
+        self.state = state;
+        Told { number, state, count: events.len() as u16, events }
     }
 }

@@ -5,7 +5,7 @@ use std::fmt::Write;
 use jirvuntsag_proved::{End, Number};
 use jirvuntsag_text::{Model, Names, CHUNK};
 
-use super::engine::{Buffer, State};
+use super::engine::{Buffer, Engine, State};
 use super::misses::first_miss;
 use super::steps_asked;
 use super::trace::Traced;
@@ -18,7 +18,7 @@ use crate::hints::hints;
 pub fn explain(arguments: Arguments) -> Result<(), Failure> {
     let steps = steps_asked(&arguments)?;
     let held = model_of_file(&arguments.input, arguments.option("--names"))?;
-    let traced = Traced::new(&held.model, steps)?;
+    let traced = Traced::new(&held.model, Engine::asked(&arguments), steps)?;
     let text = format!(
         "{}\n{}\n{}\n{}{}",
         traced.text,
@@ -71,11 +71,12 @@ fn chunk(names: &Names, buffer: &Buffer) -> String {
 fn rules(model: &Model, traced: &Traced) -> String {
     let names = model.names();
     let width = widest(names.rules.iter().map(|rule| &rule.name));
+    let matching = traced.run.matching();
     let line = |number: usize| {
         let name = &names.rules[number].name;
         // Whether it matches is the word of the library's table, and only why not is found out here.
         let now = match first_miss(model, number, &traced.run.state) {
-            _ if traced.run.matches(number) => "matches".into(),
+            _ if matching[number] => "matches".into(),
             Some(miss) => format!("does not match: {miss}"),
             None => "does not match, by the library's table".into(),
         };

@@ -1,11 +1,17 @@
 //! Runs on the proved library.
 
+mod compare;
+mod difference;
 mod engine;
 mod explain;
 mod lines;
 mod misses;
+mod pair;
+mod progress;
+mod told;
 mod trace;
 
+pub use compare::compare;
 pub use explain::explain;
 pub use trace::trace;
 

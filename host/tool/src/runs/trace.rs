@@ -3,7 +3,7 @@
 use jirvuntsag_proved::{End, Number};
 use jirvuntsag_text::Model;
 
-use super::engine::{Run, Step};
+use super::engine::{Engine, Run, Step};
 use super::lines::Lines;
 use super::steps_asked;
 use crate::arguments::Arguments;
@@ -14,7 +14,7 @@ use crate::files::{model_of_file, write_out};
 pub fn trace(arguments: Arguments) -> Result<(), Failure> {
     let steps = steps_asked(&arguments)?;
     let held = model_of_file(&arguments.input, arguments.option("--names"))?;
-    write_out(Traced::new(&held.model, steps)?.text.as_bytes())
+    write_out(Traced::new(&held.model, Engine::asked(&arguments), steps)?.text.as_bytes())
 }
 
 /// A run that was made.
@@ -32,9 +32,9 @@ pub struct Traced {
 }
 
 impl Traced {
-    /// Runs a model for at most so many steps.
-    pub fn new(model: &Model, steps: u16) -> Result<Traced, Failure> {
-        let mut run = Run::open(model.image())?;
+    /// Runs a model on an engine, for at most so many steps.
+    pub fn new(model: &Model, engine: Engine, steps: u16) -> Result<Traced, Failure> {
+        let mut run = Run::open(model, engine)?;
         let mut lines = Lines::opening(model, &run.state);
         let mut fired = vec![0; model.spec().rules.len()];
         let mut made = 0;
