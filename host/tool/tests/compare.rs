@@ -2,7 +2,7 @@
 
 mod calling;
 
-use calling::{call, examples, file, printed, refused, EXAMPLES};
+use calling::{block, call, examples, file, printed, refused, EXAMPLES};
 
 /// What is said of engines that do the same, before how the run ended.
 const SAME: &str = "both engines do the same: number, state, count and every event, step by step and in one call.\n";
@@ -65,4 +65,11 @@ fn what_cannot_be_compared_is_refused() {
         let said = refused(&[&["compare"], arguments].concat(), status);
         assert!(said.starts_with(beginning), "{said}");
     }
+}
+
+/// The example of docs/MODELS.md is compared as the page prints it.
+#[test]
+fn the_example_of_the_page() {
+    let told = compare(&[&file("count.model", &block("model"))]);
+    assert!(told.ends_with(&format!("/{}", block("compare"))), "{told}");
 }

@@ -2,9 +2,7 @@
 
 mod calling;
 
-use std::path::Path;
-
-use calling::{examples, file, printed, refused, EXAMPLES};
+use calling::{block, examples, file, page, printed, refused, EXAMPLES};
 use jirvuntsag_text::Model;
 
 /// What `explain` prints after the trace.
@@ -145,16 +143,11 @@ fn all_faults_come_first() {
 /// The example of docs/MODELS.md is explained as the page prints it.
 #[test]
 fn the_example_of_the_page() {
-    let page = Path::new(env!("CARGO_MANIFEST_DIR")).join("../../docs/MODELS.md");
-    let page = std::fs::read_to_string(page).expect("the page");
-    let block = |mark: &str| {
-        let (_, rest) = page.split_once(&format!("\n```{mark}\n")).expect("the block");
-        rest.split_once("```").expect("its end").0.to_owned()
-    };
     assert_eq!(explained(&[&file("page.model", &block("model"))]), block("explain"));
     let text = block("model").replace("buffer goal count-from start 2", "buffer goal count-from start strat");
     let text = text.replace("fact count-order first 2 second 3", "fact count-order first start second start");
     let told = explained(&[&file("count.model", &text)]);
+    let page = page();
     let hint = page.split('`').find(|code| code.ends_with("'strat'; is it 'start'?")).expect("a hint");
     assert!(told.contains(&format!("/{hint}\n")), "{told}");
 }

@@ -4,7 +4,7 @@ mod calling;
 
 use std::path::Path;
 
-use calling::{file, printed, refused, EXAMPLES};
+use calling::{block, file, printed, refused, EXAMPLES};
 
 /// What `jirvuntsag-tool trace` prints in the folder of the examples.
 fn trace(arguments: &[&str]) -> String {
@@ -111,12 +111,6 @@ fn what_cannot_be_traced_is_refused() {
 /// The example of docs/MODELS.md is traced as the page prints it.
 #[test]
 fn the_example_of_the_page() {
-    let page = Path::new(env!("CARGO_MANIFEST_DIR")).join("../../docs/MODELS.md");
-    let page = std::fs::read_to_string(page).expect("the page");
-    let block = |mark: &str| {
-        let (_, rest) = page.split_once(&format!("\n```{mark}\n")).expect("the block");
-        rest.split_once("```").expect("its end").0.to_owned()
-    };
     assert_eq!(trace(&[&file("count.model", &block("model"))]), block("trace"));
 }
 

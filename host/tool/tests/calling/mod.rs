@@ -37,3 +37,15 @@ pub fn file(name: &str, text: &str) -> String {
     std::fs::write(&path, text).expect("the text");
     path.to_string_lossy().into_owned()
 }
+
+/// The page that says how a model is written and run.
+pub fn page() -> String {
+    std::fs::read_to_string(examples().join("../docs/MODELS.md")).expect("the page")
+}
+
+/// The block of that page that is marked with a word.
+pub fn block(mark: &str) -> String {
+    let page = page();
+    let (_, rest) = page.split_once(&format!("\n```{mark}\n")).expect("the block");
+    rest.split_once("```").expect("its end").0.to_owned()
+}
