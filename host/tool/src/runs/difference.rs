@@ -18,31 +18,34 @@ impl Difference {
     /// The first difference in what the engine that keeps matches and the one that keeps none told, if they differ at all;
     /// so many steps were made before.
     pub fn first(names: &Names, before: u16, kept: &Told, fresh: &Told) -> Option<Difference> {
-        let events = kept.events.iter().zip(&fresh.events).zip(1u32..);
-        events
-            .map(|((kept, fresh), at)| {
-                let (kept, fresh) = (shown_event(names, kept), shown_event(names, fresh));
-                Difference::of(format!("event {}", u32::from(before) + at), kept, fresh)
-            })
-            .chain([
-                Difference::of("the number", shown_number(kept.number), shown_number(fresh.number)),
-                Difference::of("the steps made", kept.count, fresh.count),
-                Difference::of("the events told", kept.events.len(), fresh.events.len()),
-                Difference::of("the clock", kept.state.clock, fresh.state.clock),
-            ])
-            .chain((0..kept.state.buffers.len()).map(|at| {
-                let name = names.buffers.get(at).cloned().unwrap_or_else(|| at.to_string());
-                let shown = |told: &Told| shown_buffer(&told.state.buffers[at]);
-                Difference::of(format!("buffer {name}"), shown(kept), shown(fresh))
-            }))
-            .flatten()
-            .next()
+        let event = |at: usize| {
+            let shown = |event: &Event| shown_event(names, event);
+            let step = usize::from(before) + at + 1;
+            Difference::of(format_args!("event {step}"), &kept.events[at], &fresh.events[at], shown)
+        };
+        let buffer = |at: usize| {
+            let name = names.buffers.get(at).cloned().unwrap_or_else(|| at.to_string());
+            let (kept, fresh) = (&kept.state.buffers[at], &fresh.state.buffers[at]);
+            Difference::of(format_args!("buffer {name}"), kept, fresh, shown_buffer)
+        };
+        let (told, told_too) = (kept.events.len(), fresh.events.len());
+        (0..told.min(told_too))
+            .find_map(event)
+            .or_else(|| Difference::of("the number", &kept.number, &fresh.number, shown_number))
+            .or_else(|| Difference::of("the steps made", &kept.count, &fresh.count, u16::to_string))
+            .or_else(|| Difference::of("the events told", &told, &told_too, usize::to_string))
+            .or_else(|| Difference::of("the clock", &kept.state.clock, &fresh.state.clock, u32::to_string))
+            .or_else(|| (0..kept.state.buffers.len()).find_map(buffer))
     }
 
-    /// A difference in one thing, if what is shown of it differs.
-    fn of(what: impl Into<String>, kept: impl fmt::Display, fresh: impl fmt::Display) -> Option<Difference> {
-        let (what, kept, fresh) = (what.into(), kept.to_string(), fresh.to_string());
-        (kept != fresh).then_some(Difference { what, kept, fresh })
+    /// A difference in one thing, if there is one.
+    fn of<T: PartialEq>(
+        what: impl fmt::Display,
+        kept: &T,
+        fresh: &T,
+        shown: impl Fn(&T) -> String,
+    ) -> Option<Difference> {
+        (kept != fresh).then(|| Difference { what: what.to_string(), kept: shown(kept), fresh: shown(fresh) })
     }
 }
 
@@ -54,16 +57,16 @@ impl fmt::Display for Difference {
 }
 
 /// A number and what it means.
-fn shown_number(number: Number) -> String {
+fn shown_number(number: &Number) -> String {
     format!("{} ({number})", number.number())
 }
 
-/// An event as a line of the printing program, with the rule's name.
+/// An event as a line of the printing program, with the name of a rule that is there.
 fn shown_event(names: &Names, event: &Event) -> String {
     match event.step {
         Step::Fire { rule } => {
-            let name = names.rules.get(usize::from(rule)).map_or_else(|| rule.to_string(), |rule| rule.name.clone());
-            format!("{} fire {name}", event.clock)
+            let named = names.rules.get(usize::from(rule)).map(|rule| rule.name.clone());
+            format!("{} fire {}", event.clock, named.unwrap_or_else(|| format!("rule {rule}")))
         }
         Step::Wait { ms } => format!("{} wait {ms}", event.clock),
     }

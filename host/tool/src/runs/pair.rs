@@ -127,7 +127,7 @@ mod tests {
     #[test]
     fn a_rule_that_is_not_there_is_told_by_its_number() {
         let found = place(|_, told| told.events[0].step = Step::Fire { rule: 9 });
-        assert_eq!(found.expect("a place"), "at step 1, in event 1:\n  kept   50 fire go\n  fresh  50 fire 9");
+        assert_eq!(found.expect("a place"), "at step 1, in event 1:\n  kept   50 fire go\n  fresh  50 fire rule 9");
     }
 
     #[test]
