@@ -1,4 +1,4 @@
-"""The five calls of the library, on words.
+"""The seven calls of the library, on words.
 
 What is handed in is checked and copied, and what is given back is new: no call alters its arguments, and the library never
 sees memory that Python could change or free meanwhile. An image is bytes, a state 81 words of 32 bits, a table nine words of
@@ -10,6 +10,8 @@ sees memory that Python could change or free meanwhile. An image is bytes, a sta
 >>> opened.number, list(opened.table[:3])
 (0, [1, 1, 0])
 >>> run_steps(image, opened.state, opened.table, 100)[:2]
+(9, 7)
+>>> run_fresh(image, opened.state, 100)[:2]
 (9, 7)
 """
 import ctypes
@@ -39,6 +41,8 @@ _ARGUMENTS = {
     "jirvuntsag_run": _IMAGE + _STATE + _TABLE + [ctypes.c_uint16],
     "jirvuntsag_trace": _IMAGE + _STATE + _TABLE + [ctypes.c_uint16] + _EVENTS,
     "jirvuntsag_refresh": _IMAGE + _STATE + [ctypes.c_uint16] + _TABLE,
+    "jirvuntsag_run_fresh": _IMAGE + _STATE + [ctypes.c_uint16],
+    "jirvuntsag_trace_fresh": _IMAGE + _STATE + [ctypes.c_uint16] + _EVENTS,
 }
 
 
@@ -66,6 +70,23 @@ class Traced(NamedTuple):
     made: int
     state: array
     table: array
+    events: array
+
+
+class RanFresh(NamedTuple):
+    """What `run_fresh` gives back: there is no table."""
+
+    number: int
+    made: int
+    state: array
+
+
+class TracedFresh(NamedTuple):
+    """What `trace_fresh` gives back; `events` has three words for each step made."""
+
+    number: int
+    made: int
+    state: array
     events: array
 
 
@@ -178,3 +199,25 @@ def refresh_table(image, state, mark, table):
     mark = small_number(mark, "a mark")
     answer = _library().jirvuntsag_refresh(image, len(image), _lent(state), mark, _lent(table), len(table))
     return Refreshed(*_number_and_count(answer), table)
+
+
+def run_fresh(image, state, steps):
+    """Runs as `run_steps` does, without a table: every rule is matched afresh at each step, and the state alone is kept.
+
+    The number, the steps made and the state are those of `run_steps` with the fresh table of that state; 5 and 7 never come.
+
+    >>> run_fresh(b"", [0] * 81, 1).number
+    2
+    """
+    image, state, steps = _image_of(image), _state_of(state), small_number(steps, "the steps asked")
+    answer = _library().jirvuntsag_run_fresh(image, len(image), _lent(state), steps)
+    return RanFresh(*_number_and_count(answer), state)
+
+
+def trace_fresh(image, state, steps):
+    """Runs as `run_fresh` does, and gives events as `trace_steps` does."""
+    image, state, steps = _image_of(image), _state_of(state), small_number(steps, "the steps asked")
+    events = array("I", bytes(4 * EVENT_WORDS * steps))
+    answer = _library().jirvuntsag_trace_fresh(image, len(image), _lent(state), steps, _lent(events), len(events))
+    number, made = _number_and_count(answer)
+    return TracedFresh(number, made, state, events[: EVENT_WORDS * made])

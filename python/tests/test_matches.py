@@ -9,7 +9,7 @@ from .test_vectors import cases, read_bytes, read_state
 
 
 class Misses(unittest.TestCase):
-    """The counting model, and the states of all cases."""
+    """The counting model, and the states and openings of all cases."""
 
     def setUp(self):
         self.run_ = Model.load(COUNTING, COUNTING_NAMES).open()
@@ -40,13 +40,13 @@ class Misses(unittest.TestCase):
         seen = set()
         for call, _ in cases():
             kind, image, state, *_ = [*call.split(" "), ""]
-            if kind in ("run", "refresh"):
-                try:
-                    run = Model(read_bytes(image)).at(read_state(state))
-                except Refused:
-                    continue
-                for rule, entry in enumerate(run.table):
-                    miss = first_miss(run.model, rule, run.words)
-                    self.assertEqual(miss is None, entry[0] == 1)
-                    seen.add(miss and miss.what)
+            try:
+                model = Model(read_bytes(image))
+                run = model.at(read_state(state)) if kind in ("run", "fresh", "refresh") else model.open()
+            except Refused:
+                continue
+            for rule, entry in enumerate(run.table):
+                miss = first_miss(run.model, rule, run.words)
+                self.assertEqual(miss is None, entry[0] == 1)
+                seen.add(miss and miss.what)
         self.assertEqual(seen, {None, "pending", "type", "empty", "slot"})

@@ -1,4 +1,4 @@
-"""Every case of vectors/01.txt, through Python."""
+"""Every case of vectors/02.txt, through Python."""
 import collections
 import unittest
 
@@ -11,7 +11,7 @@ CASES = 360
 
 def cases():
     """All cases: the line of the call, and that of its answer."""
-    lines = (ROOT / "vectors" / "01.txt").read_text(encoding="ascii").splitlines()
+    lines = (ROOT / "vectors" / "02.txt").read_text(encoding="ascii").splitlines()
     return list(zip(lines[::2], lines[1::2]))
 
 
@@ -55,6 +55,14 @@ def answer_run(image, state, table, steps):
     return f"{ran.number} {show_state(ran.state)} {show_words(ran.table)} {ran.made}"
 
 
+def answer_fresh(image, state, steps):
+    """The answer to `fresh`, the run without a table, which is the same with events and without."""
+    arguments = read_bytes(image), read_state(state), int(steps)
+    ran, traced = calls.run_fresh(*arguments), calls.trace_fresh(*arguments)
+    assert traced[:3] == ran and len(traced.events) == calls.EVENT_WORDS * ran.made
+    return f"{ran.number} {show_state(ran.state)} {ran.made}"
+
+
 def answer_refresh(image, state, mark, table):
     """The answer to `refresh`."""
     number, count, table = calls.refresh_table(read_bytes(image), read_state(state), int(mark), read_words(table))
@@ -72,7 +80,7 @@ def answer_print(image):
     return "".join(f"{line}\n" for line in lines).encode().hex()
 
 
-ANSWERS = {"open": answer_open, "run": answer_run, "refresh": answer_refresh, "print": answer_print}
+ANSWERS = {"open": answer_open, "run": answer_run, "fresh": answer_fresh, "refresh": answer_refresh, "print": answer_print}
 
 
 class Vectors(unittest.TestCase):
@@ -96,6 +104,9 @@ class Vectors(unittest.TestCase):
 
     def test_run(self):
         self.hold("run")
+
+    def test_fresh(self):
+        self.hold("fresh")
 
     def test_refresh(self):
         self.hold("refresh")
