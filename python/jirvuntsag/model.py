@@ -3,6 +3,7 @@ import copy
 import pathlib
 
 from . import calls
+from .engines import Fresh, Keeping
 from .libraries import NoLibrary
 from .making import built, replaced
 from .names import Names
@@ -110,17 +111,27 @@ class Model:
         """How a model is kept by `copy` and `pickle`: all else is made from these two."""
         return Model, (self.image, self.names)
 
-    def open(self):
-        """A run from the opening state.
+    def open(self, *, fresh=False):
+        """A run from the opening state. With `fresh` it keeps no table and matches every rule afresh at each step.
 
-        >>> run = Model.load("examples/counting.image").open()
+        Both run alike, word for word, which is proved: the run that keeps its matches is the quicker one, and in the one that
+        keeps nothing no match can outlive its chunk.
+
+        >>> model = Model.load("examples/counting.image")
+        >>> run = model.open()
         >>> run.clock, str(run.buffers[0])
         (0, '2 0=#1 1=#3')
+        >>> model.open(fresh=True)
+        <Run at 0 ms, keeping nothing: {0: 2 0=#1 1=#3, 1: 0}>
+        >>> model.open(fresh=True).run() == run.run()
+        True
         """
-        return Run(self, self._opened.state, self._opened.table)
+        return Run(self, self._opened.state) if fresh else Run(self, *self._opened[1:])
 
-    def at(self, state):
+    def at(self, state, *, fresh=False):
         """A run from any well-formed state: plain data as `Run.state` gives it, or 81 words as `Run.words` does.
+
+        With `fresh` it keeps no table, as with `open`.
 
         >>> model = Model.load("examples/counting.image")
         >>> run = model.at({"clock": 350, "buffers": {0: {"type": 2, "slots": {0: 3, 1: 3}}}})
@@ -128,12 +139,7 @@ class Model:
         ['400 fire 2']
         """
         words = state_words(state, self.vocabulary) if isinstance(state, dict) else state
-        zeros = [0] * len(self._opened.table)
-        # every rule tests a buffer, so a refresh with all buffers marked makes every entry fresh
-        refreshed = calls.refresh_table(self.image, words, 2**self.shape.buffers - 1, zeros)
-        if refreshed.number:
-            raise Refused(refreshed.number)
-        return Run(self, words, refreshed.table)
+        return Run(self, *(Fresh if fresh else Keeping).at(self, words))
 
     @property
     def start(self):

@@ -1,4 +1,4 @@
-"""A run of a model: a state with its table, which moves on by steps."""
+"""A run of a model: a state, with its table if one is kept, which moves on by steps."""
 import functools
 import itertools
 import operator
@@ -6,14 +6,12 @@ import threading
 from array import array
 
 from . import calls
+from .engines import ENTRY_WORDS, Fresh, Keeping
 from .events import Ended, event_from
 from .matches import Match, first_miss
+from .pieces import trace_in_pieces
 from .refusals import HALTED, Refused
 from .states import Buffer, Buffers, buffer_words, clock_of, place, state_from, state_words
-
-ENTRY_WORDS = 9
-# a run is traced in pieces: the first is short, since most runs are, and the others keep what is laid out for events small
-FIRST_PIECE, LARGEST_PIECE = 64, 4_096
 
 
 def _alone(method):
@@ -30,6 +28,9 @@ def _alone(method):
 class Run:
     """A run, made by `Model.open` or `Model.at`. Its table is always the fresh one, so that number 7 never comes
     (but for a run that was pickled before request 2026-01: `run.model.at(run.words)` goes on from there).
+
+    With `fresh=True` it has no table: every rule is matched afresh at each step, and nothing is kept but the state. All that a
+    run can do it does alike and with the same answers, which is proved; copies and pickles keep nothing, either.
 
     A model that halts is no error: `step` gives None, `steps` ends, `run` says 9. A clock that would pass its largest is
     one: `Refused`, by 8, after the steps that could be made.
@@ -48,20 +49,32 @@ class Run:
     (550, 50)
     """
 
-    def __init__(self, model, state, table):
+    def __init__(self, model, state, table=None):
         self._model = model
-        # the two arrays are replaced, both at once, and never written to: they always fit, and copies may share them
-        self._kept = array("I", state), array("H", table)
+        self._engine = Fresh if table is None else Keeping
+        # what is kept is replaced, all at once, and never written to: state and table always fit, and copies may share them
+        self._kept = (array("I", state),) if table is None else (array("I", state), array("H", table))
         self._lock = threading.RLock()
 
     def __reduce__(self):
-        """How a run is copied and kept by `copy` and `pickle`: without its lock, which a copy has of its own."""
+        """How a run is copied and kept by `copy` and `pickle`: with its table, if it has one, and without its lock."""
         return Run, (self._model, *self._kept)
 
     @property
     def model(self):
         """The model."""
         return self._model
+
+    @property
+    def fresh(self):
+        """Nothing is kept from step to step but the state: the run has no table.
+
+        >>> from jirvuntsag import Model
+        >>> model = Model.load("examples/counting.image")
+        >>> model.open().fresh, model.open(fresh=True).fresh, model.open(fresh=True).copy().fresh
+        (False, True, True)
+        """
+        return self._engine is Fresh
 
     @property
     def clock(self):
@@ -90,7 +103,7 @@ class Run:
 
     @property
     def state(self):
-        """The state as plain data. What it is set to becomes the state, and the table is made to fit it.
+        """The state as plain data. What it is set to becomes the state, and the table, if one is kept, is made to fit it.
 
         >>> from jirvuntsag import Model
         >>> run = Model.load("examples/counting.image").open()
@@ -111,8 +124,16 @@ class Run:
 
     @property
     def table(self):
-        """The table: for each rule 1 and the values of its variables 0 to 7, or nine zeros if it does not match."""
-        table = self._kept[1]
+        """The table: for each rule 1 and the values of its variables 0 to 7, or nine zeros if it does not match.
+
+        Where nothing is kept, it is made from the state now, and forgotten again: no step ever reads it.
+
+        >>> from jirvuntsag import Model
+        >>> model = Model.load("examples/counting.image")
+        >>> model.open(fresh=True).table == model.open().table
+        True
+        """
+        table = self._engine.table(self._model, self._kept)
         return [tuple(table[start : start + ENTRY_WORDS]) for start in range(0, len(table), ENTRY_WORDS)]
 
     @_alone
@@ -158,10 +179,10 @@ class Run:
         None
         """
         number = self._model.vocabulary.rules.number(rule)
-        state, table = self._kept
-        if table[ENTRY_WORDS * number] == 1:
+        kept = self._kept
+        if self._engine.table(self._model, kept)[ENTRY_WORDS * number] == 1:
             return None
-        return first_miss(self._model, number, state)
+        return first_miss(self._model, number, kept[0])
 
     def step(self):
         """Makes one step: its event, or None if the model has halted."""
@@ -197,21 +218,14 @@ class Run:
 
     def _made(self, steps):
         """Makes steps and tells none."""
-        ran = calls.run_steps(self._model.image, *self._kept, steps)
-        self._kept = ran.state, ran.table
-        return ran.number, ran.made, []
+        number, made, self._kept = self._engine.run(self._model.image, self._kept, steps)
+        return number, made, []
 
     def _traced(self, steps):
-        """Makes steps piece by piece and tells all: the number of the last piece is the run's."""
-        rules, events, piece = self._model.vocabulary.rules, [], FIRST_PIECE
-        while True:
-            traced = calls.trace_steps(self._model.image, *self._kept, min(piece, steps - len(events)))
-            self._kept = traced.state, traced.table
-            starts = range(0, len(traced.events), calls.EVENT_WORDS)
-            events += [event_from(traced.events[start : start + calls.EVENT_WORDS], rules) for start in starts]
-            if traced.number or len(events) == steps:
-                return traced.number, len(events), events
-            piece = min(4 * piece, LARGEST_PIECE)
+        """Makes steps and tells all."""
+        number, made, self._kept, words = trace_in_pieces(self._engine, self._model.image, self._kept, steps)
+        starts, rules = range(0, len(words), calls.EVENT_WORDS), self._model.vocabulary.rules
+        return number, made, [event_from(words[start : start + calls.EVENT_WORDS], rules) for start in starts]
 
     @_alone
     def until(self, clock):
@@ -231,19 +245,22 @@ class Run:
             events.append(event)
         return Ended(0, len(events), events)
 
-    def copy(self):
-        """Another run from here, which goes its own way."""
-        return Run(self._model, *self._kept)
+    def copy(self, *, fresh=None):
+        """Another run from here, which goes its own way: with a table or without, as this one, if nothing else is said.
+
+        >>> from jirvuntsag import Model
+        >>> run = Model.load("examples/counting.image").open()
+        >>> other = run.copy(fresh=True)
+        >>> other.run() == run.run(), other.words == run.words
+        (True, True)
+        """
+        if fresh is None or bool(fresh) == self.fresh:
+            return Run(self._model, *self._kept)
+        return self._model.at(self._kept[0], fresh=fresh)
 
     def _move_to(self, words):
-        """Takes another state, and refreshes the table with the buffers that differ."""
-        words = array("I", words)
-        state, table = self._kept
-        differing = (b for b in range(self._model.shape.buffers) if words[place(b)] != state[place(b)])
-        refreshed = calls.refresh_table(self._model.image, words, sum(2**b for b in differing), table)
-        if refreshed.number:
-            raise Refused(refreshed.number)
-        self._kept = words, refreshed.table
+        """Takes another state."""
+        self._kept = self._engine.moved(self._model, self._kept, array("I", words))
 
     def _match(self, rule, values):
         vocabulary = self._model.vocabulary
@@ -251,7 +268,7 @@ class Run:
         return Match(rule, vocabulary.rules.name(rule), self._model.shape.rules[rule].utility, named)
 
     def __repr__(self):
-        return f"<Run at {self.clock} ms: {self.buffers!r}>"
+        return f"<Run at {self.clock} ms{', keeping nothing' if self.fresh else ''}: {self.buffers!r}>"
 
 
 def _count(number):

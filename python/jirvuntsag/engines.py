@@ -1,0 +1,95 @@
+"""The two engines that move a run on: one keeps a table of the matches of all rules, the other keeps nothing but the state.
+
+They answer alike, word for word, which is proved, so that a run is never told by its engine: the first is quicker, and with the
+second no match can outlive its chunk. What goes from step to step is a tuple, a state with its table or a state alone.
+"""
+from array import array
+
+from . import calls
+from .refusals import Refused
+from .states import place
+
+ENTRY_WORDS = 9
+
+
+class Keeping:
+    """Keeps the table beside the state: after a step the rules are matched again that test a buffer which the step marked."""
+
+    @staticmethod
+    def run(image, kept, steps):
+        """Makes steps: the number, how many were made, and what is kept after them."""
+        number, made, *kept = calls.run_steps(image, *kept, steps)
+        return number, made, tuple(kept)
+
+    @staticmethod
+    def trace(image, kept, steps):
+        """Makes steps as `run` does, with the words of their events."""
+        number, made, *kept, events = calls.trace_steps(image, *kept, steps)
+        return number, made, tuple(kept), events
+
+    @staticmethod
+    def at(model, words):
+        """What is kept of a state that is given: its fresh table, too. A state that is not well formed is refused."""
+        table = fresh_table(model, words)
+        return array("I", words), table
+
+    @staticmethod
+    def moved(model, kept, words):
+        """What is kept of another state: the table is refreshed with the buffers that differ."""
+        state, table = kept
+        differing = (b for b in range(model.shape.buffers) if words[place(b)] != state[place(b)])
+        return words, _refreshed(model, words, sum(2**b for b in differing), table)
+
+    @staticmethod
+    def table(_model, kept):
+        """The words of the table that is kept."""
+        return kept[1]
+
+
+class Fresh:
+    """Keeps the state alone: every rule is matched afresh at each step, and what it matched is forgotten after it."""
+
+    @staticmethod
+    def run(image, kept, steps):
+        """Makes steps: the number, how many were made, and what is kept after them."""
+        number, made, state = calls.run_fresh(image, *kept, steps)
+        return number, made, (state,)
+
+    @staticmethod
+    def trace(image, kept, steps):
+        """Makes steps as `run` does, with the words of their events."""
+        number, made, state, events = calls.trace_fresh(image, *kept, steps)
+        return number, made, (state,), events
+
+    @staticmethod
+    def at(model, words):
+        """What is kept of a state that is given. A state that is not well formed is refused."""
+        # a run of no steps does nothing but check what it is handed
+        number, _, state = calls.run_fresh(model.image, words, 0)
+        if number:
+            raise Refused(number)
+        return (state,)
+
+    @staticmethod
+    def moved(model, _kept, words):
+        """What is kept of another state: nothing of the one before, so that nothing needs a refresh."""
+        return Fresh.at(model, words)
+
+    @staticmethod
+    def table(model, kept):
+        """The words of the table that fits the state now: made when it is asked for, and not kept."""
+        return fresh_table(model, *kept)
+
+
+def fresh_table(model, words):
+    """The words of the fresh table of a state. A state that is not well formed is refused."""
+    zeros = [0] * (ENTRY_WORDS * len(model.shape.rules))
+    # every rule tests a buffer, so a refresh with all buffers marked makes every entry fresh
+    return _refreshed(model, words, 2**model.shape.buffers - 1, zeros)
+
+
+def _refreshed(model, words, mark, table):
+    refreshed = calls.refresh_table(model.image, words, mark, table)
+    if refreshed.number:
+        raise Refused(refreshed.number)
+    return refreshed.table
