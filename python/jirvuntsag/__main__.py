@@ -59,6 +59,8 @@ def _parser():
         command.add_argument("-o", "--output", metavar=result, help="where to write; standard output if it is not given")
         steps = {"type": _number(0, MOST_STEPS), "default": STEPS, "help": "the most steps to make, 0 to 65535 (1000)"}
         command.add_argument("--steps", metavar="N", **steps)
+        fresh = "keep no table and match every rule afresh at each step: what is written is the same"
+        command.add_argument("--fresh", action="store_true", help=fresh)
     width = {"type": _number(NARROWEST, 20_000), "default": WIDEST, "help": "the most pixels of the lanes (1600)"}
     drawn.add_argument("--width", metavar="PIXELS", **width)
     return parser
@@ -103,11 +105,12 @@ def _print(text):
 
 
 def _draw(model, arguments):
-    return timeline(model.open(), arguments.steps, pathlib.Path(arguments.model).name, arguments.width)
+    run = model.open(fresh=arguments.fresh)
+    return timeline(run, arguments.steps, pathlib.Path(arguments.model).name, arguments.width)
 
 
 def _tell(model, arguments):
-    return explain(model, arguments.steps)
+    return explain(model, arguments.steps, fresh=arguments.fresh)
 
 
 def _carry_out(arguments):

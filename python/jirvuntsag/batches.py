@@ -1,11 +1,21 @@
 """The items of a sweep in batches: what each is turned into, and what a worker does with it, in this process or another."""
 import pickle
 from array import array
+from typing import NamedTuple, Tuple, Union
 
+from .afresh import run_all_afresh
 from .model import Model
 from .packer import FLAGS, Runs, run_all
 from .run import Run
 from .states import buffer_of, buffer_words, place
+
+
+class Asked(NamedTuple):
+    """What is asked of every run of a sweep: the most steps, the events that are kept, and that no table is."""
+
+    steps: int
+    events: Union[bool, Tuple] = False
+    fresh: bool = False
 
 
 def start_of(item):
@@ -31,16 +41,16 @@ def _put(model, chunks):
 
 
 class Batch:
-    """Some items of a sweep: their models and first states, what failed of them, and the runs for the packer."""
+    """Some items of a sweep: their models and first states, what failed of them, the runs, and what makes these."""
 
-    def __init__(self, items, steps, events):
+    def __init__(self, items, asked):
         self.models, self.failed = [], {}
         numbers, flags, jobs, starts = {}, {}, [], []
         for at, item in enumerate(items):
             try:
                 model, start = start_of(item)
                 if model not in numbers:
-                    flags[model] = _flags(model, events)
+                    flags[model] = _flags(model, asked.events)
                     numbers[model] = len(numbers)
             except Exception as error:  # whatever is wrong with an item, the others are run
                 self.failed[at] = error
@@ -48,9 +58,12 @@ class Batch:
             self.models.append(model)
             jobs.append(numbers[model])
             starts.append(start)
-        opened = all(start is model.start for start, model in zip(starts, self.models))
-        states = array("I", b"" if opened else b"".join(starts))
-        self.runs = Runs([model.image for model in numbers], array("I", jobs), states, b"".join(flags.values()), steps)
+        # one run that keeps nothing takes its whole batch with it: the others answer alike, a little later
+        fresh = asked.fresh or any(isinstance(item, Run) and item.fresh for item in items)
+        opened = not fresh and all(start is model.start for start, model in zip(starts, self.models))
+        states, images = array("I", b"" if opened else b"".join(starts)), [model.image for model in numbers]
+        self.runs = Runs(images, array("I", jobs), states, b"".join(flags.values()), asked.steps)
+        self.run_all = run_all_afresh if fresh else run_all
 
 
 def _flags(model, events):
@@ -63,7 +76,7 @@ def _flags(model, events):
     return bytes(flags)
 
 
-def make_and_run(make, items, steps, events, stop=None):
+def make_and_run(make, items, asked, stop=None):
     """Makes each item's model and runs it, until it is stopped: the models, what the packer gave, and what failed."""
     made, failed = {}, {}
     for at, item in enumerate(items):
@@ -73,9 +86,9 @@ def make_and_run(make, items, steps, events, stop=None):
             made[at] = make(item)
         except Exception as error:  # whatever goes wrong with an item, the others are run
             failed[at] = _sendable(error)
-    batch, places = Batch(made.values(), steps, events), list(made)
+    batch, places = Batch(made.values(), asked), list(made)
     failed.update({places[at]: _sendable(error) for at, error in batch.failed.items()})
-    return batch.models, run_all(batch.runs, stop), failed
+    return batch.models, batch.run_all(batch.runs, stop), failed
 
 
 def _sendable(error):

@@ -1,6 +1,7 @@
 """What runs cost from Python: `python3 -m jirvuntsag.bench` prints runs a second of a small counting model.
 
-One after the other, in a sweep on one core and on all, in one that keeps events, and in one that makes a model for each run.
+One after the other, in a sweep on one core and on all, in one that keeps events, and in one that makes a model for each run;
+then without a table, one after the other and in a sweep.
 Other work on the machine makes the figures smaller: of some rounds the best counts.
 """
 import argparse
@@ -35,9 +36,9 @@ rule stop utility 1
 """
 
 
-def _one_by_one(model, runs):
+def _one_by_one(model, runs, fresh=False):
     for _ in range(runs):
-        model.open().run()
+        model.open(fresh=fresh).run()
 
 
 def _made(model, runs):
@@ -53,6 +54,8 @@ def _lines(model, runs):
     yield f"sweep, {cores()} threads", runs, lambda: sweep([model] * runs, progress=False)
     yield f"sweep, {cores()} threads, all events kept", runs, lambda: sweep([model] * runs, events=True, progress=False)
     yield "sweep, a model made for each run", few, lambda: _made(model, few)
+    yield "run() after run(), no table kept", few, lambda: _one_by_one(model, few, fresh=True)
+    yield f"sweep, {cores()} threads, no table kept", runs, lambda: sweep([model] * runs, fresh=True, progress=False)
 
 
 def main(arguments=None):

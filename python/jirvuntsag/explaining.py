@@ -9,8 +9,10 @@ STEPS = 1000
 REQUEST = 1  # the kind of an action that asks for a fact
 
 
-def explain(run, steps=STEPS):
+def explain(run, steps=STEPS, *, fresh=False):
     """Tells the next steps of a run, or of a model from its opening. The run itself is not moved.
+
+    With `fresh` no table is kept, as with `Model.open`; what is told is the same.
 
     >>> import jirvuntsag as jv
     >>> print(explain(jv.Model.load("examples/counting.model"), steps=2))
@@ -36,7 +38,8 @@ def explain(run, steps=STEPS):
     """
     if not isinstance(run, (Model, Run)):
         raise TypeError(f"a Model or a Run is explained, not a {type(run).__name__}")
-    run, steps = run.open() if isinstance(run, Model) else run.copy(), small_number(steps, "the steps asked")
+    run = run.open(fresh=fresh) if isinstance(run, Model) else run.copy(fresh=fresh or run.fresh)
+    steps = small_number(steps, "the steps asked")
     start = [f"at {run.clock:,} ms", *_held(run)]
     events, steps_told, number = _steps(run, steps)
     end = [_end(run, len(events), number), "", "The buffers then:", *_held(run), "", "The rules then:"]

@@ -3,9 +3,8 @@ import concurrent.futures
 import ctypes
 import os
 
-from .batches import Batch, make_and_run
+from .batches import Asked, Batch, make_and_run
 from .calls import MOST_STEPS, small_number
-from .packer import run_all
 from .progress import reporter
 from .rows import rows_from
 
@@ -30,13 +29,16 @@ class SweepFailed(RuntimeError):
         return f"{count}, the first is item {first}: {told} (.rows has what was done, .errors the rest)"
 
 
-def sweep(items, make=None, *, steps=MOST_STEPS, events=False, executor=None, workers=None, progress=None, rows=None):
+def sweep(
+    items, make=None, *, steps=MOST_STEPS, events=False, fresh=False, executor=None, workers=None, progress=None, rows=None
+):
     """Runs every item to its end, or for at most so many steps: a `Row` for each, in the order given.
 
     An item is a `Model`, a `Run` (which is not moved), or a pair of a Model and a dict that says what buffers hold instead.
     With `make` an item is anything, and `make(item)` gives one of these, in the worker.
 
     `events`: False for none, True for all, or the name or names of rules whose firings are kept.
+    `fresh`: no run keeps a table, as with `Model.open`; a Run that keeps none never gets one. The rows are the same.
     `executor`: anything with `submit` as in concurrent.futures; without one, as many threads as there are cores (`workers`).
     `progress`: None for a line if standard error is a terminal, True, False, or a function of how many are done, of how many.
     `rows`: a list that is filled as rows come. Handed in again, what is done in it is not done again.
@@ -50,10 +52,12 @@ def sweep(items, make=None, *, steps=MOST_STEPS, events=False, executor=None, wo
     [550, 550, 400]
     >>> [row.clock for row in sweep([0, 500, 1000], lambda ms: model.replace(failure=ms))]
     [400, 850, 1350]
+    >>> [row.clock for row in sweep([0, 500, 1000], lambda ms: model.replace(failure=ms), fresh=True)]
+    [400, 850, 1350]
     """
     items, rows = list(items), [] if rows is None else rows
     kept = events if isinstance(events, bool) else (events,) if isinstance(events, str) else tuple(events)
-    work = Work(items, make, small_number(steps, "the steps asked"), kept, rows)
+    work = Work(items, make, Asked(small_number(steps, "the steps asked"), kept, bool(fresh)), rows)
     report, end = reporter(progress, "sweep")
     try:
         if executor is not None:
@@ -81,12 +85,12 @@ def cores():
 class Work:
     """A sweep while it is done: its items, its rows so far, and what failed."""
 
-    def __init__(self, items, make, steps, events, rows):
+    def __init__(self, items, make, asked, rows):
         if not isinstance(rows, list) or len(rows) not in (0, len(items)):
             raise ValueError(f"rows is a list that is empty, or has a place for each of the {len(items):,} items")
         if make is not None and not callable(make):
             raise TypeError(f"make is a function from an item to a Model, not a {type(make).__name__}")
-        self.items, self.make, self.steps, self.events, self.rows, self.errors = items, make, steps, events, rows, {}
+        self.items, self.make, self.asked, self.rows, self.errors = items, make, asked, rows, {}
         # a byte that threads of this process look at between two runs; nothing can be shared so with other executors
         self.stop = None
         rows.extend([None] * (len(items) - len(rows)))
@@ -112,9 +116,9 @@ class Work:
         items = [self.items[at] for at in places]
         stop = [] if self.stop is None else [self.stop]
         if self.make is not None:
-            return places, None, executor.submit(make_and_run, self.make, items, self.steps, self.events, *stop)
-        batch = Batch(items, self.steps, self.events)
-        return places, (batch.models, batch.failed), executor.submit(run_all, batch.runs, *stop)
+            return places, None, executor.submit(make_and_run, self.make, items, self.asked, *stop)
+        batch = Batch(items, self.asked)
+        return places, (batch.models, batch.failed), executor.submit(batch.run_all, batch.runs, *stop)
 
     def _take_in(self, places, known, future):
         """Waits for a batch and keeps its rows. A worker that fails fails its own batch alone."""

@@ -279,7 +279,7 @@ class Benchmark(unittest.TestCase):
         said = io.StringIO()
         with contextlib.redirect_stdout(said):
             bench.main(["--runs", "40", "--rounds", "1"])
-        self.assertEqual(len(said.getvalue().splitlines()), 6)
+        self.assertEqual(len(said.getvalue().splitlines()), 8)
 
     def test_its_model_is_the_counting_example(self):
         self.assertEqual(jv.Model.from_text(bench.COUNTING).image, MODEL.image)
