@@ -1,7 +1,7 @@
 """The two engines that move a run on: one keeps a table of the matches of all rules, the other keeps nothing but the state.
 
-They answer alike, word for word, which is proved, so that a run is never told by its engine: the first is quicker, and with the
-second no match can outlive its chunk. What goes from step to step is a tuple, a state with its table or a state alone.
+They answer alike, word for word, which is proved, so that nobody can tell them apart: the first is quicker, and with the second
+no match can outlive its chunk. What goes from step to step is a tuple, a state with its table or a state alone.
 """
 from array import array
 

@@ -1,6 +1,7 @@
-"""A run that tells its steps, made in pieces: the first is short, since most runs are, and the others keep what is laid out small."""
+"""A run that tells its steps is made in pieces, so that what is laid out for events stays small."""
 from array import array
 
+# the first is short, since most runs are
 FIRST_PIECE, LARGEST_PIECE = 64, 4_096
 
 

@@ -55,12 +55,16 @@ class BadWords(unittest.TestCase):
         for state, error in cases:
             with self.subTest(state=state), self.assertRaisesRegex(error, "state"):
                 calls.run_steps(self.image, state, [0] * 27, 1)
+            with self.subTest(state=state), self.assertRaisesRegex(error, "state"):
+                calls.run_fresh(self.image, state, 1)
         self.assertEqual(calls.run_steps(self.image, [0, 99] + STATE[2:], [0] * 27, 1).number, 6)
 
     def test_steps_and_marks(self):
         for number, error in (-1, ValueError), (65_536, ValueError), (1.0, TypeError), ("1", TypeError):
             with self.subTest(number=number), self.assertRaisesRegex(error, "steps asked"):
                 calls.trace_steps(self.image, STATE, [0] * 27, number)
+            with self.subTest(number=number), self.assertRaisesRegex(error, "steps asked"):
+                calls.trace_fresh(self.image, STATE, number)
             with self.subTest(number=number), self.assertRaisesRegex(error, "mark"):
                 calls.refresh_table(self.image, STATE, number, [0] * 27)
         self.assertEqual(calls.refresh_table(self.image, STATE, 4, [0] * 27).number, 10)
@@ -82,8 +86,10 @@ class BadWords(unittest.TestCase):
 class BadStates(unittest.TestCase):
     """What cannot be put into a run."""
 
+    FRESH = False
+
     def setUp(self):
-        self.run_ = Model.load(COUNTING, COUNTING_NAMES).open()
+        self.run_ = Model.load(COUNTING, COUNTING_NAMES).open(fresh=self.FRESH)
         self.before = self.run_.words, self.run_.table
 
     def tearDown(self):
@@ -131,7 +137,7 @@ class BadStates(unittest.TestCase):
 
     def test_words_that_are_no_state(self):
         with self.assertRaises(Refused) as caught:
-            self.run_.model.at([0, 9] + STATE[2:])
+            self.run_.model.at([0, 9] + STATE[2:], fresh=self.FRESH)
         self.assertEqual(caught.exception.number, 6)
 
     def test_clocks(self):
@@ -163,14 +169,15 @@ class AnyThing(unittest.TestCase):
     def test_things_as_arguments(self):
         chooser = random.Random(1)
         image, answered = COUNTING.read_bytes(), 0
-        run = Model(image).open()
+        run, fresh = Model(image).open(), Model(image).open(fresh=True)
         for _ in range(20_000):
             one, two, three, four = (chooser.choice([*THINGS, image, STATE, [0] * 27]) for _ in range(4))
             answered += self.hold(calls.open_image, one, two)
             answered += self.hold(calls.run_steps, one, two, three, four)
             answered += self.hold(calls.refresh_table, one, two, three, four)
-            answered += self.hold(run.copy().put, one, two, three, four)
-            answered += self.hold(run.model.at, one)
+            answered += self.hold(calls.run_fresh, one, two, three)
+            answered += self.hold(chooser.choice([run, fresh]).copy().put, one, two, three, four)
+            answered += self.hold(lambda state, keep: run.model.at(state, fresh=keep), one, chooser.random() < 0.5)
         self.assertGreater(answered, 100)
 
     def test_words_as_arguments(self):

@@ -11,7 +11,6 @@ from jirvuntsag import Buffer, Model, Refused, calls
 from . import COUNT_FROM, COUNT_FROM_NAMES, COUNTING, COUNTING_NAMES
 from .packing import Rule, pack
 
-TRACE = calls.trace_steps
 # a rule that always matches: it runs for ever
 FOREVER = pack([1], [(1, 1)], rules=[Rule([(0, 1, {})], [(0, "modify", {0: 2})])])
 
@@ -39,11 +38,17 @@ class Published(unittest.TestCase):
 
 
 class Runs(unittest.TestCase):
-    """The counting model, by its names."""
+    """The counting model, by its names; test_fresh.py makes the same runs without a table."""
+
+    FRESH, TRACE = False, "trace_steps"
+
+    def opened(self, model):
+        """A run of the kind that is tested here."""
+        return model.open(fresh=self.FRESH)
 
     def setUp(self):
         self.model = Model.load(COUNTING, COUNTING_NAMES)
-        self.run_ = self.model.open()
+        self.run_ = self.opened(self.model)
 
     def fresh_table(self):
         """The table of a run that is opened in the same state."""
@@ -105,14 +110,14 @@ class Runs(unittest.TestCase):
     def test_a_state_goes_through_json(self):
         self.run_.run(3)
         kept = json.loads(json.dumps(self.run_.state))
-        again = self.model.open()
+        again = self.opened(self.model)
         again.state = kept
         self.assertEqual((again.words, again.table), (self.run_.words, self.run_.table))
         self.assertEqual(again.run(), self.run_.run())
 
     def test_a_state_without_names_goes_through_json(self):
         model = Model.load(COUNTING)
-        run = model.open()
+        run = self.opened(model)
         run.run(3)
         self.assertEqual(model.at(json.loads(json.dumps(run.state))).words, run.words)
 
@@ -138,7 +143,7 @@ class Runs(unittest.TestCase):
         self.assertEqual(self.run_.table, self.fresh_table())
 
     def test_four_threads_lose_no_step(self):
-        run = Model(FOREVER).open()
+        run = self.opened(Model(FOREVER))
 
         def work(_):
             return sum(run.run(3, events=False).made + (run.step() is not None) for _ in range(500))
@@ -154,11 +159,12 @@ class Runs(unittest.TestCase):
 
     def test_a_run_in_pieces_is_the_run(self):
         for steps in 0, 1, 63, 64, 65, 319, 320, 321, 10_000, 65_535:
-            whole = calls.trace_steps(FOREVER, *Model(FOREVER).open()._kept, steps)
-            run = Model(FOREVER).open()
+            run = self.opened(Model(FOREVER))
+            number, made, *kept, events = getattr(calls, self.TRACE)(FOREVER, *run._kept, steps)
             ended = run.run(steps)
-            self.assertEqual((ended.number, ended.made, list(run._kept)), (0, steps, [whole.state, whole.table]))
-            self.assertEqual([event.clock for event in ended.events], list(whole.events[::3]))
+            self.assertEqual((ended.number, ended.made, *run._kept), (number, made, *kept))
+            self.assertEqual((number, made), (0, steps))
+            self.assertEqual([event.clock for event in ended.events], list(events[::3]))
 
     def test_a_run_without_events_is_the_run(self):
         told, untold = self.run_.copy(), self.run_.copy()
@@ -172,18 +178,18 @@ class Runs(unittest.TestCase):
         self.assertEqual((caught.exception.number, caught.exception.events), (8, []))
 
     def test_a_run_lays_out_no_more_than_it_needs(self):
-        asked = []
+        asked, call = [], getattr(calls, self.TRACE)
 
         def trace(*given):
             asked.append(given[-1])
-            return TRACE(*given)
+            return call(*given)
 
-        with unittest.mock.patch.object(calls, "trace_steps", trace):
+        with unittest.mock.patch.object(calls, self.TRACE, trace):
             self.run_.run()
         self.assertEqual(asked, [64])
 
     def test_a_clock_that_passes_in_a_later_piece(self):
-        run = Model(FOREVER).open()
+        run = self.opened(Model(FOREVER))
         run.clock = 4_294_967_295 - 50 * 100
         with self.assertRaises(Refused) as caught:
             run.run()
