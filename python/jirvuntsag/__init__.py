@@ -24,6 +24,12 @@ retrieval is pending for another 100 ms
 >>> branch.matching()
 [Match(rule=1, name='go-on', utility=0, values={'number': '1', 'next': '3'})]
 
+A run keeps the matches of all rules in a table, since that is quicker; one that is opened with `fresh=True` keeps nothing but its
+state and matches every rule afresh at each step. Nobody can tell them apart by what they answer, which is proved.
+
+>>> model.open(fresh=True).run() == model.open().run()
+True
+
 What is refused is raised as `Refused`, with its number and what that means; what Python can tell by itself as ValueError or
 TypeError. Nothing is altered by a call that raises, but for the steps that a run has made before it is refused.
 """
