@@ -334,6 +334,10 @@ class Sweeps(unittest.TestCase):
         self.assertEqual([row.number for row in rows], [9, 9, 8])
         self.assertEqual(run.clock, 200)
 
+    def test_rules_that_have_another_number_in_another_model(self):
+        rows = self.alike([COUNTING_MODEL, MODELS["count-stop-first"]] * 20, events=["stop"], workers=1)
+        self.assertEqual({tuple(event.rule for event in row.events) for row in rows}, {(2,), (0,)})
+
     def test_models_that_are_made(self):
         self.alike(range(0, 500, 7), slow, events="stop")
 
@@ -381,12 +385,15 @@ class Told(unittest.TestCase):
                 for run in pair(model):
                     self.assertEqual((jv.explain(run), jv.explain(run, fresh=True)), (told, told))
 
-    def test_what_is_told_of_a_run_keeps_nothing_if_the_run_does(self):
+    def test_nothing_is_kept_for_what_is_told(self):
         run = COUNTING_MODEL.open(fresh=True)
         with unittest.mock.patch.object(calls, "trace_steps", side_effect=AssertionError("a table was asked for")):
             self.assertEqual(jv.explain(run), WHOLE)
             self.assertEqual(jv.explain(COUNTING_MODEL, fresh=True), WHOLE)
+            self.assertEqual(jv.explain(COUNTING_MODEL.open(), fresh=True), WHOLE)
             self.assertIn("go-on", jv.timeline(run))
+            for command in "explain", "timeline":
+                self.assertEqual(said(command, EXAMPLES / "counting.model", "--fresh")[0], 0)
 
     def test_pictures(self):
         for model in MODELS.values():
