@@ -1,6 +1,7 @@
 """What happens in a run: its steps, and how it ends."""
 from typing import List, NamedTuple, Optional
 
+from .calls import EVENT_WORDS
 from .refusals import HALTED, MEANINGS
 from .states import Name
 
@@ -41,7 +42,12 @@ class Ended(NamedTuple):
         return f"end {self.number} {self.made}"
 
 
-def event_from(words, rules):
+def events_from(words, rules):
+    """The events of words as a trace gives them, three for each."""
+    return [_event_from(words[start : start + EVENT_WORDS], rules) for start in range(0, len(words), EVENT_WORDS)]
+
+
+def _event_from(words, rules):
     """The event of three words: the clock after the step; 0 and the rule, or 1 and the ms."""
     clock, kind, number = words
     if kind == 0:

@@ -1,6 +1,6 @@
 """What a sweep gives back for each item: how its run ended, and what its buffers hold then."""
 from .calls import EVENT_WORDS
-from .events import event_from
+from .events import events_from
 from .refusals import HALTED, MEANINGS
 from .states import Buffers, state_from
 
@@ -56,8 +56,7 @@ class Row:
     @property
     def events(self):
         """The events that were asked for, in their order."""
-        starts, rules = range(0, len(self._events), EVENT_WORDS), self.model.vocabulary.rules
-        return [event_from(self._events[start : start + EVENT_WORDS], rules) for start in starts]
+        return events_from(self._events, self.model.vocabulary.rules)
 
     @property
     def halted(self):

@@ -7,7 +7,7 @@ from array import array
 
 from . import calls
 from .engines import ENTRY_WORDS, Fresh, Keeping
-from .events import Ended, event_from
+from .events import Ended, events_from
 from .matches import Match, first_miss
 from .pieces import trace_in_pieces
 from .refusals import HALTED, Refused
@@ -224,8 +224,7 @@ class Run:
     def _traced(self, steps):
         """Makes steps and tells all."""
         number, made, self._kept, words = trace_in_pieces(self._engine, self._model.image, self._kept, steps)
-        starts, rules = range(0, len(words), calls.EVENT_WORDS), self._model.vocabulary.rules
-        return number, made, [event_from(words[start : start + calls.EVENT_WORDS], rules) for start in starts]
+        return number, made, events_from(words, self._model.vocabulary.rules)
 
     @_alone
     def until(self, clock):
