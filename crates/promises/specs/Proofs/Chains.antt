@@ -28,7 +28,7 @@ module _ (m : Model) (Kept : State → List ℕ → Type 0)
   abbrev GoingKept : Going → Type 0
   GoingKept g = Kept (g .state) (g .table)
 
-  go-on : (g : Going) (run : Going → Run) (st : Step) → GoingKept g
+  go-on : (g : Going) (run : Going → Run Going) (st : Step) → GoingKept g
       → ((e : Event) (s′ : State) (mark : ℕ) → st ≡ Made e s′ mark → Kept s′ (refresh (m .rules) s′ mark (g .table)))
       → ((g′ : Going) → GoingKept g′ → GoingKept (run g′ .left))
       → GoingKept (goOn m g run st .left)

@@ -186,13 +186,13 @@ module _ (image table : List ℕ) where
 
 -- ---- run
 
-run-left : (m : Model) (n : ℕ) (g : Going) → let r : Run = runFrom m n g in RanTo m (g .state) (g .table) n (r .events) (ranBy r)
+run-left : (m : Model) (n : ℕ) (g : Going) → let r : Run Going = runFrom m n g in RanTo m (g .state) (g .table) n (r .events) (ranBy r)
 unfolding runFrom
 run-left m zero g = record { steps = none-made; counted = refl; ended = enough refl }
 run-left m (suc n) g = by (λ g′. run-left m n g′) (stepOf m (g .state) (g .table)) refl
   where
     by : ((g′ : Going) → RanTo m (g′ .state) (g′ .table) n (runFrom m n g′ .events) (ranBy (runFrom m n g′))) → (st : Step) → stepOf m (g .state) (g .table) ≡ st
-        → let r : Run = goOn m g (λ g′. runFrom m n g′) st in RanTo m (g .state) (g .table) (suc n) (r .events) (ranBy r)
+        → let r : Run Going = goOn m g (λ g′. runFrom m n g′) st in RanTo m (g .state) (g .table) (suc n) (r .events) (ranBy r)
     by ih (Stopped k) q = record { steps = none-made; counted = refl; ended = before-that (omega arith) (stopped-why m (g .state) (g .table) k q) }
     by ih (Made e s′ mark) q =
         let r = ih (going s′ (refresh (m .rules) s′ mark (g .table))) in
@@ -216,7 +216,7 @@ run-ends m (then-made q rest) (suc k) (before-that l w) = rw q (run-ends m rest 
 
 module _ (image table : List ℕ) (s : State) (asked : ℕ) where
   -- by whether the state is well formed
-  abbrev traced : Model → Bool → Run
+  abbrev traced : Model → Bool → Run Going
   traced m t = if t then runFrom m asked (going s table) else (ends ill-formed (going s table))
 
   run-row : (m : Model) (end n : ℕ) → (tracedBy (going s table) asked (Got m end) .number ≡ n) ↔ AfterRun s table asked m n
@@ -246,7 +246,7 @@ module _ (image table : List ℕ) (s : State) (asked : ℕ) where
   ends-late m (before-that l (late-wait o d e)) a b = omega arith
   ends-late m (before-that l (quiet o d)) a b = omega arith
 
-  refused-left : (r : Read Model) → let t : Run = tracedBy (going s table) asked r in 0 < t .number → t .number < 7 → t ≡ ends (t .number) (going s table)
+  refused-left : (r : Read Model) → let t : Run Going = tracedBy (going s table) asked r in 0 < t .number → t .number < 7 → t ≡ ends (t .number) (going s table)
   refused-left (Refused n at) a b = refl
   refused-left (Got m at) a b = by (wellFormed m s) a b
     where
@@ -261,7 +261,7 @@ module _ (image table : List ℕ) (s : State) (asked : ℕ) where
 
   pub trace-refused : 0 < runOf image s table asked .number → runOf image s table asked .number < 7 → traceOf image s table asked .events ≡ []
   unfolding runOf traceOf
-  trace-refused a b = ap (λ (r : Run). r .events) (refused-left (accepted image table) a b)
+  trace-refused a b = ap (λ (r : Run Going). r .events) (refused-left (accepted image table) a b)
 
 -- ---- no number is larger than 10
 

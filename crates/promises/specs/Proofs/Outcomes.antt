@@ -102,10 +102,10 @@ freshly m s = going s (freshTable (m .rules) s)
 
 -- what is promised of a run: of its answer,
 -- and of its events in their order
-abbrev Goes : Model → State → ℕ → Run → Type 0
+abbrev Goes : Model → State → ℕ → Run Going → Type 0
 Goes m s asked r = RanOn m s asked (r .events) (ranBy r)
 
-one-more : (m : Model) (s s′ : State) (e : Event) (n : ℕ) (r : Run) → Transition m s e s′ → s′ .clock ≤ largest → Goes m s′ n r
+one-more : (m : Model) (s s′ : State) (e : Event) (n : ℕ) (r : Run Going) → Transition m s e s′ → s′ .clock ≤ largest → Goes m s′ n r
     → Goes m s (suc n) (before (record { clock = s′ .clock; event = e }) r)
 one-more m s s′ e n r t c g = record { path = one-step t c (g .path); counted = refl; ended = longer (g .ended); fresh = g .fresh }
   where
@@ -136,7 +136,7 @@ run-goes m d (suc n) s = by (λ s′. run-goes m d n s′) (outcome m d s)
         (λ h. stopped-run m n s 8 (q ∙ unless-full e s′ mark h) (full (omega arith) (record { event = e; state = s′; transition = t; past = h })))
         (λ h.
         let next : runFrom m (suc n) (freshly m s) ≡ before (record { clock = s′ .clock; event = e }) (runFrom m n (freshly m s′)) = made-run m n s e s′ mark (q ∙ unless-on e s′ mark h) in
-        subst (λ (r : Run). Goes m s (suc n) r) (sym next) (one-more m s s′ e n (runFrom m n (freshly m s′)) t h (ih s′)))
+        subst (λ (r : Run Going). Goes m s (suc n) r) (sym next) (one-more m s s′ e n (runFrom m n (freshly m s′)) t h (ih s′)))
     by ih (stays k z q) = stopped-run m n s 9 q (over (omega arith) (stays-final m d s k z))
 
 -- ---- the call
@@ -150,7 +150,7 @@ pub fresh-runs : (image : List ℕ) (m : Model) (at : ℕ) → decode image ≡ 
     → RanOn m s steps (traceOf image s (freshTable (m .rules) s) steps .events) (runOf image s (freshTable (m .rules) s) steps)
 unfolding runOf
 fresh-runs image m at d s w steps =
-    subst (λ (r : Run). Goes m s steps r) (sym (fresh-traced image m at d s steps w)) (run-goes m (decoded image m at d) steps s)
+    subst (λ (r : Run Going). Goes m s steps r) (sym (fresh-traced image m at d s steps w)) (run-goes m (decoded image m at d) steps s)
 
 pub chain-runs : (image : List ℕ) (m : Model) (at : ℕ) → decode image ≡ Got m at → {s : State} {table : List ℕ} → Reached image s table
     → (steps : ℕ) → RanOn m s steps (traceOf image s table steps .events) (runOf image s table steps)
