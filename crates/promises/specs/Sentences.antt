@@ -19,7 +19,7 @@ use Rattle.meaning.specs.Step.{Event, Made, largest, stepOf}
 use Rattle.meaning.specs.Refresh.{refresh}
 use Rattle.meaning.specs.Run.{Timed}
 use Rattle.meaning.specs.Calls.{Ran}
-use Rattle.promises.specs.Published.{LeastDelay}
+use Rattle.promises.specs.Published.{LeastDelay, Transitions, Ended}
 
 -- where the reading of an image can stop, and by which number: at a field of at most 16 bits that is reached and not wholly there; at one that is wholly there
 -- (or at none, width 0, where the variables of a rule are looked at) and breaks its rule; after all fields, if a bit up to the byte's end is 1 or a byte follows
@@ -30,6 +30,17 @@ pub data Stops (image : List ℕ) (at : ℕ) : ℕ → Type 0 where
 
 -- ---- "Order: 1; then 2 and 3, the earlier in reading order; 4; 5"
 
+-- why an image is refused: what all calls look at first
+pub data Unread (image : List ℕ) : ℕ → Type 0 where
+  -- "image over 65,536 bytes"
+  over : 65536 < length image → Unread image too-long
+  -- "a field is not wholly there"
+  lacking : {at : ℕ} → length image ≤ 65536 → model image 0 ≡ Refused not-there at → Unread image not-there
+  -- "a field breaks its rule above"
+  against : {at : ℕ} → length image ≤ 65536 → model image 0 ≡ Refused bad-number at → Unread image bad-number
+  -- "a pad bit is 1, or a byte follows"
+  trailing : {at : ℕ} → length image ≤ 65536 → model image 0 ≡ Refused bad-end at → Unread image bad-end
+
 -- an image that is not too long, whose fields are all there and keep their rules, which ends as it must, and a table of nine words a rule
 pub record Taken (image table : List ℕ) (m : Model) : Type 0 where
   pub short : length image ≤ 65536
@@ -37,20 +48,19 @@ pub record Taken (image table : List ℕ) (m : Model) : Type 0 where
   pub reads : model image 0 ≡ Got m end
   pub fits : length table ≡ 9 * length (m .rules)
 
--- what all calls look at first; `after` is what a call answers with a model and a table that were taken
+-- what a call that takes a table answers; `after` is what it answers with a model and a table that were taken
 pub data Given (image table : List ℕ) (after : Model → ℕ → Type 0) : ℕ → Type 0 where
-  -- "image over 65,536 bytes"
-  over : 65536 < length image → Given image table after too-long
-  -- "a field is not wholly there"
-  lacking : {at : ℕ} → length image ≤ 65536 → model image 0 ≡ Refused not-there at → Given image table after not-there
-  -- "a field breaks its rule above"
-  against : {at : ℕ} → length image ≤ 65536 → model image 0 ≡ Refused bad-number at → Given image table after bad-number
-  -- "a pad bit is 1, or a byte follows"
-  trailing : {at : ℕ} → length image ≤ 65536 → model image 0 ≡ Refused bad-end at → Given image table after bad-end
+  -- 1 to 4
+  unread : {n : ℕ} → Unread image n → Given image table after n
   -- "table length is not 9 × rules"
   unfit : {m : Model} {end : ℕ} → length image ≤ 65536 → model image 0 ≡ Got m end → (length table ≡ 9 * length (m .rules) → ⊥) → Given image table after wrong-table
   -- none of these
   taken : {m : Model} {n : ℕ} → Taken image table m → after m n → Given image table after n
+
+-- what a call that takes no table answers: 1 to 4, or what it answers with the model
+pub data GivenBare (image : List ℕ) (after : Model → ℕ → Type 0) : ℕ → Type 0 where
+  refused : {n : ℕ} → Unread image n → GivenBare image after n
+  read : {m : Model} {end n : ℕ} → length image ≤ 65536 → model image 0 ≡ Got m end → after m n → GivenBare image after n
 
 -- ---- what follows, call by call
 
@@ -102,3 +112,9 @@ pub record RanTo (m : Model) (s : State) (table : List ℕ) (asked : ℕ) (event
   pub steps : Steps m events s table (a .state) (a .table)
   pub counted : a .made ≡ length events
   pub ended : EndsBy m asked (a .made) (a .state) (a .table) (a .number)
+
+-- the run without a table: "6", and then its steps, which are transitions of the published semantics, and why there are no more: 0, 8 or 9
+pub data AfterFresh (s : State) (asked : ℕ) (m : Model) : ℕ → Type 0 where
+  -- "state not well formed"
+  unsound : wellFormed m s ≡ false → AfterFresh s asked m ill-formed
+  moved : {es : List Timed} {s′ : State} {n : ℕ} → wellFormed m s ≡ true → Transitions m es s s′ → Ended m asked (length es) s′ n → AfterFresh s asked m n

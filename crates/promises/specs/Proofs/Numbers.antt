@@ -22,12 +22,15 @@ use Rattle.meaning.specs.Run.{Going, going, Timed, Run, ends, goOn, runFrom}
 use Rattle.meaning.specs.Calls.{accepted, tableLength, openState, openedBy, openOf, tracedBy, traceOf, ranBy, runOf, Refreshed, refreshedBy, refreshOf}
 use Rattle.laws.specs.BaseLaws.{by-lt}
 use Rattle.laws.specs.ReadLaws.{no-got}
-use Rattle.promises.specs.Sentences.{Stops, missing, broken, unended, Taken, Given, over, lacking, against, trailing, unfit, taken, AfterOpen, AfterRefresh, ill, high, renewed}
-use Rattle.promises.specs.Sentences.{stale, late-fire, late-wait, quiet, Steps, none-made, then-made, EndsBy, enough, before-that, AfterRun, unwell, went, RanTo}
+use Rattle.promises.specs.Sentences.{Stops, missing, broken, unended, Unread, over, lacking, against, trailing, Taken, Given, unread, unfit, taken, GivenBare, AfterOpen, AfterRefresh, ill, high, renewed}
+use Rattle.promises.specs.Sentences.{refused, read, stale, late-fire, late-wait, quiet, Steps, none-made, then-made, EndsBy, enough, before-that, AfterRun, unwell, went, RanTo}
 use Rattle.promises.specs.Proofs.Reading.{Onward, wants, stuck, ended, model-whole}
 use Rattle.promises.specs.Proofs.Stopping.{stopped-why, why-stopped}
 
 -- ---- an image
+
+same-refusal : (a x b y : ℕ) → _≡_ {A = Read Model} (Refused a x) (Refused b y) → a ≡ b
+same-refusal a x b y e = cc
 
 module _ (image : List ℕ) where
   pub decode-long : 65536 < length image → decode image ≡ Refused too-long 0
@@ -45,6 +48,45 @@ module _ (image : List ℕ) where
 
   pub reading-stops : (n at : ℕ) → model image 0 ≡ Refused n at → Stops image at n
   reading-stops n at e = model-whole .stops image 0 n at (omega arith) e
+
+  -- an image is refused exactly by its row
+  stopped-unread : (n at : ℕ) → length image ≤ 65536 → model image 0 ≡ Refused n at → Stops image at n → Unread image n
+  stopped-unread n at h e (missing w a b c) = lacking h e
+  stopped-unread n at h e (broken w a b) = against h e
+  stopped-unread n at h e (unended x a b) = trailing h e
+
+  pub refused-unread : (n at : ℕ) → decode image ≡ Refused n at → Unread image n
+  refused-unread n at d =
+      by-lt 65536 (length image)
+      (λ h. let q : too-long ≡ n = same-refusal too-long 0 n at (sym (decode-long h) ∙ d) in subst (Unread image) q (over h))
+      (λ h. let e : model image 0 ≡ Refused n at = sym (decode-short h) ∙ d in stopped-unread n at h e (reading-stops n at e))
+
+  pub unread-refused : {n : ℕ} → Unread image n → (at : ℕ) × (decode image ≡ Refused n at)
+  unread-refused (over h) = (0, decode-long h)
+  unread-refused (lacking {at} h e) = (at, decode-short h ∙ e)
+  unread-refused (against {at} h e) = (at, decode-short h ∙ e)
+  unread-refused (trailing {at} h e) = (at, decode-short h ∙ e)
+
+  -- by 1 to 4
+  pub unread-range : {n : ℕ} → Unread image n → (0 < n) × (n < 5)
+  unread-range (over h) = (omega arith, omega arith)
+  unread-range (lacking h e) = (omega arith, omega arith)
+  unread-range (against h e) = (omega arith, omega arith)
+  unread-range (trailing h e) = (omega arith, omega arith)
+
+  -- a call without a table that refuses by the number of what was refused, and answers otherwise by `after`, answers by its rows
+  module _ (answers : Read Model → ℕ) (after : Model → ℕ → Type 0) (refuses : (n at : ℕ) → answers (Refused n at) ≡ n)
+      (goes : (m : Model) (end : ℕ) → decode image ≡ Got m end → (n : ℕ) → (answers (Got m end) ≡ n) ↔ after m n) where
+    bare-by : (n : ℕ) (r : Read Model) → decode image ≡ r → answers r ≡ n → GivenBare image after n
+    bare-by n (Refused k at) d e = subst (GivenBare image after) (sym (refuses k at) ∙ e) (refused (refused-unread k at d))
+    bare-by n (Got m end) d e = let g = decode-got m end d in read (g .0) (g .1) (goes m end d n .0 e)
+
+    by-bare : (n : ℕ) → GivenBare image after n → answers (decode image) ≡ n
+    by-bare n (refused u) = let d = unread-refused u in ap answers (d .1) ∙ refuses n (d .0)
+    by-bare n (read {m} {end} h e a) = let d : decode image ≡ Got m end = decode-short h ∙ e in ap answers d ∙ goes m end d n .1 a
+
+    pub exactly-bare : (n : ℕ) → (answers (decode image) ≡ n) ↔ GivenBare image after n
+    exactly-bare n = (bare-by n (decode image) refl, by-bare n)
 
 -- ---- the words of a table
 
@@ -66,13 +108,9 @@ module _ (image table : List ℕ) where
   unfolding accepted
   taken-accepted {m} t = rw (decode-short image (t .short), t .reads, eq-eqb (length table) (9 * length (m .rules)) (t .fits)) refl
 
-  unread-accepted : (n at : ℕ) → length image ≤ 65536 → model image 0 ≡ Refused n at → accepted image table ≡ Refused n at
+  refused-accepted : (n at : ℕ) → decode image ≡ Refused n at → accepted image table ≡ Refused n at
   unfolding accepted
-  unread-accepted n at h e = rw (decode-short image h, e) refl
-
-  long-accepted : 65536 < length image → accepted image table ≡ Refused too-long 0
-  unfolding accepted
-  long-accepted h = rw (decode-long image h) refl
+  refused-accepted n at d = rw d refl
 
   unfit-accepted : (m : Model) (end : ℕ) → length image ≤ 65536 → model image 0 ≡ Got m end → (length table ≡ 9 * length (m .rules) → ⊥) → accepted image table ≡ Refused wrong-table 0
   unfolding accepted
@@ -80,25 +118,21 @@ module _ (image table : List ℕ) where
 
   -- which row they fall under
   data Look (after : Model → ℕ → Type 0) : Type 0 where
-    refused : (n at : ℕ) → accepted image table ≡ Refused n at → Given image table after n → Look after
+    turned : (n at : ℕ) → accepted image table ≡ Refused n at → Given image table after n → Look after
     took : (m : Model) → Taken image table m → Look after
 
   module _ (after : Model → ℕ → Type 0) where
-    stopped-look : (n at : ℕ) → length image ≤ 65536 → model image 0 ≡ Refused n at → Stops image at n → Look after
-    stopped-look n at h e (missing w a b c) = refused not-there at (unread-accepted not-there at h e) (lacking h e)
-    stopped-look n at h e (broken w a b) = refused bad-number at (unread-accepted bad-number at h e) (against h e)
-    stopped-look n at h e (unended x a b) = refused bad-end at (unread-accepted bad-end at h e) (trailing h e)
-
-    read-look : length image ≤ 65536 → (r : Read Model) → model image 0 ≡ r → Look after
-    read-look h (Refused n at) e = stopped-look n at h e (reading-stops image n at e)
-    read-look h (Got m end) e =
+    look-by : (r : Read Model) → decode image ≡ r → Look after
+    look-by (Refused n at) d = turned n at (refused-accepted n at d) (unread (refused-unread image n at d))
+    look-by (Got m end) d =
+        let g = decode-got image m end d in
         (elim (eqb (length table) (9 * length (m .rules))) as (λ t. eqb (length table) (9 * length (m .rules)) ≡ t → Look after) [
-          | true ↦ λ t. took m (record { short = h; end = end; reads = e; fits = eqb-true (length table) (9 * length (m .rules)) t })
-          | false ↦ λ t. let l = eqb-false (length table) (9 * length (m .rules)) t in refused wrong-table 0 (unfit-accepted m end h e l) (unfit h e l)
+          | true ↦ λ t. took m (accepted-taken image table m end d (eqb-true (length table) (9 * length (m .rules)) t))
+          | false ↦ λ t. let l = eqb-false (length table) (9 * length (m .rules)) t in turned wrong-table 0 (unfit-accepted m end (g .0) (g .1) l) (unfit (g .0) (g .1) l)
         ]) refl
 
     look : Look after
-    look = by-lt 65536 (length image) (λ h. refused too-long 0 (long-accepted h) (over h)) (λ h. read-look h (model image 0) refl)
+    look = look-by (decode image) refl
 
   -- a call that refuses by the number of what was refused, and answers otherwise by `after`, answers by the table
   module _ (answers : Read Model → ℕ) (after : Model → ℕ → Type 0) (refuses : (n at : ℕ) → answers (Refused n at) ≡ n)
@@ -107,14 +141,11 @@ module _ (image table : List ℕ) where
     answers-given n e = by (look after)
       where
         by : Look after → Given image table after n
-        by (refused k at q g) = subst (Given image table after) (sym (refuses k at) ∙ ap answers (sym q) ∙ e) g
+        by (turned k at q g) = subst (Given image table after) (sym (refuses k at) ∙ ap answers (sym q) ∙ e) g
         by (took m t) = taken t (goes m (t .end) n .0 (ap answers (sym (taken-accepted t)) ∙ e))
 
     given-answers : (n : ℕ) → Given image table after n → answers (accepted image table) ≡ n
-    given-answers n (over h) = ap answers (long-accepted h) ∙ refuses too-long 0
-    given-answers n (lacking {at} h e) = ap answers (unread-accepted not-there at h e) ∙ refuses not-there at
-    given-answers n (against {at} h e) = ap answers (unread-accepted bad-number at h e) ∙ refuses bad-number at
-    given-answers n (trailing {at} h e) = ap answers (unread-accepted bad-end at h e) ∙ refuses bad-end at
+    given-answers n (unread u) = let d = unread-refused image u in ap answers (refused-accepted n (d .0) (d .1)) ∙ refuses n (d .0)
     given-answers n (unfit {m} {end} h e l) = ap answers (unfit-accepted m end h e l) ∙ refuses wrong-table 0
     given-answers n (taken {m} t a) = ap answers (taken-accepted t) ∙ goes m (t .end) n .1 a
 
@@ -266,10 +297,7 @@ module _ (image table : List ℕ) (s : State) (asked : ℕ) where
 -- ---- no number is larger than 10
 
 given-small : (image table : List ℕ) (after : Model → ℕ → Type 0) → ((m : Model) (n : ℕ) → after m n → n < 11) → (n : ℕ) → Given image table after n → n < 11
-given-small image table after h n (over l) = omega arith
-given-small image table after h n (lacking l e) = omega arith
-given-small image table after h n (against l e) = omega arith
-given-small image table after h n (trailing l e) = omega arith
+given-small image table after h n (unread u) = omega (arith, unread-range image u .1)
 given-small image table after h n (unfit l e f) = omega arith
 given-small image table after h n (taken {m} t a) = h m n a
 
