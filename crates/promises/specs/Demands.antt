@@ -1,5 +1,5 @@
--- The three demands, a statement for each, over what the calls answer. Beside the definitions of `meaning` they use the table of numbers (Sentences), the published
--- semantics (Published), and what a refresh and a chain of calls are (Words).
+-- The three demands, a statement for each, over what the calls answer; and one for the run without a table. Beside the definitions of `meaning` they use the table
+-- of numbers (Sentences), the published semantics (Published), and what a refresh, a chain of calls and runs that are alike are (Words).
 use mathlib.Core.Path.{_≡_, refl, _∙_}
 use mathlib.Core.Logic.{_↔_}
 use mathlib.Core.Bool.{true, false}
@@ -14,16 +14,17 @@ use Rattle.meaning.specs.Read.{Refused, Got}
 use Rattle.meaning.specs.Image.{decode}
 use Rattle.meaning.specs.Match.{freshTable}
 use Rattle.meaning.specs.Refresh.{refresh, refreshCount}
-use Rattle.meaning.specs.Run.{Timed}
 use Rattle.meaning.specs.Calls.{tableLength, openState, openOf, Ran, traceOf, runOf, Refreshed, refreshOf}
+use Rattle.meaning.specs.Fresh.{freshTraceOf, FreshRan, freshOf}
 use Rattle.laws.specs.MatchLaws.{fresh-length}
-use Rattle.promises.specs.Words.{RefreshedTo, Machine, Reached}
-use Rattle.promises.specs.Sentences.{Taken, Given, AfterOpen, AfterRun, AfterRefresh, RanTo}
-use Rattle.promises.specs.Published.{Transitions, Ended}
+use Rattle.promises.specs.Words.{RefreshedTo, Machine, Reached, AsKept, answerOf}
+use Rattle.promises.specs.Sentences.{Taken, Given, AfterOpen, AfterRun, AfterRefresh, RanTo, GivenBare, AfterFresh}
+use Rattle.promises.specs.Published.{Follows}
 use Rattle.promises.specs.Numbers as numbers
 use Rattle.promises.specs.Semantics as semantics
 use Rattle.promises.specs.Refreshing as refreshing
 use Rattle.promises.specs.Keeping as keeping
+use Rattle.promises.specs.Fresh as fresh
 
 -- ---- 1: each call takes everything it could be handed, and does its work or refuses by a number
 
@@ -68,19 +69,10 @@ demand-1 image table =
 
 -- ---- 2: with the fresh table every step is the step of the published semantics
 
--- `events` and `a` are what the run told and answered, of so many steps asked from a state
-pub record Demand-2 (m : Model) (s : State) (asked : ℕ) (events : List Timed) (a : Ran) : Type 0 where
-  -- the steps made are transitions from the state handed in to the state given back, in the order told, each with the clock after it, and as many as counted
-  pub path : Transitions m events s (a .state)
-  pub counted : a .made ≡ length events
-  -- no others are possible: so many transitions from there are these
-  pub no-other : (es : List Timed) (s′ : State) → Transitions m es s s′ → length es ≡ a .made → (es ≡ events) × (s′ ≡ a .state)
-  -- the number says why there are no more: 0, all that were asked; 8, the next would pass the last clock; 9, there is none. It is no other number
-  pub ended : Ended m asked (a .made) (a .state) (a .number)
-
--- For every accepted image, every well-formed state of it, with its fresh table, and any number of steps.
+-- For every accepted image, every well-formed state of it, with its fresh table, and any number of steps: the steps made are transitions in the order told, as many
+-- as counted, no others are possible, and the number says why there are no more (`Published.Follows`).
 pub demand-2 : (image : List ℕ) (m : Model) (end : ℕ) → decode image ≡ Got m end → (s : State) → wellFormed m s ≡ true → (asked : ℕ)
-    → let table : List ℕ = freshTable (m .rules) s in Demand-2 m s asked (traceOf image s table asked .events) (runOf image s table asked)
+    → let table : List ℕ = freshTable (m .rules) s in let a : Ran = runOf image s table asked in Follows m s asked (traceOf image s table asked .events) (a .state) (a .made) (a .number)
 demand-2 image m end accepted s well asked =
     let ran = semantics.fresh-run image m end accepted s well asked in
     record {
@@ -116,4 +108,37 @@ demand-3 image m end accepted =
           rw (numbers.refresh-taken image (freshTable (m .rules) s) s′ mark m taken well low) (refreshing.refresh-renews (m .rules) s s′ mark same);
       opens = λ table long. rw (numbers.open-taken image table m (numbers.accepted-taken image table m end accepted long)) (refl, refl);
       keeps = λ s table r. (keeping.reached-fresh image m end accepted r, keeping.reached-well image m end accepted r, keeping.reached-machine image m end accepted r);
+    }
+
+-- ---- request 2026-02, the run without a table: the tutor, who keeps one, and the laboratory, which has none, never see different runs
+
+pub record Laboratory (image : List ℕ) (s : State) (asked : ℕ) : Type 0 where
+  -- it is the kept run handed the fresh table, its number, state and events, and so its answer
+  pub as-kept : (m : Model) (end : ℕ) → decode image ≡ Got m end → AsKept (traceOf image s (freshTable (m .rules) s) asked) (freshTraceOf image s asked)
+  pub answers-as-kept : (m : Model) (end : ℕ) → decode image ≡ Got m end → freshOf image s asked ≡ answerOf (runOf image s (freshTable (m .rules) s) asked)
+  -- a refused image gets the same number from both, the state handed in and count 0
+  pub refused-as-kept : (n at : ℕ) → decode image ≡ Refused n at → (table : List ℕ)
+      → (runOf image s table asked ≡ record { number = n; state = s; table = table; made = 0 }) × (freshOf image s asked ≡ record { number = n; state = s; made = 0 })
+  -- whatever table a caller holds after any calls, and changes of buffers that are refreshed with their mark: it is the kept run handed that table
+  pub as-held : (table : List ℕ) → Reached image s table → AsKept (traceOf image s table asked) (freshTraceOf image s asked)
+  pub answers-as-held : (table : List ℕ) → Reached image s table → freshOf image s asked ≡ answerOf (runOf image s table asked)
+  -- demand 1: each number exactly when its row holds, and no row before it; refused by 1 to 4 or 6, it gives the state back and counts nothing
+  pub answers : (n : ℕ) → (freshOf image s asked .number ≡ n) ↔ GivenBare image (AfterFresh s asked) n
+  pub leaves : 0 < freshOf image s asked .number → freshOf image s asked .number < 7 → freshOf image s asked ≡ record { number = freshOf image s asked .number; state = s; made = 0 }
+  -- demand 2, from a well-formed state
+  pub follows : (m : Model) (end : ℕ) → decode image ≡ Got m end → wellFormed m s ≡ true
+      → let a : FreshRan = freshOf image s asked in Follows m s asked (freshTraceOf image s asked .events) (a .state) (a .made) (a .number)
+
+-- For every image, every state, well formed or not, and any number of steps.
+pub laboratory : (image : List ℕ) (s : State) (asked : ℕ) → Laboratory image s asked
+laboratory image s asked =
+    record {
+      as-kept = fresh.fresh-as-kept image s asked;
+      answers-as-kept = fresh.fresh-answers image s asked;
+      refused-as-kept = fresh.refused-as-kept image s asked;
+      as-held = fresh.reached-as-kept image s asked;
+      answers-as-held = fresh.reached-answers image s asked;
+      answers = fresh.fresh-exactly image s asked;
+      leaves = fresh.fresh-refused image s asked;
+      follows = fresh.fresh-published image s asked;
     }

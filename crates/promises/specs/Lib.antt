@@ -1,5 +1,6 @@
 -- What is promised: Demands, a statement for each demand. The words of the statements are in Words, Sentences and Published; the statements in Numbers
--- (demand 1), Semantics and Filling (demand 2), Refreshing, Marking, Keeping and Clearing (demand 3); their proofs stand apart, in Proofs.
+-- (demand 1), Semantics and Filling (demand 2), Refreshing, Marking, Keeping and Clearing (demand 3), and Fresh (the run without a table); their proofs stand
+-- apart, in Proofs.
 pub mod Words
 pub mod Published
 pub mod Sentences
@@ -10,5 +11,6 @@ pub mod Keeping
 pub mod Clearing
 pub mod Semantics
 pub mod Filling
+pub mod Fresh
 pub mod Demands
 pub mod Proofs

@@ -21,3 +21,4 @@ pub mod Stopping
 pub mod Reading
 pub mod Numbers
 pub mod Machines
+pub mod Afresh

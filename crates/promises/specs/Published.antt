@@ -178,3 +178,13 @@ pub record RanOn (m : Model) (s : State) (asked : ℕ) (events : List Timed) (a 
   pub counted : a .made ≡ length events
   pub ended : Ended m asked (a .made) (a .state) (a .number)
   pub fresh : a .table ≡ freshTable (m .rules) (a .state)
+
+-- what is promised of a run, of so many steps asked from a state, that told `events` and gave back a state, a count and a number
+pub record Follows (m : Model) (s : State) (asked : ℕ) (events : List Timed) (s′ : State) (made number : ℕ) : Type 0 where
+  -- the steps made are transitions from the state handed in to the state given back, in the order told, each with the clock after it, and as many as counted
+  pub path : Transitions m events s s′
+  pub counted : made ≡ length events
+  -- no others are possible: so many transitions from there are these
+  pub no-other : (es : List Timed) (s″ : State) → Transitions m es s s″ → length es ≡ made → (es ≡ events) × (s″ ≡ s′)
+  -- the number says why there are no more: 0, all that were asked; 8, the next would pass the last clock; 9, there is none. It is no other number
+  pub ended : Ended m asked made s′ number

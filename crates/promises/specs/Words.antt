@@ -13,7 +13,9 @@ use Rattle.meaning.specs.State.{bufferOf}
 use Rattle.meaning.specs.Match.{Place, shows, matches, entryOf}
 use Rattle.meaning.specs.Step.{Event, Fired, largest}
 use Rattle.meaning.specs.Refresh.{testsMarked}
-use Rattle.meaning.specs.Calls.{openOf, runOf, refreshOf}
+use Rattle.meaning.specs.Run.{Going, Run}
+use Rattle.meaning.specs.Calls.{openOf, Ran, runOf, refreshOf}
+use Rattle.meaning.specs.Fresh.{FreshRan}
 
 -- x is number k of a list, counted from 0
 pub data At {A : Type 0} (x : A) : ℕ → List A → Type 0 where
@@ -77,3 +79,14 @@ pub record Matching (m : Model) (s : State) (k : ℕ) : Type 0 where
 pub data Touched (m : Model) (s : State) (e : Event) (s′ : State) (b : ℕ) : Type 0 where
   acted-on : {k : ℕ} {r : Rule} {a : Action} → e ≡ Fired k → At r k (m .rules) → List·Memᴰ a (r .actions) → a .buffer ≡ b → Touched m s e s′ b
   came : 0 < bufferOf s b .delay → bufferOf s′ b .delay ≡ 0 → Touched m s e s′ b
+
+-- what nobody can tell apart between a run that keeps a table and one without: the number, the state left, and the events in their order, each with the clock after
+-- it; and so the count
+pub record AsKept (kept : Run Going) (fresh : Run State) : Type 0 where
+  pub same-number : fresh .number ≡ kept .number
+  pub same-state : fresh .left ≡ kept .left .state
+  pub same-events : fresh .events ≡ kept .events
+
+-- the answer of a run that keeps a table, but for the table: number, state and count
+abbrev pub answerOf : Ran → FreshRan
+answerOf a = record { number = a .number; state = a .state; made = a .made }

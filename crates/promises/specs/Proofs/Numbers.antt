@@ -22,8 +22,8 @@ use Rattle.meaning.specs.Run.{Going, going, Timed, Run, ends, goOn, runFrom}
 use Rattle.meaning.specs.Calls.{accepted, tableLength, openState, openedBy, openOf, tracedBy, traceOf, ranBy, runOf, Refreshed, refreshedBy, refreshOf}
 use Rattle.laws.specs.BaseLaws.{by-lt}
 use Rattle.laws.specs.ReadLaws.{no-got}
-use Rattle.promises.specs.Sentences.{Stops, missing, broken, unended, Unread, over, lacking, against, trailing, Taken, Given, unread, unfit, taken, GivenBare, AfterOpen, AfterRefresh, ill, high, renewed}
-use Rattle.promises.specs.Sentences.{refused, read, stale, late-fire, late-wait, quiet, Steps, none-made, then-made, EndsBy, enough, before-that, AfterRun, unwell, went, RanTo}
+use Rattle.promises.specs.Sentences.{Stops, missing, broken, unended, Unread, over, lacking, against, trailing, Taken, Given, unread, unfit, taken, GivenBare, refused, read}
+use Rattle.promises.specs.Sentences.{AfterOpen, AfterRefresh, ill, high, renewed, stale, late-fire, late-wait, quiet, Steps, none-made, then-made, EndsBy, enough, before-that, AfterRun, unwell, went, RanTo}
 use Rattle.promises.specs.Proofs.Reading.{Onward, wants, stuck, ended, model-whole}
 use Rattle.promises.specs.Proofs.Stopping.{stopped-why, why-stopped}
 

@@ -97,7 +97,7 @@ module _ (m : Model) (d : Decoded m) (s : State) where
 
 -- ---- a run
 
-abbrev freshly : Model → State → Going
+abbrev pub freshly : Model → State → Going
 freshly m s = going s (freshTable (m .rules) s)
 
 -- what is promised of a run: of its answer,
@@ -119,13 +119,13 @@ stopped-run : (m : Model) (n : ℕ) (s : State) (number : ℕ) → stepOf m s (f
 unfolding runFrom
 stopped-run m n s number q h = rw q (record { path = no-step; counted = refl; ended = h; fresh = refl })
 
-made-run : (m : Model) (n : ℕ) (s : State) (e : Event) (s′ : State) (mark : ℕ) → stepOf m s (freshTable (m .rules) s) ≡ Made e s′ mark
+pub made-run : (m : Model) (n : ℕ) (s : State) (e : Event) (s′ : State) (mark : ℕ) → stepOf m s (freshTable (m .rules) s) ≡ Made e s′ mark
     → runFrom m (suc n) (freshly m s) ≡ before (record { clock = s′ .clock; event = e }) (runFrom m n (freshly m s′))
 unfolding runFrom
 made-run m n s e s′ mark q =
     rw q (ap (λ (t : List ℕ). before (record { clock = s′ .clock; event = e }) (runFrom m n (going s′ t))) (step-fresh m s (freshTable (m .rules) s) refl e s′ mark q))
 
-run-goes : (m : Model) (d : Decoded m) (n : ℕ) (s : State) → Goes m s n (runFrom m n (freshly m s))
+pub run-goes : (m : Model) (d : Decoded m) (n : ℕ) (s : State) → Goes m s n (runFrom m n (freshly m s))
 unfolding runFrom
 run-goes m d zero s = record { path = no-step; counted = refl; ended = done refl; fresh = refl }
 run-goes m d (suc n) s = by (λ s′. run-goes m d n s′) (outcome m d s)

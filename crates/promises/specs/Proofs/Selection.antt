@@ -184,6 +184,12 @@ module _ (rules : List Rule) (table : List ℕ) where
 
 -- ---- with the fresh table
 
+-- by whatever utilities, the entry of the chosen rule is its own
+pub chosen-own : (rules : List Rule) (us : List ℤ) (s : State) (c : Candidate) → choose rules us (freshTable rules s) ≡ some c → c .entry ≡ entryOf (c .rule) s
+chosen-own rules us s c e =
+    let h : Stands 0 rules us (freshTable rules s) c = candidate-stands 0 rules us (freshTable rules s) (choose-best rules us (freshTable rules s) c e .candidate) in
+    h .entry-is ∙ fresh-entry-at (c .rule) (h .rule-at) s
+
 module _ (m : Model) (s : State) where
   abbrev pub fresh : List ℕ
   fresh = freshTable (m .rules) s

@@ -24,12 +24,11 @@ use Rattle.meaning.specs.Wait.{sooner, soonest, wait}
 use Rattle.meaning.specs.Mark.{markOf}
 use Rattle.meaning.specs.Step.{Event, Fired, Waited, Step, Stopped, unlessPast, waitStep, stepBy, step, stepOf}
 use Rattle.laws.specs.BaseLaws.{and-left, and-right, every-member}
-use Rattle.laws.specs.ChoiceLaws.{choose-best}
 use Rattle.promises.specs.Words.{At}
 use Rattle.promises.specs.Published.{Binds, Selected, NoneSelected, Aged, Applied, LeastDelay, Passed, Transition, apply, no-rule, Final}
 use Rattle.promises.specs.Proofs.Decoded.{Decoded, rises, goodDeed, goodAction, goodRule}
 use Rattle.laws.specs.MarkLaws.{getD-change, length-change}
-use Rattle.promises.specs.Proofs.Selection.{Stands, candidate-stands, fresh-entry-at, chosen-selected, chosen-none, selected-once}
+use Rattle.promises.specs.Proofs.Selection.{chosen-own, chosen-selected, chosen-none, selected-once}
 use Rattle.promises.specs.Proofs.Steps.{fire-fresh}
 use Rattle.promises.specs.Proofs.WellFormed.{all-at}
 use Rattle.promises.specs.Proofs.Effects.{buffer-is, rises-above, done-effect, effect-done}
@@ -256,9 +255,7 @@ module _ (m : Model) (d : Decoded m) (s : State) where
   by-fire : (c : Candidate) → choose (m .rules) (utilities (m .rules)) (freshTable (m .rules) s) ≡ some c → freshStep ≡ stepBy (m .failure) (m .facts) s (some c) → Outcome
   by-fire c e q =
       let sel : Selected m s (c .number) (c .rule) = chosen-selected m s c e in
-      let st : Stands 0 (m .rules) (utilities (m .rules)) (freshTable (m .rules) s) c =
-      candidate-stands 0 (m .rules) (utilities (m .rules)) (freshTable (m .rules) s) (choose-best (m .rules) (utilities (m .rules)) (freshTable (m .rules) s) c e .candidate) in
-      let own : c .entry ≡ entryOf (c .rule) s = st .entry-is ∙ fresh-entry-at (c .rule) (st .rule-at) s in
+      let own : c .entry ≡ entryOf (c .rule) s = chosen-own (m .rules) (utilities (m .rules)) s c e in
       let s′ : State = fire (m .failure) (m .facts) (c .rule) (entryOf (c .rule) s) s in
       goes (Fired (c .number)) s′ (markOf (c .rule .actions) s s′)
       (apply (sel .matching .binding) sel (sel .matching .binds) (fire-applied (c .number) (c .rule) (sel .numbered) (sel .matching .binding) (sel .matching .binds)))
