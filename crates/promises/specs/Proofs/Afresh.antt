@@ -100,6 +100,9 @@ module _ (m : Model) (memory : List Fact) (us : List ℤ) (s : State) where
 
 -- ---- the run
 
+-- after a first step that is not made with the fresh table, nor without one,
+-- or that is made,
+-- each run is this
 module _ (m : Model) (n : ℕ) (s : State) where
   stopped-kept : (number : ℕ) → stepOf m s (freshTable (m .rules) s) ≡ Stopped number → runFrom m (suc n) (freshly m s) ≡ ends number (freshly m s)
   unfolding runFrom
@@ -134,21 +137,6 @@ alike-answers : {kept : Run Going} {fresh : Run State} → AsKept kept fresh →
 alike-answers a = rw (a .same-number, a .same-state, a .same-events) refl
 
 module _ (image : List ℕ) (s : State) (steps : ℕ) where
-  module _ (m : Model) (end : ℕ) (d : decode image ≡ Got m end) where
-    pub call-as-kept : AsKept (traceOf image s (freshTable (m .rules) s) steps) (freshTraceOf image s steps)
-    unfolding traceOf freshTraceOf accepted
-    call-as-kept =
-        rw (d, eq-eqb (length (freshTable (m .rules) s)) (9 * length (m .rules)) (fresh-length (m .rules) s))
-        (elim (wellFormed m s) as
-        (λ t. AsKept (if t then runFrom m steps (freshly m s) else (ends ill-formed (freshly m s))) (if t then freshFrom m steps s else (ends ill-formed s))) [
-          | true ↦ run-as-kept m steps s
-          | false ↦ record { same-number = refl; same-state = refl; same-events = refl }
-        ])
-
-    pub answers-as-kept : freshOf image s steps ≡ answerOf (runOf image s (freshTable (m .rules) s) steps)
-    unfolding freshOf runOf
-    answers-as-kept = alike-answers call-as-kept
-
   module _ (n at : ℕ) (d : decode image ≡ Refused n at) where
     pub kept-refuses : (table : List ℕ) → traceOf image s table steps ≡ ends n (going s table)
     unfolding traceOf accepted
@@ -164,6 +152,21 @@ module _ (image : List ℕ) (s : State) (steps : ℕ) where
 
     pub both-silent : (table : List ℕ) → (traceOf image s table steps .events ≡ []) × (freshTraceOf image s steps .events ≡ [])
     both-silent table = (ap (λ (r : Run Going). r .events) (kept-refuses table), ap (λ (r : Run State). r .events) fresh-refuses)
+
+  module _ (m : Model) (end : ℕ) (d : decode image ≡ Got m end) where
+    pub call-as-kept : AsKept (traceOf image s (freshTable (m .rules) s) steps) (freshTraceOf image s steps)
+    unfolding traceOf freshTraceOf accepted
+    call-as-kept =
+        rw (d, eq-eqb (length (freshTable (m .rules) s)) (9 * length (m .rules)) (fresh-length (m .rules) s))
+        (elim (wellFormed m s) as
+        (λ t. AsKept (if t then runFrom m steps (freshly m s) else (ends ill-formed (freshly m s))) (if t then freshFrom m steps s else (ends ill-formed s))) [
+          | true ↦ run-as-kept m steps s
+          | false ↦ record { same-number = refl; same-state = refl; same-events = refl }
+        ])
+
+    pub answers-as-kept : freshOf image s steps ≡ answerOf (runOf image s (freshTable (m .rules) s) steps)
+    unfolding freshOf runOf
+    answers-as-kept = alike-answers call-as-kept
 
 -- ---- a chain of calls is over an accepted image
 
