@@ -24,13 +24,15 @@ use Rattle.meaning.specs.Step.{Event, Fired, Waited, fireStep, step}
 use Rattle.meaning.specs.Refresh.{refresh, refreshCount}
 use Rattle.meaning.specs.Run.{runFrom}
 use Rattle.meaning.specs.Calls.{accepted, tableLength, Opened, openState, openOf, traceOf, Ran, runOf, Refreshed, refreshOf}
+use Rattle.meaning.specs.Fresh.{matched, chooseFresh, move, freshFrom, freshTraceOf, freshOf}
 use Rattle.meaning.specs.Print.{Line, Stepped, End, printed}
 
--- `unfolding everything` opens each definition of document 01
+-- `unfolding everything` opens each definition of document 01, and those of the run without a table
 unfoldable pub everything : Unit {0}
 unfolding wellFormed fieldAt field times rising header chunk fact slotsIn terms masked head test deed action body rule
     ending beginning contents model decode places valueIn matches entryOf freshTable candidates choose
-    retrieve put done deedOn change fire soonest wait markOf fireStep step refresh refreshCount accepted tableLength openState openOf runFrom traceOf runOf refreshOf printed
+    retrieve put done deedOn change fire soonest wait markOf fireStep step refresh refreshCount accepted tableLength openState openOf runFrom traceOf runOf refreshOf
+    matched chooseFresh move freshFrom freshTraceOf freshOf printed
 everything = tt
 
 -- P1's image

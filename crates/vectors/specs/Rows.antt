@@ -6,6 +6,7 @@ use Rattle.meaning.specs.declared.Buffer.{Buffer}
 use Rattle.meaning.specs.declared.State.{State}
 use Rattle.meaning.specs.Step.{Fired, Waited}
 use Rattle.meaning.specs.Calls.{Opened, openOf, Ran, runOf, Refreshed, refreshOf}
+use Rattle.meaning.specs.Fresh.{FreshRan, freshOf}
 use Rattle.meaning.specs.Print.{Line, Stepped, End, printed}
 use Rattle.meaning.specs.Examples.{Row}
 
@@ -45,6 +46,9 @@ opened o = o .number ∷ stateWords (o .state) ++ o .table
 abbrev ran : Ran → List ℕ
 ran r = r .number ∷ stateWords (r .state) ++ r .table ++ (r .made ∷ [])
 
+abbrev ranFresh : FreshRan → List ℕ
+ranFresh r = r .number ∷ stateWords (r .state) ++ (r .made ∷ [])
+
 abbrev refreshed : Refreshed → List ℕ
 refreshed r = r .number ∷ r .count ∷ r .table
 
@@ -55,13 +59,16 @@ output (Stepped clock (Fired k) ∷ ls) = 1 ∷ clock ∷ k ∷ output ls
 output (Stepped clock (Waited ms) ∷ ls) = 2 ∷ clock ∷ ms ∷ output ls
 output (End number made ∷ ls) = 3 ∷ number ∷ made ∷ output ls
 
--- ---- the four calls, with what is said
+-- ---- the five calls, with what is said
 
 abbrev pub opens : List ℕ → List ℕ → List ℕ → Row
 opens image table said = record { given = opened (openOf image table); said = said }
 
 abbrev pub runs : List ℕ → List ℕ → List ℕ → ℕ → List ℕ → Row
 runs image state table steps said = record { given = ran (runOf image (stateOf state) table steps); said = said }
+
+abbrev pub freshes : List ℕ → List ℕ → ℕ → List ℕ → Row
+freshes image state steps said = record { given = ranFresh (freshOf image (stateOf state) steps); said = said }
 
 abbrev pub refreshes : List ℕ → List ℕ → ℕ → List ℕ → List ℕ → Row
 refreshes image state mark table said = record { given = refreshed (refreshOf image (stateOf state) mark table); said = said }
