@@ -1,1 +1,2 @@
--- Proofs of the match by itself.
+-- Laws of a match by itself.
+pub mod SymbolLaws

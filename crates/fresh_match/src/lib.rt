@@ -1,25 +1,32 @@
 // One rule matched by itself: it is given up at its first slot that differs, and until a variable is met nothing is written for it.
 ghost use mathlib.Core.Path.{_≡_};
-ghost use mathlib.Core.Bool.{false};
+ghost use mathlib.Core.List.{_∷_};
 ghost use Prim.Native.Nat.{_+_, _*_, _≤_};
-ghost use lib.ListN.{length};
-ghost use Rattle.fresh_match.specs.Hits.{NoMatch, HitMet};
+ghost use lib.ListN.{length, replicate};
+ghost use Rattle.fresh_match.specs.Hits.{LookMet, HitMet};
 
-// Whether the rule whose n tests stand in words from o on is open as far as its first variable: each buffer is visible and of the test's type, and each named slot has its symbol.
+// What a look at the tests of a rule finds, as far as its first variable: something differs; all of them hold, and there is no variable; or a variable is met.
+pub enum Looked {
+    Differs,
+    Holds,
+    Meets,
+}
+
+// Looks at the n tests that stand in words from o on: whether each buffer is visible and of the test's type, and each named slot has its symbol.
 // What is left of a mask has the bit of slot b at 128, and no slot is looked at once it is 0.
-fn open_so_far(words: &[u16], o: usize, n: usize, state: &[u16]) -> bool
+fn look(words: &[u16], o: usize, n: usize, state: &[u16]) -> Looked
     requires { ⌜ (o + 11 * n ≤ length (now words)) × (80 ≤ length (now state)) ⌝ }
-    ensures { λ r. ⌜ (r ≡ false → NoMatch (now (words .entry)) o n (now (state .entry))) ⌝ }
+    ensures { λ r. ⌜ LookMet r (now (words .entry)) o n (now (state .entry)) ⌝ }
 {
     let mut q = o;
     let mut i = 0;
     'tests: while i < n {
         let k = 10 * (words[q] % 8) as usize;
         if state[k + 9] != 0 {
-            return false;
+            return Looked::Differs;
         }
         if state[k] != words[q + 1] {
-            return false;
+            return Looked::Differs;
         }
         let mut rest = words[q + 2] % 256;
         let mut b = 0;
@@ -27,10 +34,10 @@ fn open_so_far(words: &[u16], o: usize, n: usize, state: &[u16]) -> bool
             if 128 <= rest {
                 let term = words[q + 3 + b];
                 if 4096 <= term {
-                    return true;
+                    return Looked::Meets;
                 }
                 if state[k + 1 + b] != term {
-                    return false;
+                    return Looked::Differs;
                 }
             }
             rest = rest * 2 % 256;
@@ -39,7 +46,24 @@ fn open_so_far(words: &[u16], o: usize, n: usize, state: &[u16]) -> bool
         q += 11;
         i += 1;
     }
-    true
+    Looked::Holds
+}
+
+// The entry of a rule that matches and has no variable, into nine words.
+fn plain_entry(nine: &mut [u16])
+    requires { ⌜ length (now nine) ≡ 9 ⌝ }
+    ensures { λ _. ⌜ now (nine .exit) ≡ 1 ∷ replicate 8 0 ⌝ }
+{
+    layout::copy_into(nine, 0, &[1u16, 0, 0, 0, 0, 0, 0, 0, 0]);
+}
+
+// The entry of the rule whose n tests stand in words from o on, into nine words, and whether it matches.
+fn whole_match(nine: &mut [u16], words: &[u16], o: usize, n: usize, state: &[u16]) -> bool
+    requires { ⌜ (length (now nine) ≡ 9) × (o + 11 * n ≤ length (now words)) × (80 ≤ length (now state)) ⌝ }
+    ensures { λ r. ⌜ HitMet r (now (nine .exit)) (now (words .entry)) o n (now (state .entry)) ⌝ }
+{
+    match_rule::entry_into(nine, words, o, n, state);
+    nine[0] == 1
 }
 
 // Whether the rule whose n tests stand in words from o on matches; if it does, the nine words are its entry.
@@ -47,9 +71,12 @@ pub fn hits(nine: &mut [u16], words: &[u16], o: usize, n: usize, state: &[u16]) 
     requires { ⌜ (length (now nine) ≡ 9) × (o + 11 * n ≤ length (now words)) × (80 ≤ length (now state)) ⌝ }
     ensures { λ r. ⌜ HitMet r (now (nine .exit)) (now (words .entry)) o n (now (state .entry)) ⌝ }
 {
-    if !open_so_far(words, o, n, state) {
-        return false;
+    match look(words, o, n, state) {
+        Looked::Differs => false,
+        Looked::Holds => {
+            plain_entry(nine);
+            true
+        }
+        Looked::Meets => whole_match(nine, words, o, n, state),
     }
-    match_rule::entry_into(nine, words, o, n, state);
-    nine[0] == 1
 }

@@ -1,53 +1,72 @@
--- `fresh_match::hits` meets its contract: a rule that is shut does not match, and of any other the first word of its entry says it.
+-- `fresh_match::hits` meets its contract, by what the look found.
 use mathlib.Core.Path.{_≡_, sym, ap, _∙_}
-use mathlib.Core.Bool.{true, false}
 use mathlib.Core.List.{List}
 use Prim.Native.Nat.{ℕ}
 use lib.Dec.{eqb}
 use lib.ListN.{getD}
 use borrow.Author.Needs.{needs}
-use borrow.Author.Tests.{not-true}
 use Rattle.fresh_match.proofs.hits.Statement.{statement}
 use Rattle.fresh_match.proofs.hits.Tie as tie
 
 -- ---- what is asked
 
-open-so-far-requires : tie.Need-open-so-far-requires
-open-so-far-requires c κs = search needs
+look-requires : tie.Need-look-requires
+look-requires c κs = search needs
+
+enum-told : tie.Need-enum-told
+enum-told c = search needs
+
+enum-told-2 : tie.Need-enum-told-2
+enum-told-2 c = search needs
+
+plain-entry-requires : tie.Need-plain-entry-requires
+plain-entry-requires c κs = search needs
+
+enum-told-3 : tie.Need-enum-told-3
+enum-told-3 c = search needs
+
+whole-match-requires : tie.Need-whole-match-requires
+whole-match-requires c κs = search needs
 
 returns : tie.Need-returns
 returns c =
-    let o = c .before .open-so-far in
-    let none = o .ensures (not-true _ (c .if1 .taken)) in
+    let none = rw (c .enum-told .given .1) at (c .before .before .look .ensures) in
     record {
       counted = λ r clock is. sym (ap (λ (nine : List ℕ). eqb (getD nine 0 0) 1) (none r clock is));
       entered = λ e r clock is. (cc);
     }
-
-entry-into-requires : tie.Need-entry-into-requires
-entry-into-requires c κs = search needs
-
-slice-read-result : tie.Need-slice-read-result
-slice-read-result c = search needs
 
 same-length : tie.Need-same-length
 same-length c = search needs
 
 returns-2 : tie.Need-returns-2
 returns-2 c =
-    let made = c .before .before .before .entry-into .ensures in
+    let p = c .before .before in
+    let told = p .before .before in
+    let all = rw (told .enum-told2 .given .1) at (told .before .before .look .ensures) in
     record {
-      counted = λ r clock is. ap (λ (nine : List ℕ). eqb (getD nine 0 0) 1) (made r clock is);
-      entered = λ e r clock is. made r clock is;
+      counted = λ r clock is. sym (ap (λ (nine : List ℕ). eqb (getD nine 0 0) 1) (all r clock is));
+      entered = λ e r clock is. p .plain-entry .ensures ∙ sym (all r clock is);
     }
+
+same-length-2 : tie.Need-same-length-2
+same-length-2 c = search needs
+
+returns-3 : tie.Need-returns-3
+returns-3 c = c .before .before .whole-match .ensures
 
 pub hits-spec : {M : Type 1} → statement M
 hits-spec =
     tie.close
     (tie.spec
-    open-so-far-requires
+    look-requires
+    enum-told
+    enum-told-2
+    plain-entry-requires
+    enum-told-3
+    whole-match-requires
     returns
-    entry-into-requires
-    slice-read-result
     same-length
-    returns-2)
+    returns-2
+    same-length-2
+    returns-3)

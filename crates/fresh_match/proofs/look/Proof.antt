@@ -1,22 +1,40 @@
--- `fresh_match::open_so_far` meets its contract: each word at which it gives up shuts the rule.
+-- `fresh_match::look` meets its contract: each word at which it gives up shuts the rule; and as long as no variable is met, what is left of the tests gives what all give.
 use Prim.Native.Nat.{ℕ, _≤_, _<_, _-_, _*_, _+_, _%_}
-use mathlib.Core.Path.{_≡_, refl}
+use mathlib.Core.Path.{_≡_, refl, sym, ap, _∙_}
+use mathlib.Core.Bool.{true}
+use mathlib.Core.List.{List}
+use mathlib.Core.Logic.{⊎-elim}
 use borrow.Author.Needs.{needs}
 use native.Mathlib.Omega.{arith}
 use lib.ListN.{getD}
-use Rattle.read_terms.proofs.MaskWalk.{Walk, walk-start, walk-next, walk-on}
+use Rattle.meaning.specs.State.{nothing}
+use Rattle.layout.specs.Rows.{testsIn}
+use Rattle.layout.specs.StateWords.{buffersIn, stateIn}
+use Rattle.read_terms.proofs.MaskWalk.{Walk, walk-start, walk-next, walk-on, walk-off, walk-end}
+use Rattle.match_rule.specs.Run.{Vars, Run, on, thenOn, termsRun, testsRun, noVars, entryWords}
+use Rattle.match_rule.proofs.TestLaws.{left, testsFrom, slots-end, tests-end}
+use Rattle.match_rule.proofs.WordMatch.{flat-on, flat-slot, flat-skip}
+use Rattle.match_rule.proofs.Link.{entry-words}
 use Rattle.match_rule.proofs.ShutLaws.{delay-shuts, type-shuts, symbol-shuts}
-use Rattle.fresh_match.proofs.open_so_far.Statement.{statement}
-use Rattle.fresh_match.proofs.open_so_far.Tie as tie
+use Rattle.fresh_match.proofs.SymbolLaws.{symbol-on}
+use Rattle.fresh_match.proofs.look.Statement.{statement}
+use Rattle.fresh_match.proofs.look.Tie as tie
+
+-- what the tests after test i come to
+abbrev after : List ℕ → ℕ → ℕ → List ℕ → ℕ → Vars → Run
+after words o n state i u = testsRun (buffersIn state) (testsFrom words o (i + 1) (n - (i + 1))) u
 
 abbrev Inv-loop : tie.InvT-loop
 Inv-loop words o n state q i k rest₀ b₀ rest b = Walk (getD words (q + 2) 0) b rest
+    × (thenOn (termsRun (getD (buffersIn state) (getD words q 0 % 8) nothing .slots) (left words q (getD words (q + 2) 0) b) noVars) (after words o n state i)
+    ≡ testsRun (buffersIn state) (testsIn words o n) noVars)
 
 abbrev μ-loop : tie.MeasureT-loop
 μ-loop words o n state q i k rest₀ b₀ rest b = 8 - b
 
 abbrev Inv-tests : tie.InvT-tests
 Inv-tests words o n state q₀ i₀ q i = (i ≤ n) × (q ≡ o + 11 * i)
+    × (testsRun (buffersIn state) (testsFrom words o i (n - i)) noVars ≡ testsRun (buffersIn state) (testsIn words o n) noVars)
 
 abbrev μ-tests : tie.MeasureT-tests
 μ-tests words o n state q₀ i₀ q i = n - i
@@ -40,12 +58,14 @@ named c = c .before .before
 
 -- a slot is left
 low : (c : tie.In-loop Inv-loop μ-loop Inv-tests μ-tests) → c .before .loop .b < 8
-low c = omega (arith, c .loop-test .taken, c .before .loop .inv .small)
+low c = omega (arith, c .loop-test .taken, c .before .loop .inv .0 .small)
 
 -- ---- what is asked
 
 tests-holds : tie.Need-tests-holds Inv-loop μ-loop Inv-tests μ-tests
-tests-holds c = search needs
+tests-holds c =
+    let e : c .args .n - 0 ≡ c .args .n = omega arith in
+    (search needs, search needs, rw e)
 
 mul-k : tie.Need-mul-k Inv-loop μ-loop Inv-tests μ-tests
 mul-k c = search needs
@@ -73,7 +93,7 @@ returns c =
     let t = c .before .before .before in
     let l = t .before .tests in
     let a = start (t .before) .args in
-    λ e r clock is. delay-shuts (a .words .now) (a .o) (a .n) (l .i) (l .q) (l .inv .1) (t .tests-test .taken) r is (a .state .now) clock (c .if1 .taken)
+    λ r clock is. delay-shuts (a .words .now) (a .o) (a .n) (l .i) (l .q) (l .inv .1) (t .tests-test .taken) r is (a .state .now) clock (c .if1 .taken)
 
 mul-if2 : tie.Need-mul-if2 Inv-loop μ-loop Inv-tests μ-tests
 mul-if2 c = search needs
@@ -95,7 +115,7 @@ returns-2 c =
     let t = turn (c .before .before .before) in
     let l = t .before .tests in
     let a = start (t .before) .args in
-    λ e r clock is. type-shuts (a .words .now) (a .o) (a .n) (l .i) (l .q) (l .inv .1) (t .tests-test .taken) r is (a .state .now) clock (c .if2 .taken)
+    λ r clock is. type-shuts (a .words .now) (a .o) (a .n) (l .i) (l .q) (l .inv .1) (t .tests-test .taken) r is (a .state .now) clock (c .if2 .taken)
 
 add-rest : tie.Need-add-rest Inv-loop μ-loop Inv-tests μ-tests
 add-rest c = search needs
@@ -107,7 +127,14 @@ shared-slice-read-rest : tie.Need-shared-slice-read-rest Inv-loop μ-loop Inv-te
 shared-slice-read-rest c = search needs
 
 loop-holds : tie.Need-loop-holds Inv-loop μ-loop Inv-tests μ-tests
-loop-holds c = walk-start _
+loop-holds c =
+    let typed = c .before in
+    let t = turn (visible typed) in
+    let l = t .before .tests in
+    let a = start (t .before) .args in (
+      walk-start _,
+      flat-on (a .words .now) (a .state .now) (a .o) (a .n) (l .i) (l .q) noVars (l .inv .1) (t .tests-test .taken) (visible typed .if1 .left) (typed .if2 .left) ∙ l .inv .2,
+    )
 
 add-term : tie.Need-add-term Inv-loop μ-loop Inv-tests μ-tests
 add-term c = search needs
@@ -122,7 +149,7 @@ shared-slice-read-term : tie.Need-shared-slice-read-term Inv-loop μ-loop Inv-te
 shared-slice-read-term c = search needs
 
 returns-3 : tie.Need-returns-3 Inv-loop μ-loop Inv-tests μ-tests
-returns-3 c = λ e r clock is. (cc)
+returns-3 c = tt
 
 add-if5 : tie.Need-add-if5 Inv-loop μ-loop Inv-tests μ-tests
 add-if5 c = search needs
@@ -144,8 +171,8 @@ returns-4 c =
     let t = test (slot .before .before) in
     let l = t .before .tests in
     let a = start (t .before) .args in
-    let on = walk-on (m .inv) (low (slot .before)) (slot .if3 .taken) in
-    λ e r clock is.
+    let on = walk-on (m .inv .0) (low (slot .before)) (slot .if3 .taken) in
+    λ r clock is.
     symbol-shuts (a .words .now) (a .o) (a .n) (l .i) (l .q) (l .inv .1) (t .tests-test .taken) r is (m .b) (low (slot .before)) on
     (omega (arith, symbol .if4 .left)) (a .state .now) clock (c .if5 .taken)
 
@@ -159,7 +186,27 @@ loop-less : tie.Need-loop-less Inv-loop μ-loop Inv-tests μ-tests
 loop-less c = search needs
 
 loop-again : tie.Need-loop-again Inv-loop μ-loop Inv-tests μ-tests
-loop-again c = walk-next (c .before .before .loop .inv) (low (c .before))
+loop-again c =
+    let turn = c .before in
+    let m = turn .before .loop in
+    let t = test (turn .before) in
+    let l = t .before .tests in
+    let a = start (t .before) .args in
+    let w = a .words .now in
+    let mask = getD w (l .q + 2) 0 in
+    let next = walk-next (m .inv .0) (low turn) in
+    let rest = after w (a .o) (a .n) (a .state .now) (l .i) in
+    ⊎-elim
+    (λ came. (
+      next,
+      flat-slot w (a .state .now) (l .q) mask (m .b) noVars rest (low turn) (walk-on (m .inv .0) (low turn) (came .0 .taken)) true noVars
+          (symbol-on _ _ noVars (omega (arith, came .2 .left)) (came .4 .left)) noVars refl refl ∙ m .inv .1,
+    ))
+    (λ came. (
+      next,
+      flat-skip w (a .state .now) (l .q) mask (m .b) noVars rest (low turn) noVars refl (walk-off (m .inv .0) (low turn) (came .left)) ∙ m .inv .1,
+    ))
+    (c .if3 .came)
 
 add-q : tie.Need-add-q Inv-loop μ-loop Inv-tests μ-tests
 add-q c = search needs
@@ -171,13 +218,28 @@ tests-less : tie.Need-tests-less Inv-loop μ-loop Inv-tests μ-tests
 tests-less c = search needs
 
 tests-again : tie.Need-tests-again Inv-loop μ-loop Inv-tests μ-tests
-tests-again c = search needs
+tests-again c =
+    let m = c .before .loop in
+    let t = test (c .before) in
+    let l = t .before .tests in
+    let a = start (t .before) .args in
+    let w = a .words .now in (
+      search needs,
+      search needs,
+      slots-end w _ (l .q) _ (m .b) noVars (after w (a .o) (a .n) (a .state .now) (l .i)) (walk-end (m .inv .0) (omega arith)) ∙ m .inv .1,
+    )
 
 returns-5 : tie.Need-returns-5 Inv-loop μ-loop Inv-tests μ-tests
-returns-5 c = λ e r clock is. (cc)
+returns-5 c =
+    let l = c .before .tests in
+    let a = start (c .before) .args in
+    let w = a .words .now in
+    let all : on noVars ≡ testsRun (buffersIn (a .state .now)) (testsIn w (a .o) (a .n)) noVars =
+    tests-end w (buffersIn (a .state .now)) (a .o) (a .n) (l .i) (l .q) noVars (c .tests-test .left) ∙ l .inv .2 in
+    λ r clock is. sym (entry-words w (a .o) (a .n) r (stateIn (a .state .now) clock) is) ∙ ap entryWords (sym all)
 
-pub open-so-far-spec : {M : Type 1} → statement M
-open-so-far-spec =
+pub look-spec : {M : Type 1} → statement M
+look-spec =
     tie.close
     (tie.spec
     Inv-loop
