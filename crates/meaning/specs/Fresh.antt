@@ -68,7 +68,9 @@ abbrev pub moveOn : State → (State → Run State) → Move → Run State
 moveOn s next (Stays n) = ends n s
 moveOn s next (Moves e s′) = before (record { clock = s′ .clock; event = e }) (next s′)
 
--- so many steps at most
+-- so many steps at most,
+-- each from the state that the one before it left,
+-- and from nothing else
 unfoldable pub freshFrom : Model → ℕ → State → Run State
 freshFrom m zero s = ends all-done s
 freshFrom m (suc n) s = moveOn s (λ s′. freshFrom m n s′) (moveOf m s)

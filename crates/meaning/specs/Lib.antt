@@ -22,3 +22,4 @@ pub mod Print
 pub mod Examples
 pub mod Telling
 pub mod EmptySlots
+pub mod Afresh
