@@ -1,15 +1,15 @@
 -- A run by what was decoded, and of a model that stands in words.
 use Prim.Native.Nat.{ℕ}
-use mathlib.Core.Path.{_≡_, refl, sym, ap, _∙_}
+use mathlib.Core.Path.{_≡_, sym, _∙_}
 use mathlib.Core.Bool.{Bool, true, false}
 use mathlib.Core.List.{List}
 use Rattle.meaning.specs.declared.State.{State}
 use Rattle.meaning.specs.Model.{Model}
 use Rattle.meaning.specs.State.{wellFormed}
-use Rattle.meaning.specs.Read.{Read, Refused, Got}
+use Rattle.meaning.specs.Read.{Refused, Got}
 use Rattle.meaning.specs.Image.{decode}
-use Rattle.meaning.specs.Run.{Run, ends}
-use Rattle.meaning.specs.Fresh.{FreshRan, freshRanBy, freshBy}
+use Rattle.meaning.specs.Run.{ends}
+use Rattle.meaning.specs.Fresh.{freshRanBy}
 use Rattle.layout.specs.declared.Walk.{Walk}
 use Rattle.layout.specs.declared.Walk.the-variants.{Next, Bad}
 use Rattle.layout.specs.declared.Plan.{Plan}

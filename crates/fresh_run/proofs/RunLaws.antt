@@ -15,7 +15,7 @@ use Rattle.step_note.specs.Events.{eventBy, noted}
 use Rattle.step_note.proofs.NoteLaws.{worded}
 use Rattle.step_note.proofs.TurnLaws as turns
 use Rattle.fresh_step.specs.declared.Moved.{Moved}
-use Rattle.fresh_step.specs.Moves.{moveIn, MoveMet}
+use Rattle.fresh_step.specs.Moves.{MoveMet}
 use Rattle.fresh_run.specs.Went.{WentMet}
 
 -- what a run gives: number, state and count

@@ -1,6 +1,6 @@
 -- A step by its cases: what each answer of the code needs to be the step that the definitions give.
 use Prim.Native.Nat.{ℕ, zero, suc, _+_, _≤_, _<_}
-use mathlib.Core.Path.{_≡_, refl, sym, ap, _∙_}
+use mathlib.Core.Path.{_≡_, refl, sym}
 use mathlib.Core.List.{List}
 use native.Mathlib.Omega.{arith}
 use borrow.Author.Tests.{le-leb, lt-leb}
@@ -10,7 +10,7 @@ use Rattle.meaning.specs.Model.{Rule, Fact}
 use Rattle.meaning.specs.Choice.{utilities}
 use Rattle.meaning.specs.Fire.{fire}
 use Rattle.meaning.specs.Wait.{soonest, wait}
-use Rattle.meaning.specs.Step.{Event, Fired, Waited, largest}
+use Rattle.meaning.specs.Step.{Fired, Waited, largest}
 use Rattle.meaning.specs.Fresh.{Move, Stays, movesTo, waitFresh, chooseFresh, move, moveOf}
 use Rattle.layout.specs.Rows.{ruleIn}
 use Rattle.layout.specs.declared.Plan.{Plan}
@@ -88,7 +88,6 @@ module _ (p : Plan) (tape : List ℕ) {r : Chosen} {a : Moved} {w w′ : List �
   unfolding move modelOn
   step-fires k g nine entered s =
       let entry = (rw g at entered) clock in
-      let fires : Move → Type 0 = λ m. MoveMet m a w w′ clock in
       rw (e, g, ← entry) s
 
   pub step-waits : r ≡ chosen.NoRule → MoveMet (waitFresh (stateIn w clock) (soonest 0 (buffersIn w))) a w w′ clock → MoveMet (moveOf (modelOn p tape) (stateIn w clock)) a w w′ clock

@@ -13,7 +13,7 @@ use Rattle.meaning.specs.Fresh.{FreshRan, freshBy, freshRanBy, freshTraceOf, fr
 use Rattle.step_note.specs.Events.{inscribed}
 use Rattle.jirvuntsag.specs.Words.{stateOf, wordsOf, fits, unfitState, givenBy}
 use Rattle.jirvuntsag.specs.Told.{answer, unfitBy}
-use Rattle.jirvuntsag.specs.Fresh.{FreshTold, freshTold, toldFresh, freshIn, freshEventsIn}
+use Rattle.jirvuntsag.specs.Fresh.{freshTold, toldFresh, freshIn, freshEventsIn}
 use Rattle.jirvuntsag.proofs.ToldLaws.{unfit, answer-none}
 
 -- what the call answers on the unfit state

@@ -1,12 +1,12 @@
 -- The order as it is laid on the tape, and how the chains stay while it is.
-use Prim.Native.Nat.{ℕ, _+_, _-_, _*_, _≤_}
-use mathlib.Core.Path.{_≡_, refl, sym, ap, _∙_}
+use Prim.Native.Nat.{ℕ, _+_, _-_, _≤_}
+use mathlib.Core.Path.{_≡_, ap, _∙_}
 use mathlib.Core.List.{List, _++_}
 use native.Mathlib.Omega.{arith}
 use lib.ListN.{length, take, drop, length-drop}
 use borrow.Rule.Slice.PartMut.{same-len-mid}
 use Rattle.layout.specs.declared.Plan.{Plan}
-use Rattle.layout.specs.Plans.{headsOn, modelOn, Planned}
+use Rattle.layout.specs.Plans.{headsOn, Planned}
 use Rattle.layout.proofs.WordLaws.{part-put, part-below, part-own}
 use Rattle.layout.proofs.PlanLaws.{sections}
 use Rattle.layout.proofs.KeptLaws.{begin-alike, same-below, follows, same-facts, same-heads, model-kept, planned-kept}

@@ -1,6 +1,6 @@
 -- One turn of a run: a step more, and what is left gives what the whole gives.
 use Prim.Native.Nat.{ℕ, suc, _+_, _-_, _≤_, _<_}
-use mathlib.Core.Path.{_≡_, refl, sym, ap, ap₂, _∙_}
+use mathlib.Core.Path.{_≡_, refl, sym, ap, _∙_}
 use mathlib.Core.Bool.{Bool}
 use mathlib.Core.List.{List, [], _∷_}
 use native.Mathlib.Omega.{arith}
@@ -10,7 +10,7 @@ use Rattle.meaning.specs.Base.{if_then_else_}
 use Rattle.meaning.specs.Model.{Model}
 use Rattle.meaning.specs.Step.{Step, Stopped, Made, stepOf}
 use Rattle.meaning.specs.Refresh.{refresh}
-use Rattle.meaning.specs.Run.{Going, going, Timed, Run, goOn, runFrom}
+use Rattle.meaning.specs.Run.{Going, going, Timed, goOn, runFrom}
 use Rattle.meaning.specs.Calls.{Ran}
 use Rattle.layout.specs.StateWords.{stateIn}
 use Rattle.step_note.specs.Events.{eventBy, noted}

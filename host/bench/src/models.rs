@@ -23,18 +23,34 @@ pub struct Measured {
     pub image: Vec<u8>,
     /// Steps asked of a run.
     pub steps: u16,
+    /// First steps of a short run that are measured apart and taken off, so that the others alone count.
+    apart: u16,
 }
 
 impl Measured {
     /// The same model with a run of so many steps.
     pub fn with_steps(&self, steps: u16) -> Measured {
-        Measured { name: self.name.clone(), image: self.image.clone(), steps }
+        Measured { name: self.name.clone(), image: self.image.clone(), steps, apart: self.apart }
+    }
+
+    /// How many of so many steps are measured apart and taken off: a tenth of a long run; 0 where a run is measured whole.
+    pub fn apart(&self, steps: u16) -> u16 {
+        if steps < STEPS {
+            self.apart
+        } else {
+            steps / 10
+        }
     }
 }
 
-/// A model under a name.
+/// A model under a name; a short run is measured whole.
 fn model(name: &str, steps: u16, spec: &ModelSpec) -> Measured {
-    Measured { name: name.to_string(), image: pack(spec), steps }
+    Measured { name: name.to_string(), image: pack(spec), steps, apart: 0 }
+}
+
+/// The steps of model A's run but for its first.
+fn steps_of_model_a() -> Measured {
+    Measured { apart: 1, ..model("model A, steps 2 to 7", 7, &model_a()) }
 }
 
 /// Those that the engines are compared on.
@@ -63,6 +79,7 @@ pub fn growing() -> Vec<Vec<Measured>> {
     let rules = &[32, 128, RULES];
     let steps = |asked| model(&format!("counting, 500 facts, steps asked: {asked}"), asked, &counting(500));
     vec![
+        vec![steps_of_model_a()],
         sizes("counting, {} facts", &[32, 128, 500], counting),
         sizes("all of {} rules touched", &[1, 2, 4, 8, 16, 32, 128, RULES], |all| tokens(all, FIRST)),
         sizes("all of {} rules touched, last test differs", rules, |all| tokens(all, LAST)),

@@ -3,10 +3,6 @@
 use crate::opened::Opened;
 use crate::timing::{Span, Times};
 
-/// Steps from which on a run is measured less its first tenth, so that nothing but steps counts; a shorter run is measured
-/// whole.
-const LONG: u16 = 1_000;
-
 /// Ways that are timed in turn.
 #[derive(Default)]
 pub struct Ways<'a> {
@@ -20,19 +16,17 @@ impl<'a> Ways<'a> {
         self.all.len() - 1
     }
 
-    /// Adds what a step of a run is measured by: the run, and its first tenth if it is long.
+    /// Adds what a step of a run is measured by: the run, and its first steps where these are measured apart.
     pub fn span<W: FnMut() + 'a>(
         &mut self,
         run: impl Fn(&'a Opened<'a>, u16) -> W,
         opened: &'a Opened<'a>,
         steps: u16,
     ) -> Span {
-        let tenth = steps / 10;
+        let first = opened.model.apart(steps);
         let whole = self.add(run(opened, steps));
-        if steps < LONG {
-            return Span { run: whole, less: None, steps };
-        }
-        Span { run: whole, less: Some(self.add(run(opened, tenth))), steps: steps - tenth }
+        let less = (first > 0).then(|| self.add(run(opened, first)));
+        Span { run: whole, less, steps: steps - first }
     }
 
     /// Times them.

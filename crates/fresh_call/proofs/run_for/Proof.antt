@@ -1,6 +1,6 @@
 -- `fresh_call::run_for` meets its contract: the state is judged, and then the model that stands on the tape runs.
 use Prim.Native.Nat.{ℕ, _≤_, _+_}
-use mathlib.Core.Path.{_≡_, refl, sym}
+use mathlib.Core.Path.{refl, sym}
 use mathlib.Core.List.{List}
 use borrow.Author.Tests.{not-true, not-false}
 use native.Mathlib.Omega.{arith}

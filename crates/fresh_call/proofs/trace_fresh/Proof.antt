@@ -1,7 +1,6 @@
 -- `fresh_call::trace_fresh` meets its contract: on either tape, the run that is asked for.
 use Rattle.meaning.specs.Fresh.{freshTraceOf, freshOf}
 use borrow.Author.Needs.{needs}
-use native.Mathlib.Omega.{arith}
 use Rattle.fresh_call.proofs.trace_fresh.Statement.{statement}
 use Rattle.fresh_call.proofs.trace_fresh.Tie as tie
 

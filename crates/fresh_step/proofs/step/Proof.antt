@@ -1,16 +1,13 @@
 -- `fresh_step::step` meets its contract: the best of the matching rules fires with its entry, or time passes.
-use Prim.Native.Nat.{ℕ, _*_, _+_}
+use Prim.Native.Nat.{ℕ}
 use mathlib.Core.Path.{_≡_, refl}
 use mathlib.Core.List.{List}
-use native.Mathlib.Omega.{arith}
 use borrow.Author.Needs.{needs}
-use lib.ListN.{length}
 use Rattle.meaning.specs.Choice.{utilities}
 use Rattle.meaning.specs.Fresh.{chooseFresh}
 use Rattle.layout.specs.StateWords.{stateIn}
 use Rattle.layout.specs.Plans.{headsOn, rowsOn, rulesOn}
-use Rattle.layout.proofs.PlanLaws.{Sections, sections, to-end}
-use Rattle.match_best.specs.Chosen.{Below}
+use Rattle.layout.proofs.PlanLaws.{sections, to-end}
 use Rattle.fresh_best.specs.Matched.{matchedOf, Entered}
 use Rattle.fresh_step.proofs.MoveLaws.{rule-below, step-fires, step-waits}
 use Rattle.fresh_step.proofs.step.Statement.{statement}

@@ -1,5 +1,4 @@
 -- `fresh_step::wait` meets its contract: the soonest delay is waited for, if there is one and the clock has room.
-use Prim.Native.Nat.{_+_}
 use native.Mathlib.Omega.{arith}
 use Rattle.fresh_step.proofs.MoveLaws.{nothing-pending, wait-full, waited}
 use borrow.Author.Needs.{needs}
