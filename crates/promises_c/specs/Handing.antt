@@ -8,9 +8,12 @@ use Rattle.meaning.specs.Base.{bit}
 use Rattle.meaning.specs.Step.{largest}
 use Rattle.meaning.specs.Run.{Timed}
 use Rattle.meaning.specs.Calls.{Ran}
-use Rattle.step_note.specs.Events.{eventWords}
+use Rattle.step_note.specs.Events.{eventWords, inscribed}
+use Rattle.call_run.specs.declared.RunDone.{RunDone}
+use Rattle.fresh_call.specs.declared.FreshDone.{FreshDone}
 use Rattle.jirvuntsag.specs.Words.{stateOf}
-use Rattle.jirvuntsag.specs.Told.{Told, openIn, runIn, refreshIn}
+use Rattle.jirvuntsag.specs.Told.{Told, openIn, runIn, refreshIn, eventsIn}
+use Rattle.jirvuntsag.specs.Fresh.{freshIn, freshEventsIn}
 
 -- an answer is the number and 65,536 times a count (JIRVUNTSAG_NUMBER and JIRVUNTSAG_COUNT of the header)
 abbrev pub numberIn : ℕ → ℕ
@@ -49,3 +52,15 @@ layEvents [] (e ∷ es) = []
 layEvents (a ∷ []) (e ∷ es) = a ∷ []
 layEvents (a ∷ b ∷ []) (e ∷ es) = a ∷ b ∷ []
 layEvents (a ∷ b ∷ c ∷ rest) (e ∷ es) = eventWords (e .clock) (e .event) ++ layEvents rest es
+
+-- a kept run and a run without a table gave back the same
+pub record SameDone (kept : RunDone) (fresh : FreshDone) : Type 0 where
+  pub same-number : fresh .number ≡ kept .number
+  pub same-state : fresh .state ≡ kept .state
+  pub same-count : fresh .made ≡ kept .made
+
+-- the same for C, where the number and the count are the answer: the answer, every word of the state, and every word of those lent for the events
+pub record SameTold (image w table : List ℕ) (steps : ℕ) : Type 0 where
+  pub same-answer : freshIn image w steps .answered ≡ runIn image w table steps .answered
+  pub same-words : freshIn image w steps .words ≡ runIn image w table steps .words
+  pub same-lent : (lent : List ℕ) → inscribed lent 0 (freshEventsIn image w steps) ≡ inscribed lent 0 (eventsIn image w table steps)

@@ -1,5 +1,6 @@
--- What is promised of the calls for C: the words of the statements in Handing, the statements in Holding and Noting; their proofs stand apart, in Proofs.
+-- What is promised of the calls for C: the words of the statements in Handing, the statements in Holding, Noting and Alike; their proofs stand apart, in Proofs.
 pub mod Handing
 pub mod Holding
 pub mod Noting
+pub mod Alike
 pub mod Proofs

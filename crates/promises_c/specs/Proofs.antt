@@ -2,3 +2,4 @@
 pub mod Back
 pub mod Calling
 pub mod Noted
+pub mod Alike

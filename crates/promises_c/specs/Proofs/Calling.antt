@@ -31,10 +31,10 @@ use Rattle.promises_c.specs.Proofs.Back.{state-back, same-buffer, words-
 
 -- ---- an answer taken apart
 
-number-of : (n k : ℕ) → n < 11 → numberIn (answer n k) ≡ n
+pub number-of : (n k : ℕ) → n < 11 → numberIn (answer n k) ≡ n
 number-of n k h = omega arith
 
-count-of : (n k : ℕ) → n < 11 → countIn (answer n k) ≡ k
+pub count-of : (n k : ℕ) → n < 11 → countIn (answer n k) ≡ k
 count-of n k h = omega arith
 
 -- ---- words too large for their fields
@@ -47,7 +47,7 @@ unfit-small image table = by (accepted image table) (open-small image table)
     by (Refused n at) h = h
     by (Got m at) h = omega arith
 
-unfit-run : (image w table : List ℕ) (steps : ℕ) → fits w ≡ false → runIn image w table steps ≡ told (unfitBy (accepted image table)) w table
+pub unfit-run : (image w table : List ℕ) (steps : ℕ) → fits w ≡ false → runIn image w table steps ≡ told (unfitBy (accepted image table)) w table
 unfolding runIn
 unfit-run image w table steps f = rw f refl
 
@@ -63,7 +63,7 @@ refresh-six image w table mark m t f = unfit-refresh image w table mark f ∙ ap
 
 -- ---- words that fit
 
-fit-run : (image w table : List ℕ) (steps : ℕ) → fits w ≡ true → runIn image w table steps ≡ toldRun (runOf image (stateOf w) table steps)
+pub fit-run : (image w table : List ℕ) (steps : ℕ) → fits w ≡ true → runIn image w table steps ≡ toldRun (runOf image (stateOf w) table steps)
 unfolding runIn
 fit-run image w table steps f = rw f refl
 
@@ -77,7 +77,7 @@ by-bool : {C : Type 0} (t : Bool) → (t ≡ true → C) → (t ≡ false → C)
 by-bool true f g = f refl
 by-bool false f g = g refl
 
-by-fits : {C : Type 0} (w : List ℕ) → (fits w ≡ true → C) → (fits w ≡ false → C) → C
+pub by-fits : {C : Type 0} (w : List ℕ) → (fits w ≡ true → C) → (fits w ≡ false → C) → C
 by-fits w f g = by-bool (fits w) f g
 
 module _ (image w table : List ℕ) where
@@ -145,11 +145,11 @@ open-leaves image table h =
 
 -- ---- the events of a refused run
 
-fit-events : (image w table : List ℕ) (steps : ℕ) → fits w ≡ true → eventsIn image w table steps ≡ traceOf image (stateOf w) table steps .events
+pub fit-events : (image w table : List ℕ) (steps : ℕ) → fits w ≡ true → eventsIn image w table steps ≡ traceOf image (stateOf w) table steps .events
 unfolding eventsIn
 fit-events image w table steps f = rw f refl
 
-unfit-events : (image w table : List ℕ) (steps : ℕ) → fits w ≡ false → eventsIn image w table steps ≡ []
+pub unfit-events : (image w table : List ℕ) (steps : ℕ) → fits w ≡ false → eventsIn image w table steps ≡ []
 unfolding eventsIn
 unfit-events image w table steps f = rw f refl
 

@@ -1,0 +1,81 @@
+-- The run without a table (request 2026-02) over what the calls give back and leave: nobody can tell it from the kept run that is handed the fresh table.
+use mathlib.Core.Path.{_≡_}
+use mathlib.Core.Bool.{false, _&&_}
+use mathlib.Core.List.{List}
+use Prim.Native.Nat.{ℕ, _*_}
+use lib.ListN.{length}
+use Rattle.meaning.specs.declared.State.{State}
+use Rattle.meaning.specs.Numbers.{ill-formed}
+use Rattle.meaning.specs.Model.{Model}
+use Rattle.meaning.specs.State.{wellFormed}
+use Rattle.meaning.specs.Read.{Refused, Got}
+use Rattle.meaning.specs.Image.{decode}
+use Rattle.meaning.specs.Match.{freshTable}
+use Rattle.meaning.specs.Calls.{traceOf, runOf}
+use Rattle.meaning.specs.Fresh.{freshTraceOf, freshOf}
+use Rattle.step_note.specs.Events.{inscribed}
+use Rattle.call_run.specs.declared.RunDone.{RunDone}
+use Rattle.call_run.specs.Answers.{ranBack}
+use Rattle.fresh_call.specs.declared.FreshDone.{FreshDone}
+use Rattle.fresh_call.specs.Answers.{freshBack}
+use Rattle.jirvuntsag.specs.Words.{stateOf, fits}
+use Rattle.jirvuntsag.specs.Told.{told, runIn}
+use Rattle.promises.specs.Words.{Reached}
+use Rattle.promises_c.specs.Handing.{Held, SameDone, SameTold}
+use Rattle.promises_c.specs.Proofs.Alike as alike
+
+-- ---- the calls in Rattle: any image, state, table and number of steps
+
+module _ (image : List ℕ) (s : State) (table : List ℕ) (steps : ℕ) where
+  -- Whatever `calls::run` and `calls::run_fresh` give back, as long as each keeps its contract:
+  module _ (r : RunDone) (left : List ℕ) (r′ : FreshDone) (kept : ranBack r left ≡ runOf image s table steps) (fresh : freshBack r′ ≡ freshOf image s steps) where
+    -- for an accepted image and the fresh table, the same number, state and count;
+    pub done-alike : (m : Model) (end : ℕ) → decode image ≡ Got m end → table ≡ freshTable (m .rules) s → SameDone r r′
+    done-alike m end accepted e = alike.done-alike image s table steps r left r′ kept fresh m end accepted e
+
+    -- for an accepted image and a state that is not well formed, 6 from both, whatever table of the right length;
+    pub done-unwell : (m : Model) (end : ℕ) → decode image ≡ Got m end → wellFormed m s ≡ false → length table ≡ 9 * length (m .rules) → (r .number ≡ ill-formed) × SameDone r r′
+    done-unwell m end accepted ill long = alike.done-unwell image s table steps r left r′ kept fresh m end accepted ill long
+
+    -- for a refused image its number from both, whatever table;
+    pub done-refused : (n at : ℕ) → decode image ≡ Refused n at → (r .number ≡ n) × SameDone r r′
+    done-refused n at unread = alike.done-refused image s table steps r left r′ kept fresh n at unread
+
+    -- and after a chain of calls, whatever table is held then, the same number, state and count.
+    pub done-reached : Reached image s table → SameDone r r′
+    done-reached reached = alike.done-reached image s table steps r left r′ kept fresh reached
+
+  -- Whatever `calls::trace` and `calls::trace_fresh` leave in the words lent to each, if these were the same: every word is the same then.
+  module _ (lent noted noted′ : List ℕ) (kept : noted ≡ inscribed lent 0 (traceOf image s table steps .events)) (fresh : noted′ ≡ inscribed lent 0 (freshTraceOf image s steps .events)) where
+    pub lent-alike : (m : Model) (end : ℕ) → decode image ≡ Got m end → table ≡ freshTable (m .rules) s → noted′ ≡ noted
+    lent-alike m end accepted e = alike.lent-alike image s table steps lent noted noted′ kept fresh m end accepted e
+
+    -- Refused, each leaves them as they were.
+    pub lent-unwell : (m : Model) (end : ℕ) → decode image ≡ Got m end → wellFormed m s ≡ false → length table ≡ 9 * length (m .rules) → (noted ≡ lent) × (noted′ ≡ lent)
+    lent-unwell m end accepted ill long = alike.lent-unwell image s table steps lent noted noted′ kept fresh m end accepted ill long
+
+    pub lent-refused : (n at : ℕ) → decode image ≡ Refused n at → (noted ≡ lent) × (noted′ ≡ lent)
+    lent-refused n at unread = alike.lent-refused image s table steps lent noted noted′ kept fresh n at unread
+
+    pub lent-reached : Reached image s table → noted′ ≡ noted
+    lent-reached reached = alike.lent-reached image s table steps lent noted noted′ kept fresh reached
+
+-- ---- the calls for C: any words for a state, well formed or not, each fitting its field or not, and any number of steps
+
+module _ (image w : List ℕ) (steps : ℕ) where
+  -- For an accepted image, handed the fresh table of the state in the words: the same answer, the same words of the state and of the events.
+  pub told-alike : (m : Model) (end : ℕ) → decode image ≡ Got m end → SameTold image w (freshTable (m .rules) (stateOf w)) steps
+  told-alike m end accepted = alike.told-alike image w steps m end accepted
+
+  -- Where a word does not fit, or the state is not well formed, any table of the right length does: 6 from both, and all words stay.
+  pub told-unwell : (m : Model) (end : ℕ) → decode image ≡ Got m end → length w ≡ 81 → (fits w && wellFormed m (stateOf w)) ≡ false
+      → (table : List ℕ) → length table ≡ 9 * length (m .rules) → (runIn image w table steps ≡ told ill-formed w table) × SameTold image w table steps
+  told-unwell m end accepted l ill table long = alike.told-unwell image w steps m end accepted l ill table long
+
+  -- A refused image gets its number from both, whatever table, and all words stay.
+  pub told-refused : (n at : ℕ) → decode image ≡ Refused n at → length w ≡ 81 → (table : List ℕ) → (runIn image w table steps ≡ told n w table) × SameTold image w table steps
+  told-refused n at unread l table = alike.told-refused image w steps n at unread l table
+
+  -- After an accepted opening, and any calls and changes of the words that are refreshed with their mark: the same as with whatever table is held, word for word.
+  pub told-held : (table : List ℕ) → Held image w table → SameTold image w table steps
+  told-held table held = alike.told-held image w steps table held
