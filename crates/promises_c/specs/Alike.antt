@@ -1,9 +1,9 @@
 -- The run without a table (request 2026-02) over what the calls give back and leave: nobody can tell it from the kept run that is handed the fresh table.
 use mathlib.Core.Path.{_≡_}
-use mathlib.Core.Bool.{false, _&&_}
+use mathlib.Core.Bool.{true, false, _&&_}
 use mathlib.Core.List.{List}
-use Prim.Native.Nat.{ℕ, _*_}
-use lib.ListN.{length}
+use Prim.Native.Nat.{ℕ, _*_, _≤_, _<_}
+use lib.ListN.{length, getD}
 use Rattle.meaning.specs.declared.State.{State}
 use Rattle.meaning.specs.Numbers.{ill-formed}
 use Rattle.meaning.specs.Model.{Model}
@@ -11,8 +11,9 @@ use Rattle.meaning.specs.State.{wellFormed}
 use Rattle.meaning.specs.Read.{Refused, Got}
 use Rattle.meaning.specs.Image.{decode}
 use Rattle.meaning.specs.Match.{freshTable}
+use Rattle.meaning.specs.Step.{largest}
 use Rattle.meaning.specs.Calls.{traceOf, runOf}
-use Rattle.meaning.specs.Fresh.{freshTraceOf, freshOf}
+use Rattle.meaning.specs.Fresh.{freshTraceOf, FreshRan, freshOf}
 use Rattle.step_note.specs.Events.{inscribed}
 use Rattle.call_run.specs.declared.RunDone.{RunDone}
 use Rattle.call_run.specs.Answers.{ranBack}
@@ -20,14 +21,17 @@ use Rattle.fresh_call.specs.declared.FreshDone.{FreshDone}
 use Rattle.fresh_call.specs.Answers.{freshBack}
 use Rattle.jirvuntsag.specs.Words.{stateOf, fits}
 use Rattle.jirvuntsag.specs.Told.{told, runIn}
+use Rattle.jirvuntsag.specs.Fresh.{FreshTold, freshIn, freshEventsIn}
 use Rattle.promises.specs.Words.{Reached}
-use Rattle.promises_c.specs.Handing.{Held, SameDone, SameTold}
+use Rattle.promises.specs.Published.{Follows}
+use Rattle.promises_c.specs.Handing.{numberIn, countIn, freshRanIn, Held, FreshLeaves, layEvents, SameDone, SameTold}
 use Rattle.promises_c.specs.Proofs.Alike as alike
+use Rattle.promises_c.specs.Proofs.Alone as alone
 
 -- ---- the calls in Rattle: any image, state, table and number of steps
 
 module _ (image : List ℕ) (s : State) (table : List ℕ) (steps : ℕ) where
-  -- Whatever `calls::run` and `calls::run_fresh` give back, as long as each keeps its contract:
+  -- Whatever `calls::run` and `calls::run_fresh` give back (or `trace` and `trace_fresh`), as long as each keeps its contract:
   module _ (r : RunDone) (left : List ℕ) (r′ : FreshDone) (kept : ranBack r left ≡ runOf image s table steps) (fresh : freshBack r′ ≡ freshOf image s steps) where
     -- for an accepted image and the fresh table, the same number, state and count;
     pub done-alike : (m : Model) (end : ℕ) → decode image ≡ Got m end → table ≡ freshTable (m .rules) s → SameDone r r′
@@ -45,18 +49,20 @@ module _ (image : List ℕ) (s : State) (table : List ℕ) (steps : ℕ) where
     pub done-reached : Reached image s table → SameDone r r′
     done-reached reached = alike.done-reached image s table steps r left r′ kept fresh reached
 
-  -- Whatever `calls::trace` and `calls::trace_fresh` leave in the words lent to each, if these were the same: every word is the same then.
+  -- Whatever `calls::trace` and `calls::trace_fresh` leave in the words lent to each, if these were the same, as long as each keeps its contract:
   module _ (lent noted noted′ : List ℕ) (kept : noted ≡ inscribed lent 0 (traceOf image s table steps .events)) (fresh : noted′ ≡ inscribed lent 0 (freshTraceOf image s steps .events)) where
+    -- for an accepted image and the fresh table, every word is the same then;
     pub lent-alike : (m : Model) (end : ℕ) → decode image ≡ Got m end → table ≡ freshTable (m .rules) s → noted′ ≡ noted
     lent-alike m end accepted e = alike.lent-alike image s table steps lent noted noted′ kept fresh m end accepted e
 
-    -- Refused, each leaves them as they were.
+    -- for a state that is not well formed, and for a refused image, each leaves every word as it was;
     pub lent-unwell : (m : Model) (end : ℕ) → decode image ≡ Got m end → wellFormed m s ≡ false → length table ≡ 9 * length (m .rules) → (noted ≡ lent) × (noted′ ≡ lent)
     lent-unwell m end accepted ill long = alike.lent-unwell image s table steps lent noted noted′ kept fresh m end accepted ill long
 
     pub lent-refused : (n at : ℕ) → decode image ≡ Refused n at → (noted ≡ lent) × (noted′ ≡ lent)
     lent-refused n at unread = alike.lent-refused image s table steps lent noted noted′ kept fresh n at unread
 
+    -- and after a chain of calls, whatever table is held then, every word is the same.
     pub lent-reached : Reached image s table → noted′ ≡ noted
     lent-reached reached = alike.lent-reached image s table steps lent noted noted′ kept fresh reached
 
@@ -79,3 +85,33 @@ module _ (image w : List ℕ) (steps : ℕ) where
   -- After an accepted opening, and any calls and changes of the words that are refreshed with their mark: the same as with whatever table is held, word for word.
   pub told-held : (table : List ℕ) → Held image w table → SameTold image w table steps
   told-held table held = alike.told-held image w steps table held
+
+  -- ---- its answer by itself
+
+  -- The number read off the answer is never 5 or 7, which "have no meaning here", nor 10 or larger;
+  pub fresh-numbers : let n : ℕ = numberIn (freshIn image w steps .answered) in (n ≡ 5 → ⊥) × (n ≡ 7 → ⊥) × (n < 10)
+  fresh-numbers = alone.numbers image w steps
+
+  -- and the count is no more than the steps asked, so that the answer has room for it.
+  pub fresh-most : countIn (freshIn image w steps .answered) ≤ steps
+  fresh-most = alone.most image w steps
+
+  -- Refused by 1 to 4 or 6, too large words among it: the words as they were, and nothing counted;
+  pub run-fresh-leaves : length w ≡ 81 → let a : FreshTold = freshIn image w steps in 0 < numberIn (a .answered) → numberIn (a .answered) < 7 → FreshLeaves w a
+  run-fresh-leaves l a b = alone.run-leaves image w steps l a b
+
+  -- and nothing is noted: every lent word stays as it was.
+  pub trace-fresh-leaves : (lent : List ℕ) → let a : FreshTold = freshIn image w steps in 0 < numberIn (a .answered) → numberIn (a .answered) < 7
+      → layEvents lent (freshEventsIn image w steps) ≡ lent
+  trace-fresh-leaves lent a b = alone.trace-leaves image w steps lent a b
+
+  -- If each word fits (a clock has 32 bits), number, state and count are read back off the answer and the words,
+  module _ (fit : fits w ≡ true) (clock : getD w 0 0 ≤ largest) where
+    pub fresh-back : freshRanIn (freshIn image w steps) ≡ freshOf image (stateOf w) steps
+    fresh-back = alone.back image w steps fit clock
+
+    -- and demand 2 holds of them, from any well-formed state of an accepted image: the events are what the transitions from the state in the words handed in to the
+    -- state in the words given back did, as many as counted; there are no others; and the number says why there are no more.
+    pub fresh-follows : (m : Model) (end : ℕ) → decode image ≡ Got m end → wellFormed m (stateOf w) ≡ true
+        → let a : FreshRan = freshRanIn (freshIn image w steps) in Follows m (stateOf w) steps (freshEventsIn image w steps) (a .state) (a .made) (a .number)
+    fresh-follows m end accepted well = alone.follows image w steps fit clock m end accepted well

@@ -8,12 +8,13 @@ use Rattle.meaning.specs.Base.{bit}
 use Rattle.meaning.specs.Step.{largest}
 use Rattle.meaning.specs.Run.{Timed}
 use Rattle.meaning.specs.Calls.{Ran}
+use Rattle.meaning.specs.Fresh.{FreshRan}
 use Rattle.step_note.specs.Events.{eventWords, inscribed}
 use Rattle.call_run.specs.declared.RunDone.{RunDone}
 use Rattle.fresh_call.specs.declared.FreshDone.{FreshDone}
 use Rattle.jirvuntsag.specs.Words.{stateOf}
 use Rattle.jirvuntsag.specs.Told.{Told, openIn, runIn, refreshIn, eventsIn}
-use Rattle.jirvuntsag.specs.Fresh.{freshIn, freshEventsIn}
+use Rattle.jirvuntsag.specs.Fresh.{FreshTold, freshIn, freshEventsIn}
 
 -- an answer is the number and 65,536 times a count (JIRVUNTSAG_NUMBER and JIRVUNTSAG_COUNT of the header)
 abbrev pub numberIn : ℕ → ℕ
@@ -25,6 +26,10 @@ countIn answer = answer / 65536
 -- what a run answered and left over words, read as an answer over states
 abbrev pub ranIn : Told → Ran
 ranIn a = record { number = numberIn (a .answered); state = stateOf (a .words); table = a .table; made = countIn (a .answered) }
+
+-- the same of a run without a table
+abbrev pub freshRanIn : FreshTold → FreshRan
+freshRanIn a = record { number = numberIn (a .answered); state = stateOf (a .words); made = countIn (a .answered) }
 
 -- two states have the same ten words for buffer b
 abbrev pub SameBuffer : List ℕ → List ℕ → ℕ → Type 0
@@ -43,6 +48,11 @@ pub data Held (image : List ℕ) : List ℕ → List ℕ → Type 0 where
 pub record Leaves (w table : List ℕ) (a : Told) : Type 0 where
   pub words-stay : a .words ≡ w
   pub table-stays : a .table ≡ table
+  pub none-counted : countIn (a .answered) ≡ 0
+
+-- the same of a call that has no table
+pub record FreshLeaves (w : List ℕ) (a : FreshTold) : Type 0 where
+  pub words-stay : a .words ≡ w
   pub none-counted : countIn (a .answered) ≡ 0
 
 -- events in the words that were lent for them: three words for each, in order, as long as there are three; all other words stay

@@ -1,4 +1,5 @@
--- What is promised of the calls for C: the words of the statements in Handing, the statements in Holding, Noting and Alike; their proofs stand apart, in Proofs.
+-- What is promised of the calls for C, and of the run without a table in Rattle too: the words of the statements in Handing, the statements in Holding, Noting and
+-- Alike; their proofs stand apart, in Proofs.
 pub mod Handing
 pub mod Holding
 pub mod Noting

@@ -3,3 +3,4 @@ pub mod Back
 pub mod Calling
 pub mod Noted
 pub mod Alike
+pub mod Alone
