@@ -12,7 +12,7 @@ use Rattle.jirvuntsag.specs.Words.{stateOf, wordsOf, fits}
 abbrev pub answer : ℕ → ℕ → ℕ
 answer number count = number + 65536 * count
 
--- a word too large for its field: "state not well formed", after numbers 1 to 5
+-- a word too large for its field: "state not well formed", after the numbers of the image and of the table
 abbrev pub unfitBy : Read Model → ℕ
 unfitBy (Refused n at) = n
 unfitBy (Got m at) = ill-formed
