@@ -20,7 +20,7 @@ fn look(words: &[u16], o: usize, n: usize, state: &[u16]) -> Looked
 {
     let mut q = o;
     let mut i = 0;
-    'tests: while i < n {
+    while i < n {
         let k = 10 * (words[q] % 8) as usize;
         if state[k + 9] != 0 {
             return Looked::Differs;

@@ -54,14 +54,14 @@ wait-some : (ms : ℕ) → (ms ≡ 0 → ⊥) → (s : State) → waitFresh s ms
 wait-some zero some s = absurd (some refl)
 wait-some (suc n) some s = refl
 
-module _ (w : List ℕ) (clock ms : ℕ) {soonest : ℕ} (is : ms ≡ soonest) (a : Moved) where
-  pub nothing-pending : ms ≡ 0 → a ≡ record { kind = 2; value = 9; elapsed = 0 } → MoveMet (waitFresh (stateIn w clock) soonest) a w w clock
-  nothing-pending e z = rw z (stayed numbers.halted (omega arith) (rw (← is, e)))
+module _ (w : List ℕ) (clock ms : ℕ) {soonest : ℕ} (is : ms ≡ soonest) where
+  pub nothing-pending : (a : Moved) → ms ≡ 0 → a ≡ record { kind = 2; value = 9; elapsed = 0 } → MoveMet (waitFresh (stateIn w clock) soonest) a w w clock
+  nothing-pending a e z = rw z (stayed numbers.halted (omega arith) (rw (← is, e)))
 
   module _ (some : ms ≡ 0 → ⊥) where
-    pub wait-full : largest < clock + ms → a ≡ record { kind = 2; value = 8; elapsed = 0 } → MoveMet (waitFresh (stateIn w clock) soonest) a w w clock
+    pub wait-full : (a : Moved) → largest < clock + ms → a ≡ record { kind = 2; value = 8; elapsed = 0 } → MoveMet (waitFresh (stateIn w clock) soonest) a w w clock
     unfolding wait
-    wait-full h z = rw z (stayed numbers.clock-full (omega arith) (rw (← is, wait-some ms some (stateIn w clock), lt-leb (clock + ms) largest h)))
+    wait-full a h z = rw z (stayed numbers.clock-full (omega arith) (rw (← is, wait-some ms some (stateIn w clock), lt-leb (clock + ms) largest h)))
 
     pub waited : clock + ms ≤ largest → (w′ : List ℕ) → stateIn w′ (clock + ms) ≡ wait ms (stateIn w clock)
         → MoveMet (waitFresh (stateIn w clock) soonest) (record { kind = 1; value = ms; elapsed = ms }) w w′ clock

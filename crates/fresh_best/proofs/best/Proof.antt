@@ -133,6 +133,16 @@ loop-again c =
     let at : ℕ → ℕ → List ℕ = λ clock. entryIn heads words (stateIn (a .state .now) clock) in
     let within : l .k + 1 ≤ a .n = omega arith in
     let tried : length (h .hits .last .0) ≡ 9 = h .hits .kept .0 ∙ l .inv .trial-words in
+    let stays : ((clock : ℕ) → chosenFrom heads words (at clock) (a .n) (l .k + 1) (l .best) ≡ chosenFrom heads words (at clock) (a .n) (l .k) (l .best))
+    → Turning heads words (a .n) (a .state .now) (l .nine) (h .hits .last .0) (l .best) (l .top) (l .k + 1) =
+    λ same. record {
+      within = within;
+      nine-words = l .inv .nine-words;
+      trial-words = tried;
+      leads = l .inv .leads;
+      entered = l .inv .entered;
+      so-far = λ clock. same clock ∙ l .inv .so-far clock;
+    } in
     ⊎-elim
     (λ w.
     let matches : (clock : ℕ) → counts (candidateWith heads words (at clock) (l .k)) ≡ true = λ clock. sym (counted h clock) ∙ w .0 .taken in
@@ -151,24 +161,8 @@ loop-again c =
     (λ w.
     let matches : (clock : ℕ) → counts (candidateWith heads words (at clock) (l .k)) ≡ true = λ clock. sym (counted h clock) ∙ w .0 .taken in
     rw (w .4, w .5, w .6)
-    (record {
-      within = within;
-      nine-words = l .inv .nine-words;
-      trial-words = tried;
-      leads = l .inv .leads;
-      entered = l .inv .entered;
-      so-far = λ clock. chosen-kept heads words (at clock) (a .n) (l .k) (l .best) more (matches clock) (λ i. omega (arith, w .1 .given i)) (l .top) _ (l .inv .leads) (w .2 .ensures) (w .3 .left)
-          ∙ l .inv .so-far clock;
-    }))
-    (λ w. rw (w .1, w .2, w .3)
-    (record {
-      within = within;
-      nine-words = l .inv .nine-words;
-      trial-words = tried;
-      leads = l .inv .leads;
-      entered = l .inv .entered;
-      so-far = λ clock. chosen-skip heads words (at clock) (a .n) (l .k) (l .best) more (sym (counted h clock) ∙ w .0 .left) ∙ l .inv .so-far clock;
-    })))
+    (stays (λ clock. chosen-kept heads words (at clock) (a .n) (l .k) (l .best) more (matches clock) (λ i. omega (arith, w .1 .given i)) (l .top) _ (l .inv .leads) (w .2 .ensures) (w .3 .left))))
+    (λ w. rw (w .1, w .2, w .3) (stays (λ clock. chosen-skip heads words (at clock) (a .n) (l .k) (l .best) more (sym (counted h clock) ∙ w .0 .left)))))
     (c .if1 .came)
 
 same-length : tie.Need-same-length Inv-loop μ-loop

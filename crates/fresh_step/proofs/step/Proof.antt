@@ -35,8 +35,8 @@ picked c = c .before .before .before
 abbrev entry : tie.After-best → List ℕ
 entry c = c .best .last .1 .1 .1 .1 .0
 
-chosen : (c : tie.After-best) → let a = begun c .args in let rules = rulesOn (a .plan) (a .tape .now) in
-    chooseFresh rules (utilities rules) (stateIn (a .state .now) (a .clock)) ≡ matchedOf (headsOn (a .plan) (a .tape .now)) (rowsOn (a .plan) (a .tape .now)) (stateIn (a .state .now) (a .clock)) (c .best .result)
+chosen : (c : tie.After-best) → let a = begun c .args in let rules = rulesOn (a .plan) (a .tape .now) in let s = stateIn (a .state .now) (a .clock) in
+    chooseFresh rules (utilities rules) s ≡ matchedOf (headsOn (a .plan) (a .tape .now)) (rowsOn (a .plan) (a .tape .now)) s (c .best .result)
 chosen c = simp to-end at (c .best .ensures .0) (begun c .args .clock)
 
 entered : (c : tie.After-best) → let a = begun c .args in Entered (headsOn (a .plan) (a .tape .now)) (rowsOn (a .plan) (a .tape .now)) (a .state .now) (c .best .result) (entry c)

@@ -44,7 +44,7 @@ returns-2 c =
     let some = c .before .before in
     let s = some .before in
     let a = start s .args in
-    wait-full (a .state .now) (a .clock) (s .soonest .result) (s .soonest .ensures) (c .stays2 .result) (some .if1 .left) (omega (arith, c .before .if2 .taken)) (c .stays2 .ensures)
+    wait-full (a .state .now) (a .clock) (s .soonest .result) (s .soonest .ensures) (some .if1 .left) (c .stays2 .result) (omega (arith, c .before .if2 .taken)) (c .stays2 .ensures)
 
 wait-requires : tie.Need-wait-requires
 wait-requires c κs = search needs
@@ -59,7 +59,7 @@ returns-3 c =
     let some = room .before in
     let s = some .before in
     let a = start s .args in
-    waited (a .state .now) (a .clock) (s .soonest .result) (s .soonest .ensures) (record { kind = 1; value = s .soonest .result; elapsed = s .soonest .result }) (some .if1 .left) (omega (arith, room .if2 .left)) _ (w .wait .ensures .0 (a .clock))
+    waited (a .state .now) (a .clock) (s .soonest .result) (s .soonest .ensures) (some .if1 .left) (omega (arith, room .if2 .left)) _ (w .wait .ensures .0 (a .clock))
 
 pub wait-spec : {M : Type 1} → statement M
 wait-spec =
