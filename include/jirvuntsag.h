@@ -17,7 +17,8 @@
  * Two engines make steps. jirvuntsag_run and jirvuntsag_trace keep the matches of all rules in a table from step to step and from call to
  * call: for who must be quick, as a tutor that answers between two keystrokes. jirvuntsag_run_fresh and jirvuntsag_trace_fresh take no
  * table and match every rule afresh at each step: for who wants nothing kept that could outlive its chunk, as a memory laboratory.
- * Nobody can tell them apart: from the fresh table of a state both give the same number, count, state and events, for every image.
+ * Nobody can tell them apart: for every accepted image and every state the second give the number, count, state and events that the
+ * first give from the fresh table, and a refused image gets its number from all.
  */
 #ifndef JIRVUNTSAG_H
 #define JIRVUNTSAG_H
@@ -80,7 +81,8 @@ uint32_t jirvuntsag_refresh(const uint8_t *image, size_t image_len, const uint32
  * needed, and a buffer may be changed between two calls without a refresh.
  * Answers a number and, times 65,536, the steps made: what jirvuntsag_run answers that is handed the fresh table of the state. The number
  * is 0 to 4, 6, 8 or 9; there is no table that could be of another length (5) or stale (7).
- * Leaves: the state after the steps made; at 1 to 4 and 6 as it was, and no step is made. */
+ * Leaves: the state after the steps made; at 1 to 4 and 6 as it was, and no step is made. A table that was kept for the state before does
+ * not fit the state after: refresh it with all buffers marked before jirvuntsag_run is handed it. */
 uint32_t jirvuntsag_run_fresh(const uint8_t *image, size_t image_len, uint32_t state[81], uint16_t steps);
 
 /* Runs as jirvuntsag_run_fresh does, with the same answer, and notes each step in events as jirvuntsag_trace does.

@@ -1,4 +1,4 @@
-// Sets of rules in words of 64 bits: a bit set, a bit cleared, the lowest bit of a word, and what is left without it.
+// Sets of numbers in words of 64 bits: a bit set, a bit cleared, the lowest bit of a word, and what is left without it.
 ghost use mathlib.Core.Path.{_≡_};
 ghost use mathlib.Core.Bool.{true, false, _||_, _&&_, not};
 ghost use Prim.Native.Nat.{ℕ, _+_, _/_, _%_, _≤_, _<_};

@@ -47,6 +47,8 @@ rows =
     -- model A's whole run, as 01 prints it
     row (told (freshTraceOf modelA (openOf modelA (replicate 27 0) .state) 1000))
     (9 ∷ 50 ∷ 1 ∷ 0 ∷ 150 ∷ 2 ∷ 100 ∷ 200 ∷ 1 ∷ 1 ∷ 300 ∷ 2 ∷ 100 ∷ 350 ∷ 1 ∷ 1 ∷ 400 ∷ 1 ∷ 2 ∷ 550 ∷ 2 ∷ 150 ∷ [])
+    -- and what the call gives of it: the count, and the state after the last step
+    ∷ row (freshOf modelA (openOf modelA (replicate 27 0) .state) 1000 .made ∷ freshOf modelA (openOf modelA (replicate 27 0) .state) 1000 .state .clock ∷ []) (7 ∷ 550 ∷ [])
     -- "9 .. halted before the steps asked were made": 0 where all are made, though it has halted by then; a step that was asked and not made is 9
     ∷ row (told (freshFrom (model [] (twice ∷ [])) 1 (both (holds 6 6 0) (nilAfter 0)))) (0 ∷ 1050 ∷ 1 ∷ 0 ∷ [])
     ∷ row (told (freshFrom (model [] (twice ∷ [])) 2 (both (holds 6 6 0) (nilAfter 0)))) (9 ∷ 1050 ∷ 1 ∷ 0 ∷ [])
@@ -62,14 +64,18 @@ rows =
     ∷ row (told (freshFrom (model [] (idle (pos 0) ∷ [])) 1 (at 4294967246 full))) (8 ∷ [])
     ∷ row (told (freshFrom (model [] []) 1 (at 4294967295 (both (nilAfter 1) (nilAfter 0))))) (8 ∷ [])
     ∷ row (told (freshFrom (model [] []) 1 (at 4294967295 full))) (9 ∷ [])
+    -- "8 and 9 return the state .. after the steps already made; the step in question changes nothing"
+    ∷ row (freshFrom (model [] (idle (pos 0) ∷ [])) 2 (at 4294967245 full) .number ∷ freshFrom (model [] (idle (pos 0) ∷ [])) 2 (at 4294967245 full) .left .clock ∷ []) (8 ∷ 4294967295 ∷ [])
     -- a request that no fact fits
     ∷ row (bufferWords (bufferOf (freshFrom (model (fact 4 9 1 120 ∷ []) (asks ∷ [])) 1 (both (holds 5 6 0) (nilAfter 0)) .left) 1)) (0 ∷ 0 ∷ 0 ∷ 70 ∷ [])
-    -- P1 to P6: 9; cut short 2; a ninth byte 4; a pad bit 4; type 1 where T is 0 is 3
+    -- P1 to P6: 9; no step asked 0; cut short 2; a ninth byte 4; a pad bit 4; type 1 where T is 0 is 3
     ∷ row (freshOf p1 zeroState 5 .number ∷ freshOf p1 zeroState 0 .number ∷ freshOf (take 7 p1) zeroState 5 .number ∷ freshOf (p1 ++ (0 ∷ [])) zeroState 5 .number
     ∷ freshOf (take 7 p1 ++ (0x10 ∷ [])) zeroState 5 .number ∷ freshOf (take 7 p1 ++ (0x20 ∷ [])) zeroState 5 .number ∷ [])
     (9 ∷ 0 ∷ 2 ∷ 4 ∷ 4 ∷ 3 ∷ [])
     -- "state not well formed" is 6, after the numbers of the image: type 1 where T is 0; refused, it gives the state back and no event
-    ∷ row (freshOf p1 full 5 .number ∷ freshOf (take 7 p1 ++ (0x20 ∷ [])) full 5 .number ∷ freshOf p1 full 5 .made ∷ freshOf p1 full 5 .state .clock ∷ []) (6 ∷ 3 ∷ 0 ∷ 1000 ∷ [])
+    ∷ row (freshOf p1 full 5 .number ∷ freshOf (take 7 p1 ++ (0x20 ∷ [])) full 5 .number ∷ freshOf p1 full 5 .made ∷ freshOf p1 full 5 .state .clock
+    ∷ freshOf (take 7 p1 ++ (0x20 ∷ [])) full 5 .state .clock ∷ [])
+    (6 ∷ 3 ∷ 0 ∷ 1000 ∷ 1000 ∷ [])
     ∷ row (told (freshTraceOf p1 full 5)) (6 ∷ [])
     ∷ []
 

@@ -48,7 +48,7 @@ abbrev pub waitFresh : State → ℕ → Move
 waitFresh s zero = Stays halted
 waitFresh s (suc n) = movesTo (Waited (suc n)) (wait (suc n) s)
 
--- the chosen rule fires with the values of its entry; if there is none, time passes
+-- "Fire.", with the values of the chosen entry; "Wait. No entry matches and some delay is above 0"
 abbrev pub moveBy : ℕ → List Fact → State → Option Candidate → Move
 moveBy failure memory s none = waitFresh s (soonest 0 (s .buffers))
 moveBy failure memory s (some c) = movesTo (Fired (c .number)) (fire failure memory (c .rule) (c .entry) s)
@@ -68,7 +68,7 @@ abbrev pub moveOn : State → (State → Run State) → Move → Run State
 moveOn s next (Stays n) = ends n s
 moveOn s next (Moves e s′) = before (record { clock = s′ .clock; event = e }) (next s′)
 
--- so many steps at most,
+-- so many steps at most ("Run with 0 steps asked answers 0"),
 -- each from the state that the one before it left,
 -- and from nothing else
 unfoldable pub freshFrom : Model → ℕ → State → Run State

@@ -94,7 +94,7 @@ pub record Demand-3 (image : List ℕ) (m : Model) : Type 0 where
       → refreshOf image s′ mark (freshTable (m .rules) s) .table ≡ freshTable (m .rules) s′
   -- an opening with a table of the right length is not refused, and writes the fresh table
   pub opens : (table : List ℕ) → length table ≡ 9 * length (m .rules) → (openOf image table .number ≡ 0) × (openOf image table .table ≡ freshTable (m .rules) (openOf image table .state))
-  -- and after any calls, and changes of buffers that are refreshed with their mark, the table is the fresh one and the state well formed
+  -- and after any kept runs, refreshes, and changes of buffers that are refreshed with their mark, the table is the fresh one and the state well formed
   pub keeps : (s : State) (table : List ℕ) → Reached image s table → (table ≡ freshTable (m .rules) s) × (wellFormed m s ≡ true) × Machine s
 
 -- For every accepted image.
@@ -119,7 +119,7 @@ pub record Laboratory (image : List ℕ) (s : State) (asked : ℕ) : Type 0 wher
   -- a refused image gets the same number from both, the state handed in and count 0
   pub refused-as-kept : (n at : ℕ) → decode image ≡ Refused n at → (table : List ℕ)
       → (runOf image s table asked ≡ record { number = n; state = s; table = table; made = 0 }) × (freshOf image s asked ≡ record { number = n; state = s; made = 0 })
-  -- whatever table a caller holds after any calls, and changes of buffers that are refreshed with their mark: it is the kept run handed that table
+  -- whatever table a caller holds after any kept runs, refreshes, and changes of buffers that are refreshed with their mark: it is the kept run handed that table
   pub as-held : (table : List ℕ) → Reached image s table → AsKept (traceOf image s table asked) (freshTraceOf image s asked)
   pub answers-as-held : (table : List ℕ) → Reached image s table → freshOf image s asked ≡ answerOf (runOf image s table asked)
   -- demand 1: each number exactly when its row holds, and no row before it; refused by 1 to 4 or 6, it gives the state back and counts nothing

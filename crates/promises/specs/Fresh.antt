@@ -1,5 +1,5 @@
--- The run without a table (request 2026-02): for every image and state it answers what the kept run answers that is handed the fresh table. So the tutor, who keeps a
--- table over a chain of calls, and the laboratory, which has none, can never see different runs.
+-- The run without a table (request 2026-02): for every accepted image and every state it answers what the kept run answers that is handed the fresh table. So the tutor, who keeps a
+-- table over a chain of kept runs and refreshes, and the laboratory, which has none, can never see different runs.
 use mathlib.Core.Path.{_≡_}
 use mathlib.Core.Logic.{_↔_, _⊎_}
 use mathlib.Core.Bool.{true}
@@ -56,7 +56,8 @@ module _ (image : List ℕ) (s : State) (asked : ℕ) where
   pub refused-untold : (n at : ℕ) → decode image ≡ Refused n at → (table : List ℕ) → (traceOf image s table asked .events ≡ []) × (freshTraceOf image s asked .events ≡ [])
   refused-untold n at unread table = afresh.both-silent image s asked n at unread table
 
-  -- After any calls, and changes of buffers that are refreshed with their mark, whatever table the caller then holds: it is the kept run handed that table.
+  -- After an accepted opening and any kept runs, refreshes, and changes of buffers that are refreshed with their mark, whatever table the caller then holds: it is
+  -- the kept run handed that table.
   pub reached-as-kept : (table : List ℕ) → Reached image s table → AsKept (traceOf image s table asked) (freshTraceOf image s asked)
   reached-as-kept table r = afresh.reached-as-kept r asked
 

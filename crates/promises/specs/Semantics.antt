@@ -109,7 +109,7 @@ module _ (image : List ℕ) (m : Model) (at : ℕ) (accepted : decode image ≡ 
 
   -- ---- the chain of calls
 
-  -- With the table that a caller holds after any calls, a made step is a transition.
+  -- With the table that a caller holds after any kept runs and refreshes, a made step is a transition.
   pub reached-step : (table : List ℕ) → Reached image s table → (e : Event) (s′ : State) (mark : ℕ) → stepOf m s table ≡ Made e s′ mark → Transition m s e s′
   reached-step table r e s′ mark h = outcomes.chain-step image m at accepted r e s′ mark h
 

@@ -50,7 +50,7 @@ pub record Machine (s : State) : Type 0 where
   pub all-buffers : every isBuffer (s .buffers) ≡ true
   pub in-time : s .clock ≤ largest
 
--- the states and tables that a caller of one image can hold: those of an accepted opening, and then those that any call gives back
+-- the states and tables that a caller of one image can hold: those of an accepted opening, and then those that a kept run or a refresh gives back
 -- when it is handed the state and table left before it, whatever its number says (a refused call too); and the states that the caller itself makes of them
 pub data Reached (image : List ℕ) : State → List ℕ → Type 0 where
   opened : (table : List ℕ) → openOf image table .number ≡ 0 → Reached image (openOf image table .state) (openOf image table .table)

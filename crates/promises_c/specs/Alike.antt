@@ -45,7 +45,7 @@ module _ (image : List ℕ) (s : State) (table : List ℕ) (steps : ℕ) where
     pub done-refused : (n at : ℕ) → decode image ≡ Refused n at → (r .number ≡ n) × SameDone r r′
     done-refused n at unread = alike.done-refused image s table steps r left r′ kept fresh n at unread
 
-    -- and after a chain of calls, whatever table is held then, the same number, state and count.
+    -- and after a chain of kept runs and refreshes, whatever table is held then, the same number, state and count.
     pub done-reached : Reached image s table → SameDone r r′
     done-reached reached = alike.done-reached image s table steps r left r′ kept fresh reached
 
@@ -62,7 +62,7 @@ module _ (image : List ℕ) (s : State) (table : List ℕ) (steps : ℕ) where
     pub lent-refused : (n at : ℕ) → decode image ≡ Refused n at → (noted ≡ lent) × (noted′ ≡ lent)
     lent-refused n at unread = alike.lent-refused image s table steps lent noted noted′ kept fresh n at unread
 
-    -- and after a chain of calls, whatever table is held then, every word is the same.
+    -- and after a chain of kept runs and refreshes, whatever table is held then, every word is the same.
     pub lent-reached : Reached image s table → noted′ ≡ noted
     lent-reached reached = alike.lent-reached image s table steps lent noted noted′ kept fresh reached
 
@@ -73,16 +73,16 @@ module _ (image w : List ℕ) (steps : ℕ) where
   pub told-alike : (m : Model) (end : ℕ) → decode image ≡ Got m end → SameTold image w (freshTable (m .rules) (stateOf w)) steps
   told-alike m end accepted = alike.told-alike image w steps m end accepted
 
-  -- Where a word does not fit, or the state is not well formed, any table of the right length does: 6 from both, and all words stay.
+  -- Where a word does not fit, or the state is not well formed, any table of the right length does: 6 from both, and the words of state and table stay.
   pub told-unwell : (m : Model) (end : ℕ) → decode image ≡ Got m end → length w ≡ 81 → (fits w && wellFormed m (stateOf w)) ≡ false
       → (table : List ℕ) → length table ≡ 9 * length (m .rules) → (runIn image w table steps ≡ told ill-formed w table) × SameTold image w table steps
   told-unwell m end accepted l ill table long = alike.told-unwell image w steps m end accepted l ill table long
 
-  -- A refused image gets its number from both, whatever table, and all words stay.
+  -- A refused image gets its number from both, whatever table, and the words of state and table stay.
   pub told-refused : (n at : ℕ) → decode image ≡ Refused n at → length w ≡ 81 → (table : List ℕ) → (runIn image w table steps ≡ told n w table) × SameTold image w table steps
   told-refused n at unread l table = alike.told-refused image w steps n at unread l table
 
-  -- After an accepted opening, and any calls and changes of the words that are refreshed with their mark: the same as with whatever table is held, word for word.
+  -- After an accepted opening, and any kept runs, refreshes, and changes of the words that are refreshed with their mark: the same as with whatever table is held, word for word.
   pub told-held : (table : List ℕ) → Held image w table → SameTold image w table steps
   told-held table held = alike.told-held image w steps table held
 

@@ -35,7 +35,7 @@ freshRanIn a = record { number = numberIn (a .answered); state = stateOf (a .wor
 abbrev pub SameBuffer : List ℕ → List ℕ → ℕ → Type 0
 SameBuffer w w′ b = (j : ℕ) → j < 10 → getD w (1 + (10 * b + j)) 0 ≡ getD w′ (1 + (10 * b + j)) 0
 
--- the words and tables that a caller of one image can hold: those of an accepted opening; then what any call leaves when it is handed what was left before it,
+-- the words and tables that a caller of one image can hold: those of an accepted opening; then what a kept run or a refresh leaves when it is handed what was left before it,
 -- whatever it answers; and words that the caller changes itself, refreshed with a mark of every buffer changed, if that refresh answers 0
 pub data Held (image : List ℕ) : List ℕ → List ℕ → Type 0 where
   opened : (table : List ℕ) → numberIn (openIn image table .answered) ≡ 0 → Held image (openIn image table .words) (openIn image table .table)

@@ -59,7 +59,7 @@ refresh-too-large image w table mark m t f = calling.refresh-six image w table m
 
 -- ---- demand 3 over words
 
--- After an accepted opening, and any calls and changes of the words that are refreshed with their mark, each handed the words and the table left before it:
+-- After an accepted opening, and any kept runs, refreshes, and changes of the words that are refreshed with their mark, each handed the words and the table left before it:
 -- the words are 81, each fits, the state that they hold is well formed, and the table is its fresh one.
 pub held-fresh : (image : List ℕ) (m : Model) (end : ℕ) → decode image ≡ Got m end → {w table : List ℕ} → Held image w table
     → (length w ≡ 81) × (fits w ≡ true) × (wellFormed m (stateOf w) ≡ true) × (table ≡ freshTable (m .rules) (stateOf w))
