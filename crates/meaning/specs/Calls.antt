@@ -24,18 +24,32 @@ fitting table (Got m at) = if eqb (length table) (9 * length (m .rules)) then Go
 unfoldable pub accepted : List ℕ → List ℕ → Read Model
 accepted image table = fitting table (decode image)
 
--- the words that the table of an image needs, 0 for an image that is refused: what a caller asks before it opens
-abbrev pub wordsFor : Read Model → ℕ
-wordsFor (Refused n at) = 0
-wordsFor (Got m at) = 9 * length (m .rules)
+-- "from every call the position of the offending field's first bit for 2, 3 and these, else 0":
+-- refused by another number it has 0 there, and accepted there is none to tell: 0
+abbrev pub placeOf : {A : Type 0} → Read A → ℕ
+placeOf (Refused n at) = at
+placeOf (Got x at) = 0
 
-unfoldable pub tableLength : List ℕ → ℕ
-tableLength image = wordsFor (decode image)
+-- ---- what a caller asks before it opens: the words that the table of an image needs
+
+pub record Needed : Type 0 where
+  pub number : ℕ
+  pub position : ℕ
+  pub words : ℕ
+
+-- 0 words for an image that is refused, and the number tells it from one without rules
+abbrev pub neededBy : Read Model → Needed
+neededBy (Refused n at) = record { number = n; position = at; words = 0 }
+neededBy (Got m at) = record { number = all-done; position = 0; words = 9 * length (m .rules) }
+
+unfoldable pub neededOf : List ℕ → Needed
+neededOf image = neededBy (decode image)
 
 -- ---- "Open: image, table; gives a number and the state."
 
 pub record Opened : Type 0 where
   pub number : ℕ
+  pub position : ℕ
   pub state : State
   pub table : List ℕ
 
@@ -48,8 +62,8 @@ openState m = record { buffers = map opens (m .opening) ++ replicate (8 - m .buf
 
 -- "an all-zero state from open) and an unaltered table". "Open that is accepted writes the fresh table."
 abbrev pub openedBy : List ℕ → Read Model → Opened
-openedBy table (Refused n at) = record { number = n; state = zeroState; table = table }
-openedBy table (Got m at) = record { number = all-done; state = openState m; table = freshTable (m .rules) (openState m) }
+openedBy table (Refused n at) = record { number = n; position = at; state = zeroState; table = table }
+openedBy table (Got m at) = record { number = all-done; position = 0; state = openState m; table = freshTable (m .rules) (openState m) }
 
 unfoldable pub openOf : List ℕ → List ℕ → Opened
 openOf image table = openedBy table (accepted image table)
@@ -57,7 +71,7 @@ openOf image table = openedBy table (accepted image table)
 -- ---- "Run: image, state, table, steps asked (0 to 65,535); gives a number, the state and the steps made."
 
 -- the run that a call makes, with its events: "Numbers 1 to 6 and 10 return count 0, the state as handed in .. and an unaltered table."
--- "Run with 0 steps asked answers 0 after checks 1 to 6."
+-- "11 to 13 return and leave what 3 does". "Run with 0 steps asked answers 0 after checks 1 to 6."
 abbrev pub tracedBy : Going → ℕ → Read Model → Run Going
 tracedBy g steps (Refused n at) = ends n g
 tracedBy g steps (Got m at) = if wellFormed m (g .state) then runFrom m steps g else (ends ill-formed g)
@@ -67,31 +81,33 @@ traceOf image s table steps = tracedBy (going s table) steps (accepted image tab
 
 pub record Ran : Type 0 where
   pub number : ℕ
+  pub position : ℕ
   pub state : State
   pub table : List ℕ
   pub made : ℕ
 
 -- what the call gives back of it, and how it leaves the table
-abbrev pub ranBy : Run Going → Ran
-ranBy r = record { number = r .number; state = r .left .state; table = r .left .table; made = length (r .events) }
+abbrev pub ranBy : ℕ → Run Going → Ran
+ranBy position r = record { number = r .number; position = position; state = r .left .state; table = r .left .table; made = length (r .events) }
 
 unfoldable pub runOf : List ℕ → State → List ℕ → ℕ → Ran
-runOf image s table steps = ranBy (traceOf image s table steps)
+runOf image s table steps = ranBy (placeOf (accepted image table)) (traceOf image s table steps)
 
 -- ---- "Refresh: image, state, mark (16 bits), table; .. gives a number and how many rules test a marked buffer."
 
 pub record Refreshed : Type 0 where
   pub number : ℕ
+  pub position : ℕ
   pub count : ℕ
   pub table : List ℕ
 
 -- "6; 10"
 abbrev pub refreshedBy : State → ℕ → List ℕ → Read Model → Refreshed
-refreshedBy s mark table (Refused n at) = record { number = n; count = 0; table = table }
+refreshedBy s mark table (Refused n at) = record { number = n; position = at; count = 0; table = table }
 refreshedBy s mark table (Got m at) =
-    if not (wellFormed m s) then record { number = ill-formed; count = 0; table = table }
-    else (if leb (2 ^ m .buffers) mark then record { number = bad-mark; count = 0; table = table }
-    else record { number = all-done; count = refreshCount (m .rules) mark; table = refresh (m .rules) s mark table })
+    if not (wellFormed m s) then record { number = ill-formed; position = 0; count = 0; table = table }
+    else (if leb (2 ^ m .buffers) mark then record { number = bad-mark; position = 0; count = 0; table = table }
+    else record { number = all-done; position = 0; count = refreshCount (m .rules) mark; table = refresh (m .rules) s mark table })
 
 unfoldable pub refreshOf : List ℕ → State → ℕ → List ℕ → Refreshed
 refreshOf image s mark table = refreshedBy s mark table (accepted image table)

@@ -13,7 +13,7 @@ use Rattle.meaning.specs.Model.{Model, Rule, Test, Action, Deed, Modify,
 use Rattle.meaning.specs.State.{wellFormed, bufferOf}
 use Rattle.meaning.specs.Bits.{fieldAt}
 use Rattle.meaning.specs.Read.{Got, field, times, rising}
-use Rattle.meaning.specs.Image.{header, chunk, fact, utilityOf, slotsIn, terms, masked, head, test, deed, action, body, rule, ending, beginning, contents, model, decode}
+use Rattle.meaning.specs.Image.{header, chunk, fact, utilityOf, slotsIn, terms, masked, head, test, deed, action, body, rule, ending, beginning, contents, model, decode, decodeBy}
 use Rattle.meaning.specs.Match.{places, valueIn, matches, entryOf, freshTable}
 use Rattle.meaning.specs.Choice.{candidates, choose}
 use Rattle.meaning.specs.Retrieval.{retrieve}
@@ -23,15 +23,15 @@ use Rattle.meaning.specs.Mark.{markOf}
 use Rattle.meaning.specs.Step.{Event, Fired, Waited, fireStep, step}
 use Rattle.meaning.specs.Refresh.{refresh, refreshCount}
 use Rattle.meaning.specs.Run.{runFrom}
-use Rattle.meaning.specs.Calls.{accepted, tableLength, Opened, openState, openOf, traceOf, Ran, runOf, Refreshed, refreshOf}
+use Rattle.meaning.specs.Calls.{accepted, neededOf, Opened, openState, openOf, traceOf, Ran, runOf, Refreshed, refreshOf}
 use Rattle.meaning.specs.Fresh.{matched, chooseFresh, move, freshFrom, freshTraceOf, freshOf}
 use Rattle.meaning.specs.Print.{Line, Stepped, End, printed}
 
 -- `unfolding everything` opens each definition of document 01, and those of the run without a table
 unfoldable pub everything : Unit {0}
 unfolding wellFormed fieldAt field times rising header chunk fact slotsIn terms masked head test deed action body rule
-    ending beginning contents model decode places valueIn matches entryOf freshTable candidates choose
-    retrieve put done deedOn change fire soonest wait markOf fireStep step refresh refreshCount accepted tableLength openState openOf runFrom traceOf runOf refreshOf
+    ending beginning contents model decodeBy places valueIn matches entryOf freshTable candidates choose
+    retrieve put done deedOn change fire soonest wait markOf fireStep step refresh refreshCount accepted neededOf openState openOf runFrom traceOf runOf refreshOf
     matched chooseFresh move freshFrom freshTraceOf freshOf printed
 everything = tt
 
@@ -120,12 +120,12 @@ abbrev signed : ℤ → List ℕ
 signed z = (if nonNeg z then 0 else 1) ∷ natAbs z ∷ []
 
 -- a printed line: 1, the clock and the rule of a firing; 2, the clock and the ms of a wait; 3, the number and the steps made at the end
-abbrev lineWords : Line → List ℕ
+abbrev pub lineWords : Line → List ℕ
 lineWords (Stepped clock (Fired k)) = 1 ∷ clock ∷ k ∷ []
 lineWords (Stepped clock (Waited ms)) = 2 ∷ clock ∷ ms ∷ []
 lineWords (End number made) = 3 ∷ number ∷ made ∷ []
 
-abbrev output : List Line → List ℕ
+abbrev pub output : List Line → List ℕ
 output [] = []
 output (l ∷ ls) = lineWords l ++ output ls
 
@@ -196,7 +196,7 @@ rows =
     ∷ 2 ∷ 550 ∷ 150
     ∷ 3 ∷ 9 ∷ 7 ∷ [])
     -- the words that a caller lends for model A's table, and for an image that is refused
-    ∷ row (tableLength modelA ∷ tableLength (drop 1 modelA) ∷ []) (27 ∷ 0 ∷ [])
+    ∷ row (neededOf modelA .words ∷ neededOf (drop 1 modelA) .words ∷ []) (27 ∷ 0 ∷ [])
     ∷ []
 
 -- every row's two sides are the same

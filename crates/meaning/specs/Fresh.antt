@@ -19,6 +19,7 @@ use Rattle.meaning.specs.Fire.{fire}
 use Rattle.meaning.specs.Wait.{soonest, wait}
 use Rattle.meaning.specs.Step.{Event, Fired, Waited, largest}
 use Rattle.meaning.specs.Run.{Run, ends, before}
+use Rattle.meaning.specs.Calls.{placeOf}
 
 -- ---- the choice
 
@@ -77,7 +78,7 @@ freshFrom m (suc n) s = moveOn s (λ s′. freshFrom m n s′) (moveOf m s)
 
 -- ---- the call: "a run that takes image, state and steps and no table"
 
--- "Refusals: 1 to 4, 6, 8 and 9 in 01's order"; refused by 1 to 4 or 6 it gives "the state as handed in" and makes no step
+-- "Refusals: 1 to 4, 6, 8 and 9 in 01's order"; refused by 1 to 4, 6 or 11 to 13 it gives "the state as handed in" and makes no step
 abbrev pub freshBy : State → ℕ → Read Model → Run State
 freshBy s steps (Refused n at) = ends n s
 freshBy s steps (Got m at) = if wellFormed m s then freshFrom m steps s else (ends ill-formed s)
@@ -88,12 +89,13 @@ freshTraceOf image s steps = freshBy s steps (decode image)
 
 pub record FreshRan : Type 0 where
   pub number : ℕ
+  pub position : ℕ
   pub state : State
   pub made : ℕ
 
 -- "the number, state and count"
-abbrev pub freshRanBy : Run State → FreshRan
-freshRanBy r = record { number = r .number; state = r .left; made = length (r .events) }
+abbrev pub freshRanBy : ℕ → Run State → FreshRan
+freshRanBy position r = record { number = r .number; position = position; state = r .left; made = length (r .events) }
 
 unfoldable pub freshOf : List ℕ → State → ℕ → FreshRan
-freshOf image s steps = freshRanBy (freshTraceOf image s steps)
+freshOf image s steps = freshRanBy (placeOf (decode image)) (freshTraceOf image s steps)

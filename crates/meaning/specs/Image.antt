@@ -6,11 +6,13 @@ use lib.Dec.{ltb, leb, eqb}
 use lib.ListN.{length, replicate}
 use lib.IntN.{ℤ, pos, subℕ}
 use Rattle.meaning.specs.Base.{if_then_else_, every, anyOf, keep, upFrom, bit}
-use Rattle.meaning.specs.Numbers.{too-long, bad-number, bad-mask, bad-variable, bad-buffer, bad-end}
+use Rattle.meaning.specs.Numbers.{RuleNumbers, finer, too-long, bad-end}
 use Rattle.meaning.specs.Model.{Model, Sizes, Rule, Action, Deed, Modify, Request, Clear, Test, Named, Term, Symbol, Variable, Chunk, Fact}
 use Rattle.meaning.specs.State.{slotCount}
 use Rattle.meaning.specs.Bits.{fieldAt}
 use Rattle.meaning.specs.Read.{Read, Refused, Got, Reader, andThen as _>>=_, next as _>>_, give, Judgement, must, _also_, field, require, times, rising}
+
+-- Each reader is handed the numbers that its rules go by (`by`): 01's and those of request 2026-03 are two uses of one definition.
 
 -- ---- the rules of single fields, as conditions on the value
 
@@ -47,20 +49,20 @@ pub record Header : Type 0 where
   pub facts : ℕ
   pub failure : ℕ
 
-unfoldable pub header : Reader Header
-header = do
-  version ← field 8 (must bad-number (between 1 1))
-  buffers ← field 4 (must bad-number (between 1 8))
-  declared ← field 6 (must bad-number (between 0 63))
-  rules ← field 9 (must bad-number (between 0 256))
-  facts ← field 10 (must bad-number (between 0 512))
+unfoldable pub header : RuleNumbers → Reader Header
+header by = do
+  version ← field 8 (must (by .number) (between 1 1))
+  buffers ← field 4 (must (by .number) (between 1 8))
+  declared ← field 6 (must (by .number) (between 0 63))
+  rules ← field 9 (must (by .number) (between 0 256))
+  facts ← field 10 (must (by .number) (between 0 512))
   failure ← field 16 anything
   give (record { buffers = buffers; declared = declared; rules = rules; facts = facts; failure = failure })
 
 -- ---- 2. "For each declared type: slot count, 4 bits."
 
-abbrev pub slotCounts : ℕ → Reader (List ℕ)
-slotCounts declared = times declared (field 4 (must bad-number (between 0 8)))
+abbrev pub slotCounts : RuleNumbers → ℕ → Reader (List ℕ)
+slotCounts by declared = times declared (field 4 (must (by .number) (between 0 8)))
 
 -- ---- 3. "its opening chunk: type, 6 bits (0 to T), then 12 bits for each slot of that type"
 
@@ -68,17 +70,17 @@ slotCounts declared = times declared (field 4 (must bad-number (between 0 8)))
 abbrev pub eight : List ℕ → List ℕ
 eight values = values ++ replicate (8 - length values) 0
 
-unfoldable pub chunk : List ℕ → ℕ → Reader Chunk
-chunk types least = do
-  k ← field 6 (must bad-number (aType types least))
+unfoldable pub chunk : RuleNumbers → List ℕ → ℕ → Reader Chunk
+chunk by types least = do
+  k ← field 6 (must (by .number) (aType types least))
   values ← times (slotCount types k) (field 12 anything)
   give (record { isa = k; slots = eight values })
 
 -- ---- 4. "For each fact: type, 6 bits (1 to T), 12 bits per slot, activation 16 bits unsigned, latency in ms 16 bits."
 
-unfoldable pub fact : List ℕ → Reader Fact
-fact types = do
-  c ← chunk types 1
+unfoldable pub fact : RuleNumbers → List ℕ → Reader Fact
+fact by types = do
+  c ← chunk by types 1
   activation ← field 16 anything
   latency ← field 16 anything
   give (record { chunk = c; activation = activation; latency = latency })
@@ -92,12 +94,12 @@ pub record Head : Type 0 where
   pub actions : ℕ
   pub variables : ℕ
 
-unfoldable pub head : ℕ → Reader Head
-head buffers = do
+unfoldable pub head : RuleNumbers → ℕ → Reader Head
+head by buffers = do
   utility ← field 16 anything
-  tests ← field 4 (must bad-number (between 1 buffers))
-  actions ← field 4 (must bad-number (between 0 buffers))
-  variables ← field 4 (must bad-number (between 0 8))
+  tests ← field 4 (must (by .number) (between 1 buffers))
+  actions ← field 4 (must (by .number) (between 0 buffers))
+  variables ← field 4 (must (by .number) (between 0 8))
   give (record { utility = utility; tests = tests; actions = actions; variables = variables })
 
 -- "where a field with its top bit set stands for its value less 65,536"
@@ -116,30 +118,30 @@ abbrev pub termOf : ℕ → Term
 termOf t = if ltb t 4096 then Symbol t else (Variable (t - 4096))
 
 -- "one term for each set bit"
-unfoldable pub terms : ℕ → List ℕ → Reader (List Named)
-terms variables [] = give []
-terms variables (slot ∷ slots) = do
-  t ← field 13 (must bad-variable (aTerm variables))
-  rest ← terms variables slots
+unfoldable pub terms : RuleNumbers → ℕ → List ℕ → Reader (List Named)
+terms by variables [] = give []
+terms by variables (slot ∷ slots) = do
+  t ← field 13 (must (by .variable) (aTerm variables))
+  rest ← terms by variables slots
   give (record { slot = slot; term = termOf t } ∷ rest)
 
 -- a mask and its terms, of a type with so many slots
-unfoldable pub masked : ℕ → ℕ → Reader (List Named)
-masked variables slots = do
-  mask ← field 8 (must bad-mask (aMask slots))
-  terms variables (slotsIn mask)
+unfoldable pub masked : RuleNumbers → ℕ → ℕ → Reader (List Named)
+masked by variables slots = do
+  mask ← field 8 (must (by .mask) (aMask slots))
+  terms by variables (slotsIn mask)
 
 -- "Test: buffer 3 bits, type 6 bits (0 to T), slot mask 8 bits, .. then one term for each set bit."
-unfoldable pub test : Sizes → ℕ → ℕ → Reader Test
-test z variables least = do
-  b ← field 3 (must bad-buffer (aBuffer (z .buffers) least))
-  k ← field 6 (must bad-number (aType (z .types) 0))
-  ns ← masked variables (slotCount (z .types) k)
+unfoldable pub test : RuleNumbers → Sizes → ℕ → ℕ → Reader Test
+test by z variables least = do
+  b ← field 3 (must (by .buffer) (aBuffer (z .buffers) least))
+  k ← field 6 (must (by .number) (aType (z .types) 0))
+  ns ← masked by variables (slotCount (z .types) k)
   give (record { buffer = b; isa = k; named = ns })
 
 -- "buffers rise strictly among a rule's tests"
-abbrev pub tests : Sizes → ℕ → ℕ → Reader (List Test)
-tests z variables n = rising (test z variables) (λ t. t .buffer) n 0
+abbrev pub tests : RuleNumbers → Sizes → ℕ → ℕ → Reader (List Test)
+tests by z variables n = rising (test by z variables) (λ t. t .buffer) n 0
 
 -- a term is variable v
 abbrev pub isVariable : ℕ → Term → Bool
@@ -159,46 +161,46 @@ testedType [] b = 0
 testedType (t ∷ ts) b = if eqb (t .buffer) b then t .isa else testedType ts b
 
 -- "Kind 3 is not allowed." "on an untested buffer the kind field breaks its rule"
-abbrev pub kindRule : List Test → ℕ → Judgement
-kindRule ts b = must bad-number (λ kind. leb kind 2) also must bad-buffer (λ kind. not (eqb kind 0) || isTested ts b)
+abbrev pub kindRule : RuleNumbers → List Test → ℕ → Judgement
+kindRule by ts b = must (by .number) (λ kind. leb kind 2) also must (by .buffer) (λ kind. not (eqb kind 0) || isTested ts b)
 
 -- "Kind 0, modify: mask and terms for the tested type .. Kind 1, request: type 6 bits (1 to T), mask, terms. Kind 2, clear: nothing more."
-unfoldable pub deed : Sizes → ℕ → List Test → ℕ → ℕ → Reader Deed
-deed z variables ts b zero = do
-  ns ← masked variables (slotCount (z .types) (testedType ts b))
+unfoldable pub deed : RuleNumbers → Sizes → ℕ → List Test → ℕ → ℕ → Reader Deed
+deed by z variables ts b zero = do
+  ns ← masked by variables (slotCount (z .types) (testedType ts b))
   give (Modify ns)
-deed z variables ts b (suc zero) = do
-  k ← field 6 (must bad-number (aType (z .types) 1))
-  ns ← masked variables (slotCount (z .types) k)
+deed by z variables ts b (suc zero) = do
+  k ← field 6 (must (by .number) (aType (z .types) 1))
+  ns ← masked by variables (slotCount (z .types) k)
   give (Request k ns)
-deed z variables ts b (suc (suc n)) = give Clear
+deed by z variables ts b (suc (suc n)) = give Clear
 
 -- "Action: buffer 3 bits, kind 2 bits."
-unfoldable pub action : Sizes → ℕ → List Test → ℕ → Reader Action
-action z variables ts least = do
-  b ← field 3 (must bad-buffer (aBuffer (z .buffers) least))
-  kind ← field 2 (kindRule ts b)
-  d ← deed z variables ts b kind
+unfoldable pub action : RuleNumbers → Sizes → ℕ → List Test → ℕ → Reader Action
+action by z variables ts least = do
+  b ← field 3 (must (by .buffer) (aBuffer (z .buffers) least))
+  kind ← field 2 (kindRule by ts b)
+  d ← deed by z variables ts b kind
   give (record { buffer = b; deed = d })
 
 -- "and among its actions"
-abbrev pub actions : Sizes → ℕ → List Test → ℕ → Reader (List Action)
-actions z variables ts n = rising (action z variables ts) (λ a. a .buffer) n 0
+abbrev pub actions : RuleNumbers → Sizes → ℕ → List Test → ℕ → Reader (List Action)
+actions by z variables ts n = rising (action by z variables ts) (λ a. a .buffer) n 0
 
 -- a rule from its head on: its tests, and its actions
 -- "After its tests, every variable of the rule must have stood in one of them. This is checked before an action is read."
-unfoldable pub body : Sizes → Head → Reader Rule
-body z h = do
-  ts ← tests z (h .variables) (h .tests)
-  require bad-variable (every (standsIn ts) (upFrom 0 (h .variables)))
-  as′ ← actions z (h .variables) ts (h .actions)
+unfoldable pub body : RuleNumbers → Sizes → Head → Reader Rule
+body by z h = do
+  ts ← tests by z (h .variables) (h .tests)
+  require (by .variable) (every (standsIn ts) (upFrom 0 (h .variables)))
+  as′ ← actions by z (h .variables) ts (h .actions)
   give (record { utility = utilityOf (h .utility); tests = ts; actions = as′ })
 
 -- "For each rule"
-unfoldable pub rule : Sizes → Reader Rule
-rule z = do
-  h ← head (z .buffers)
-  body z h
+unfoldable pub rule : RuleNumbers → Sizes → Reader Rule
+rule by z = do
+  h ← head by (z .buffers)
+  body by z h
 
 -- ---- 6. "Zero bits up to the byte's end. No byte follows."
 
@@ -206,6 +208,7 @@ rule z = do
 abbrev pub padding : ℕ → ℕ
 padding at = (8 - at % 8) % 8
 
+-- no field is refused here, so there is no position: "else 0"
 unfoldable pub ending : Reader (Unit {0})
 ending image at =
     if eqb (fieldAt image at (padding at)) 0 && eqb (at + padding at) (8 * length image) then Got tt at else Refused bad-end 0
@@ -218,12 +221,12 @@ pub record Beginning : Type 0 where
   pub types : List ℕ
   pub opening : List Chunk
 
-unfoldable pub beginning : Reader Beginning
-beginning = do
-  h ← header
-  counts ← slotCounts (h .declared)
+unfoldable pub beginning : RuleNumbers → Reader Beginning
+beginning by = do
+  h ← header by
+  counts ← slotCounts by (h .declared)
   let types = 0 ∷ counts
-  opening ← times (h .buffers) (chunk types 0)
+  opening ← times (h .buffers) (chunk by types 0)
   give (record { head = h; types = types; opening = opening })
 
 -- 4 to 6: so many facts, so many rules, and the end
@@ -231,19 +234,23 @@ pub record Contents : Type 0 where
   pub facts : List Fact
   pub rules : List Rule
 
-unfoldable pub contents : Sizes → ℕ → ℕ → Reader Contents
-contents z n m = do
-  facts ← times n (fact (z .types))
-  rules ← times m (rule z)
+unfoldable pub contents : RuleNumbers → Sizes → ℕ → ℕ → Reader Contents
+contents by z n m = do
+  facts ← times n (fact by (z .types))
+  rules ← times m (rule by z)
   ending
   give (record { facts = facts; rules = rules })
 
-unfoldable pub model : Reader Model
-model = do
-  b ← beginning
-  c ← contents (record { buffers = b .head .buffers; types = b .types }) (b .head .facts) (b .head .rules)
+unfoldable pub model : RuleNumbers → Reader Model
+model by = do
+  b ← beginning by
+  c ← contents by (record { buffers = b .head .buffers; types = b .types }) (b .head .facts) (b .head .rules)
   give (record { buffers = b .head .buffers; types = b .types; failure = b .head .failure; opening = b .opening; facts = c .facts; rules = c .rules })
 
 -- "image over 65,536 bytes" comes first
-unfoldable pub decode : List ℕ → Read Model
-decode image = if ltb 65536 (length image) then Refused too-long 0 else model image 0
+unfoldable pub decodeBy : RuleNumbers → List ℕ → Read Model
+decodeBy by image = if ltb 65536 (length image) then Refused too-long 0 else model by image 0
+
+-- by the numbers that the calls answer
+abbrev pub decode : List ℕ → Read Model
+decode image = decodeBy finer image

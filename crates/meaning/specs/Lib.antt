@@ -23,3 +23,4 @@ pub mod Examples
 pub mod Telling
 pub mod EmptySlots
 pub mod Afresh
+pub mod BadImages

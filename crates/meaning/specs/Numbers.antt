@@ -13,18 +13,9 @@ too-long = 1
 abbrev pub not-there : ℕ
 not-there = 2
 
--- "a field breaks its rule above". What the rule is about is named apart, so that finer numbers have their places.
+-- 01: "a field breaks its rule above"; since request 2026-03 "3 now means a version, count, type or action kind"
 abbrev pub bad-number : ℕ
 bad-number = 3
-
-abbrev pub bad-mask : ℕ
-bad-mask = 3
-
-abbrev pub bad-variable : ℕ
-bad-variable = 3
-
-abbrev pub bad-buffer : ℕ
-bad-buffer = 3
 
 -- "a pad bit is 1, or a byte follows"
 abbrev pub bad-end : ℕ
@@ -53,3 +44,33 @@ halted = 9
 -- "mark is 2 to the power of the buffer count, or more"
 abbrev pub bad-mark : ℕ
 bad-mark = 10
+
+-- ---- request 2026-03: "Number 3 covers too much. We want finer numbers"
+
+-- "11 a mask bit past the type's slots"
+abbrev pub bad-mask : ℕ
+bad-mask = 11
+
+-- "12 a variable not below the count or in no test"
+abbrev pub bad-variable : ℕ
+bad-variable = 12
+
+-- "13 a buffer that does not exist, does not rise, or is modified untested"
+abbrev pub bad-buffer : ℕ
+bad-buffer = 13
+
+-- the numbers that the rules of fields go by, one for each thing that a rule is about
+pub record RuleNumbers : Type 0 where
+  -- a version, count, type or action kind
+  pub number : ℕ
+  pub mask : ℕ
+  pub variable : ℕ
+  pub buffer : ℕ
+
+-- as 01 has them: whatever the rule is about, it is one number
+abbrev pub coarse : RuleNumbers
+coarse = record { number = bad-number; mask = bad-number; variable = bad-number; buffer = bad-number }
+
+-- as the calls answer them
+abbrev pub finer : RuleNumbers
+finer = record { number = bad-number; mask = bad-mask; variable = bad-variable; buffer = bad-buffer }

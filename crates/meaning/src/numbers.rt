@@ -5,14 +5,7 @@ pub const TOO_LONG: u8 = 1;
 
 pub const NOT_THERE: u8 = 2;
 
-// A field breaks its rule: what the rule is about is named apart, so that finer numbers have their places.
 pub const BAD_NUMBER: u8 = 3;
-
-pub const BAD_MASK: u8 = 3;
-
-pub const BAD_VARIABLE: u8 = 3;
-
-pub const BAD_BUFFER: u8 = 3;
 
 pub const BAD_END: u8 = 4;
 
@@ -27,3 +20,9 @@ pub const CLOCK_FULL: u8 = 8;
 pub const HALTED: u8 = 9;
 
 pub const BAD_MARK: u8 = 10;
+
+pub const BAD_MASK: u8 = 11;
+
+pub const BAD_VARIABLE: u8 = 12;
+
+pub const BAD_BUFFER: u8 = 13;
