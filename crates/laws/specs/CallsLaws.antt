@@ -1,24 +1,28 @@
--- Laws of the calls: what `open` gives is well formed; at most 2,304 words in a table; a run makes no more steps than asked.
+-- Laws of the calls: what `open` gives is well formed; at most 2,304 words in a table; a run makes no more steps than asked;
+-- the position that each gives.
 use mathlib.Core.Path.{_≡_, refl, _∙_}
-use mathlib.Core.Bool.{true, false}
+use mathlib.Core.Bool.{Bool, true, false, not}
 use mathlib.Core.List.{List, _∷_, _++_, map}
-use Prim.Native.Nat.{ℕ, suc, _+_, _-_, _≤_}
+use Prim.Native.Nat.{ℕ, suc, _+_, _-_, _*_, _^_, _≤_}
 use native.Mathlib.Omega.{arith}
 use borrow.Author.Tests.{lt-ltb}
+use lib.Dec.{leb, eqb}
 use lib.ListN.{length, drop, replicate, length-map}
 use lib.Seq.{drop-at}
-use Rattle.meaning.specs.Numbers.{ill-formed}
+use Rattle.meaning.specs.Numbers.{finer, wrong-table, ill-formed}
 use Rattle.meaning.specs.declared.State.{State}
 use Rattle.meaning.specs.Base.{if_then_else_, every}
 use Rattle.meaning.specs.Model.{Model}
 use Rattle.meaning.specs.State.{nilAfter, wellBuffer, isNil, wellFormed}
 use Rattle.meaning.specs.Read.{Got, Read, Refused}
 use Rattle.meaning.specs.Image.{chunk, decode}
-use Rattle.meaning.specs.Calls.{opens, openState, wordsFor, tableLength, accepted, tracedBy, traceOf, runOf}
+use Rattle.meaning.specs.Calls.{fitting, accepted, placeOf, neededBy, neededOf, opens, openState, openedBy, openOf, tracedBy, traceOf, runOf, Refreshed, refreshedBy, refreshOf}
+use Rattle.meaning.specs.Fresh.{freshOf}
 use Rattle.meaning.specs.Run.{going, ends, runFrom}
 use Rattle.laws.specs.BaseLaws.{every-append, every-map, every-replicate}
 use Rattle.laws.specs.ReadLaws.{times-all}
 use Rattle.laws.specs.ImageLaws.{Parts, chunk-well, few-rules, parts}
+use Rattle.laws.specs.PlaceLaws.{decode-within}
 use Rattle.laws.specs.RunLaws.{run-most}
 
 pub nil-well : (counts : List ℕ) → wellBuffer (0 ∷ counts) (nilAfter 0) ≡ true
@@ -41,14 +45,14 @@ pub open-well : (image : List ℕ) (m : Model) (at : ℕ) → decode image ≡ G
 open-well image m at e =
     let p : Parts image m = parts image m at e in
     let o : (every (λ c. wellBuffer (m .types) (opens c)) (m .opening) ≡ true) × (length (m .opening) ≡ m .buffers) =
-    times-all (chunk (m .types) 0) (λ c. wellBuffer (m .types) (opens c)) (chunk-well (m .types) 0) (m .buffers) image (p .opening-at) (m .opening) (p .facts-at) (p .opening-read) in
+    times-all (chunk finer (m .types) 0) (λ c. wellBuffer (m .types) (opens c)) (chunk-well (m .types) 0) (m .buffers) image (p .opening-at) (m .opening) (p .facts-at) (p .opening-read) in
     open-made m (p .counts) (p .types-are) (o .0) (o .1)
 
-pub table-most : (image : List ℕ) → tableLength image ≤ 2304
-unfolding tableLength
+pub table-most : (image : List ℕ) → neededOf image .words ≤ 2304
+unfolding neededOf
 table-most image = by (decode image) refl
   where
-    by : (r : Read Model) → decode image ≡ r → wordsFor r ≤ 2304
+    by : (r : Read Model) → decode image ≡ r → neededBy r .words ≤ 2304
     by (Refused n at) e = omega arith
     by (Got m at) e = omega (arith, few-rules image m at e)
 
@@ -63,3 +67,65 @@ made-most image s table n = by (accepted image table)
           | true ↦ run-most m n (going s table)
           | false ↦ omega arith
         ]
+
+-- ---- "from every call the position": it is that of the refused image or table, else 0 (`..-placed`), and at most 524,288, the bits of the longest image (`..-place`)
+
+pub decode-place : (image : List ℕ) → placeOf (decode image) ≤ 524288
+decode-place image = by (decode image) refl
+  where
+    by : (r : Read Model) → decode image ≡ r → placeOf r ≤ 524288
+    by (Refused n at) e = decode-within finer image n at e .1
+    by (Got m at) e = omega arith
+
+pub accepted-place : (image table : List ℕ) → placeOf (accepted image table) ≤ 524288
+unfolding accepted
+accepted-place image table = by (decode image) (decode-place image)
+  where
+    by : (r : Read Model) → placeOf r ≤ 524288 → placeOf (fitting table r) ≤ 524288
+    by (Refused n at) h = h
+    by (Got m at) h = elim (eqb (length table) (9 * length (m .rules))) as (λ t. placeOf (if t then Got m at else Refused wrong-table 0) ≤ 524288) [ true ↦ omega arith | false ↦ omega arith ]
+
+pub open-placed : (image table : List ℕ) → openOf image table .position ≡ placeOf (accepted image table)
+unfolding openOf
+open-placed image table = by (accepted image table)
+  where
+    by : (r : Read Model) → openedBy table r .position ≡ placeOf r
+    by (Refused n at) = refl
+    by (Got m at) = refl
+
+unplaced : (t : Bool) (a b : Refreshed) → a .position ≡ 0 → b .position ≡ 0 → (if_then_else_ {A = Refreshed} t a b) .position ≡ 0
+unplaced true a b p q = p
+unplaced false a b p q = q
+
+pub refresh-placed : (image : List ℕ) (s : State) (mark : ℕ) (table : List ℕ) → refreshOf image s mark table .position ≡ placeOf (accepted image table)
+unfolding refreshOf
+refresh-placed image s mark table = by (accepted image table)
+  where
+    by : (r : Read Model) → refreshedBy s mark table r .position ≡ placeOf r
+    by (Refused n at) = refl
+    by (Got m at) = unplaced (not (wellFormed m s)) _ _ refl (unplaced (leb (2 ^ m .buffers) mark) _ _ refl refl)
+
+pub needed-placed : (image : List ℕ) → neededOf image .position ≡ placeOf (decode image)
+unfolding neededOf
+needed-placed image = by (decode image)
+  where
+    by : (r : Read Model) → neededBy r .position ≡ placeOf r
+    by (Refused n at) = refl
+    by (Got m at) = refl
+
+pub open-place : (image table : List ℕ) → openOf image table .position ≤ 524288
+open-place image table = rw (open-placed image table) (accepted-place image table)
+
+pub run-place : (image : List ℕ) (s : State) (table : List ℕ) (steps : ℕ) → runOf image s table steps .position ≤ 524288
+unfolding runOf
+run-place image s table steps = accepted-place image table
+
+pub refresh-place : (image : List ℕ) (s : State) (mark : ℕ) (table : List ℕ) → refreshOf image s mark table .position ≤ 524288
+refresh-place image s mark table = rw (refresh-placed image s mark table) (accepted-place image table)
+
+pub fresh-place : (image : List ℕ) (s : State) (steps : ℕ) → freshOf image s steps .position ≤ 524288
+unfolding freshOf
+fresh-place image s steps = decode-place image
+
+pub needed-place : (image : List ℕ) → neededOf image .position ≤ 524288
+needed-place image = rw (needed-placed image) (decode-place image)

@@ -9,10 +9,10 @@ use lib.Dec.{ltb, leb, eqb}
 use lib.ListN.{length, drop, replicate}
 use lib.Count.{ones}
 use lib.Seq.{drop-at}
-use Rattle.meaning.specs.Numbers.{bad-number, too-long}
+use Rattle.meaning.specs.Numbers.{finer, bad-number, too-long}
 use Rattle.meaning.specs.Base.{if_then_else_, every, upFrom}
 use Rattle.meaning.specs.Read.{Refused, Got, must, field, times}
-use Rattle.meaning.specs.Image.{between, slotsIn, chunk, aType, anything, eight, decode, Header, header, fact, Head, head, rule, ending, beginning, contents, model}
+use Rattle.meaning.specs.Image.{between, slotsIn, chunk, aType, anything, eight, decode, decodeBy, Header, header, fact, Head, head, rule, ending, beginning, contents, model}
 use Rattle.meaning.specs.Model.{Model, Chunk}
 use Rattle.meaning.specs.State.{slotCount, wellBuffer}
 use Rattle.meaning.specs.Calls.{opens}
@@ -62,7 +62,7 @@ made-well types k vs h small l =
     rw (h, t, z) (all-zeros (8 - length vs))
 
 -- a chunk of a decoded image makes a well-formed buffer
-pub chunk-well : (types : List ℕ) (least : ℕ) (image : List ℕ) (at : ℕ) (c : Chunk) (end : ℕ) → chunk types least image at ≡ Got c end → wellBuffer types (opens c) ≡ true
+pub chunk-well : (types : List ℕ) (least : ℕ) (image : List ℕ) (at : ℕ) (c : Chunk) (end : ℕ) → chunk finer types least image at ≡ Got c end → wellBuffer types (opens c) ≡ true
 unfolding chunk
 chunk-well types least image at c end e =
     split (field 6 (must bad-number (aType types least)) image at) _ e λ k n₁ e₁ k₁.
@@ -85,20 +85,20 @@ pub record Parts (image : List ℕ) (m : Model) : Type 0 where
   pub end : ℕ
   pub buffers-are : m .buffers ≡ head .buffers
   pub types-are : m .types ≡ 0 ∷ counts
-  pub head-read : header image 0 ≡ Got head types-at
-  pub opening-read : times (m .buffers) (chunk (m .types) 0) image opening-at ≡ Got (m .opening) facts-at
-  pub facts-read : times (head .facts) (fact (m .types)) image facts-at ≡ Got (m .facts) rules-at
-  pub rules-read : times (head .rules) (rule (record { buffers = m .buffers; types = m .types })) image rules-at ≡ Got (m .rules) end
+  pub head-read : header finer image 0 ≡ Got head types-at
+  pub opening-read : times (m .buffers) (chunk finer (m .types) 0) image opening-at ≡ Got (m .opening) facts-at
+  pub facts-read : times (head .facts) (fact finer (m .types)) image facts-at ≡ Got (m .facts) rules-at
+  pub rules-read : times (head .rules) (rule finer (record { buffers = m .buffers; types = m .types })) image rules-at ≡ Got (m .rules) end
 
 module _ (image : List ℕ) (m : Model) (at : ℕ) where
-  model-parts : model image 0 ≡ Got m at → Parts image m
+  model-parts : model finer image 0 ≡ Got m at → Parts image m
   unfolding model beginning contents
   model-parts e =
-      split (header image 0) _ (simp follow-follow at e) λ h n₁ e₁ k₁.
+      split (header finer image 0) _ (simp follow-follow at e) λ h n₁ e₁ k₁.
       split (times (h .declared) (field 4 (must bad-number (between 0 8))) image n₁) _ k₁ λ counts n₂ e₂ k₂.
-      split (times (h .buffers) (chunk (0 ∷ counts) 0) image n₂) _ k₂ λ opening n₃ e₃ k₃.
-      split (times (h .facts) (fact (0 ∷ counts)) image n₃) _ k₃ λ facts n₄ e₄ k₄.
-      split (times (h .rules) (rule (record { buffers = h .buffers; types = 0 ∷ counts })) image n₄) _ k₄ λ rules n₅ e₅ k₅.
+      split (times (h .buffers) (chunk finer (0 ∷ counts) 0) image n₂) _ k₂ λ opening n₃ e₃ k₃.
+      split (times (h .facts) (fact finer (0 ∷ counts)) image n₃) _ k₃ λ facts n₄ e₄ k₄.
+      split (times (h .rules) (rule finer (record { buffers = h .buffers; types = 0 ∷ counts })) image n₄) _ k₄ λ rules n₅ e₅ k₅.
       split (ending image n₅) _ k₅ λ u n₆ e₆ k₆.
       let m-is : m ≡ record { buffers = h .buffers; types = 0 ∷ counts; failure = h .failure; opening = opening; facts = facts; rules = rules } = made k₆ in
       rw m-is
@@ -122,9 +122,9 @@ module _ (image : List ℕ) (m : Model) (at : ℕ) where
       made e = cc
 
   pub parts : decode image ≡ Got m at → Parts image m
-  unfolding decode
+  unfolding decodeBy
   parts e =
-      (elim (ltb 65536 (length image)) as (λ t. (if t then Refused too-long 0 else model image 0) ≡ Got m at → Parts image m) [
+      (elim (ltb 65536 (length image)) as (λ t. (if t then Refused too-long 0 else model finer image 0) ≡ Got m at → Parts image m) [
         | true ↦ λ h. absurd (no-got too-long 0 m at h)
         | false ↦ λ h. model-parts h
       ]) e
@@ -137,7 +137,7 @@ pub record HeadFits (h : Head) (buffers : ℕ) : Type 0 where
   pub actions-few : h .actions ≤ buffers
   pub variables-few : h .variables ≤ 8
 
-pub head-fits : (buffers : ℕ) (image : List ℕ) (at : ℕ) (h : Head) (end : ℕ) → head buffers image at ≡ Got h end → HeadFits h buffers
+pub head-fits : (buffers : ℕ) (image : List ℕ) (at : ℕ) (h : Head) (end : ℕ) → head finer buffers image at ≡ Got h end → HeadFits h buffers
 unfolding head
 head-fits buffers image at h end e =
     split (field 16 anything image at) _ e λ u n₁ e₁ k₁.
@@ -154,7 +154,7 @@ head-fits buffers image at h end e =
 
 -- ---- "0 to 256 rules"
 
-header-rules : (image : List ℕ) (h : Header) (next : ℕ) → header image 0 ≡ Got h next → h .rules ≤ 256
+header-rules : (image : List ℕ) (h : Header) (next : ℕ) → header finer image 0 ≡ Got h next → h .rules ≤ 256
 unfolding header
 header-rules image h next e =
     split (field 8 (must bad-number (between 1 1)) image 0) _ e λ v n₁ e₁ k₁.
@@ -173,5 +173,5 @@ pub few-rules : (image : List ℕ) (m : Model) (at : ℕ) → decode image ≡ G
 few-rules image m at e =
     let p : Parts image m = parts image m at e in
     let l : length (m .rules) ≡ p .head .rules =
-    times-all (rule (record { buffers = m .buffers; types = m .types })) (λ r. true) (λ image at a next e. refl) (p .head .rules) image (p .rules-at) (m .rules) (p .end) (p .rules-read) .1 in
+    times-all (rule finer (record { buffers = m .buffers; types = m .types })) (λ r. true) (λ image at a next e. refl) (p .head .rules) image (p .rules-at) (m .rules) (p .end) (p .rules-read) .1 in
     omega (arith, l, header-rules image (p .head) (p .types-at) (p .head-read))

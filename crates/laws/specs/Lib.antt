@@ -3,6 +3,8 @@ pub mod BaseLaws
 pub mod HighestLaws
 pub mod BitsLaws
 pub mod ReadLaws
+pub mod FieldLaws
+pub mod PlaceLaws
 pub mod ImageLaws
 pub mod MatchLaws
 pub mod ChoiceLaws

@@ -1,13 +1,15 @@
 -- Laws of reading: the three answers of a field, a reading taken apart, n things one after the other.
 use mathlib.Core.Path.{_≡_, refl, sym, ap}
 use mathlib.Core.Bool.{Bool, true, false}
+use mathlib.Core.Logic.{_⊎_, inl, inr}
 use mathlib.Core.List.{List, [], _∷_}
 use Prim.Native.Nat.{ℕ, zero, suc, _+_, _*_, _≤_, _<_}
 use native.Mathlib.Omega.{arith}
-use borrow.Author.Tests.{ltb-false, lt-ltb, le-ltb}
+use borrow.Author.Tests.{ltb-true, ltb-false, lt-ltb, le-ltb}
 use lib.Dec.{ltb}
 use lib.ListN.{length}
 use Rattle.meaning.specs.Base.{if_then_else_, every}
+use Rattle.meaning.specs.Numbers.{not-there}
 use Rattle.meaning.specs.Bits.{fieldAt}
 use Rattle.meaning.specs.Read.{Read, Refused, Got, Reader, follow, judged, field, times}
 
@@ -53,6 +55,28 @@ field-got width rule image at value next e =
           let v : ℕ = fieldAt image at width in
           let g : (rule v ≡ 0) × (v ≡ value) × (at + width ≡ next) = judged-got (rule v) v at (at + width) value next h in
           record { there = omega (arith, ltb-false (8 * length image) (at + width) t); after = omega arith; is = sym (g .1); kept = rw (← g .1) (g .0) }
+    ]) refl e
+
+-- what a field that was refused says: it is refused at its first bit, because it is not wholly there or because its rule says so
+pub record FieldRefused (width : ℕ) (rule : ℕ → ℕ) (image : List ℕ) (at n x : ℕ) : Type 0 where
+  pub first : x ≡ at
+  pub cause : ((8 * length image < at + width) × (n ≡ not-there)) ⊎ ((at + width ≤ 8 * length image) × (0 < n) × (rule (fieldAt image at width) ≡ n))
+
+judged-refused : (j v at next n x : ℕ) → judged j v at next ≡ Refused n x → (x ≡ at) × (0 < n) × (j ≡ n)
+judged-refused zero v at next n x e = absurd (no-got n x v next (sym e))
+judged-refused (suc j) v at next n x e = let q : suc j ≡ n = cc in (cc, omega arith, q)
+
+pub field-refused : (width : ℕ) (rule : ℕ → ℕ) (image : List ℕ) (at n x : ℕ) → field width rule image at ≡ Refused n x → FieldRefused width rule image at n x
+unfolding field
+field-refused width rule image at n x e =
+    (elim (ltb (8 * length image) (at + width)) as
+    (λ t. ltb (8 * length image) (at + width) ≡ t
+    → (if t then Refused 2 at else (judged (rule (fieldAt image at width)) (fieldAt image at width) at (at + width))) ≡ Refused n x
+    → FieldRefused width rule image at n x) [
+      | true ↦ λ t h. record { first = cc; cause = inl (ltb-true (8 * length image) (at + width) t, cc) }
+      | false ↦ λ t h.
+          let g = judged-refused (rule (fieldAt image at width)) (fieldAt image at width) at (at + width) n x h in
+          record { first = g .0; cause = inr (ltb-false (8 * length image) (at + width) t, g .1, g .2) }
     ]) refl e
 
 -- a rule that is kept holds
