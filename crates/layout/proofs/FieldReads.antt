@@ -72,5 +72,5 @@ field-between w low high s p =
 pub term-kept : (variables t : ℕ) → t < 4096 + variables → must bad-variable (aTerm variables) t ≡ 0
 term-kept variables t h = rw (lt-ltb t (4096 + variables) h)
 
-pub term-big : (variables t : ℕ) → 4096 + variables ≤ t → must bad-variable (aTerm variables) t ≡ 3
+pub term-big : (variables t : ℕ) → 4096 + variables ≤ t → must bad-variable (aTerm variables) t ≡ bad-variable
 term-big variables t h = rw (le-ltb t (4096 + variables) h)

@@ -5,7 +5,7 @@ use mathlib.Core.List.{List, _∷_}
 use native.Mathlib.Omega.{arith}
 use lib.ListN.{length, getD, take}
 use lib.Seq.{sets}
-use Rattle.meaning.specs.Numbers.{bad-buffer}
+use Rattle.meaning.specs.Numbers.{finer, bad-buffer}
 use Rattle.meaning.specs.Model.{Test, Named, Deed, Action, Sizes}
 use Rattle.meaning.specs.Read.{Read, Refused, Got, follow, field, must}
 use Rattle.meaning.specs.Image.{aBuffer, kindRule, deed, action, actions}
@@ -35,16 +35,16 @@ buffer-small rule s p v b q e h =
     omega (arith, f .is, fieldAt-lt s p 3)
 
 module _ (z : Sizes) (variables : ℕ) (ts : List Test) (least : ℕ) (s : List ℕ) (p : ℕ) (v : Walk) (b : ℕ) (e : answer v b ≡ field 3 (must bad-buffer (aBuffer (z .buffers) least)) s p) where
-  pub action-bad : (x y : ℕ) → v ≡ Bad x y → Refused x y ≡ action z variables ts least s p
+  pub action-bad : (x y : ℕ) → v ≡ Bad x y → Refused x y ≡ action finer z variables ts least s p
   unfolding action
   action-bad x y h = rw (← e, h)
 
-  pub action-on : (q : ℕ) → v ≡ Next q → (w : Walk) (d : Deed) → answer w d ≡ kindAndDeed z variables ts b s q → answer w (acts b d) ≡ action z variables ts least s p
+  pub action-on : (q : ℕ) → v ≡ Next q → (w : Walk) (d : Deed) → answer w d ≡ kindAndDeed z variables ts b s q → answer w (acts b d) ≡ action finer z variables ts least s p
   unfolding action
   action-on q h w d g =
       rw (← e, h)
       (go w ∙ ap (λ (r : Read Deed). follow r (λ d n. Got (acts b d) n)) g
-      ∙ follow-follow (field 2 (kindRule ts b) s q) (λ kind n. deed z variables ts b kind s n) (λ d n. Got (acts b d) n))
+      ∙ follow-follow (field 2 (kindRule finer ts b) s q) (λ kind n. deed finer z variables ts b kind s n) (λ d n. Got (acts b d) n))
     where
       go : (w : Walk) → answer w (acts b d) ≡ follow (answer w d) (λ d n. Got (acts b d) n)
       go (Next n) = refl
@@ -58,26 +58,26 @@ tests-kept w w′ o n h e = in-same testIn test-like w′ w o n (λ j l. below-g
 module _ (z : Sizes) (variables : ℕ) (s w₀ : List ℕ) (o n m : ℕ) where
   -- the actions that stand in w, and then those that are left from here
   unfoldable pub acting : List ℕ → ℕ → ℕ → ℕ → Read (List Action)
-  acting w i least at = onward (action z variables (testsIn w₀ o n)) (λ a. a .buffer) s m (actionsIn w (o + 88) i) i least at
+  acting w i least at = onward (action finer z variables (testsIn w₀ o n)) (λ a. a .buffer) s m (actionsIn w (o + 88) i) i least at
 
-  pub acting-start : (at : ℕ) → acting w₀ 0 0 at ≡ actions z variables (testsIn w₀ o n) m s at
+  pub acting-start : (at : ℕ) → acting w₀ 0 0 at ≡ actions finer z variables (testsIn w₀ o n) m s at
   unfolding acting rowsIn
-  acting-start at = onward-start (action z variables (testsIn w₀ o n)) (λ a. a .buffer) s m 0 at
+  acting-start at = onward-start (action finer z variables (testsIn w₀ o n)) (λ a. a .buffer) s m 0 at
 
   pub acting-end : (w : List ℕ) (i least at : ℕ) → i ≡ m → Got (actionsIn w (o + 88) m) at ≡ acting w i least at
   unfolding acting
   acting-end w i least at e =
-      ap (λ (k : ℕ). Got (actionsIn w (o + 88) k) at) (sym e) ∙ onward-end (action z variables (testsIn w₀ o n)) (λ a. a .buffer) s m (actionsIn w (o + 88) i) i least at (omega arith)
+      ap (λ (k : ℕ). Got (actionsIn w (o + 88) k) at) (sym e) ∙ onward-end (action finer z variables (testsIn w₀ o n)) (λ a. a .buffer) s m (actionsIn w (o + 88) i) i least at (omega arith)
 
   module _ (w : List ℕ) (i least at : ℕ) (h : i < m) (l : n ≤ 8) (kept : take (o + 88) w ≡ take (o + 88) w₀) (v : Walk) (ws : List ℕ)
-      (e : answer v (actionIn ws 0) ≡ action z variables (testsIn w o n) least s at) where
-    by-first : answer v (actionIn ws 0) ≡ action z variables (testsIn w₀ o n) least s at
-    by-first = e ∙ ap (λ (ts : List Test). action z variables ts least s at) (tests-kept w₀ w o n l kept)
+      (e : answer v (actionIn ws 0) ≡ action finer z variables (testsIn w o n) least s at) where
+    by-first : answer v (actionIn ws 0) ≡ action finer z variables (testsIn w₀ o n) least s at
+    by-first = e ∙ ap (λ (ts : List Test). action finer z variables ts least s at) (tests-kept w₀ w o n l kept)
 
     pub acting-bad : (x y : ℕ) → v ≡ Bad x y → Refused x y ≡ acting w i least at
     unfolding acting
     acting-bad x y g =
-        onward-bad (action z variables (testsIn w₀ o n)) (λ a. a .buffer) s m (actionsIn w (o + 88) i) i least at h x y
+        onward-bad (action finer z variables (testsIn w₀ o n)) (λ a. a .buffer) s m (actionsIn w (o + 88) i) i least at h x y
         (sym (answer-bad v (actionIn ws 0) x y g) ∙ by-first)
 
     pub acting-turn : (w′ : List ℕ) (q : ℕ) → v ≡ Next q → w′ ≡ sets w (o + 88 + 11 * i) ws → length ws ≡ 11 → o + 88 + 11 * i + 11 ≤ length w
@@ -85,5 +85,5 @@ module _ (z : Sizes) (variables : ℕ) (s w₀ : List ℕ) (o n m : ℕ) where
     unfolding acting
     acting-turn w′ q g k el hl =
         rw (k, in-more actionIn action-like w (o + 88) i ws el hl)
-        (onward-turn (action z variables (testsIn w₀ o n)) (λ a. a .buffer) s m (actionsIn w (o + 88) i) i least at h (actionIn ws 0) q
+        (onward-turn (action finer z variables (testsIn w₀ o n)) (λ a. a .buffer) s m (actionsIn w (o + 88) i) i least at h (actionIn ws 0) q
         (sym (answer-next v (actionIn ws 0) q g) ∙ by-first))

@@ -2,6 +2,7 @@
 ghost use mathlib.Core.Path.{_≡_};
 ghost use Prim.Native.Nat.{_*_, _≤_, _<_};
 ghost use lib.ListN.{length, take};
+ghost use Rattle.meaning.specs.Numbers.{finer};
 ghost use Rattle.meaning.specs.Image.{action, actions};
 ghost use Rattle.layout.specs.Walks.{answer, Within};
 ghost use Rattle.layout.specs.Rows.{sizes, actionIn, testsIn, actionsIn};
@@ -37,7 +38,7 @@ fn action(
     least: u16,
 ) -> RowRead
     requires { ⌜ (length (now image) ≤ 65536) × (p ≤ 8 * length (now image)) × (buffers ≤ 8) × (variables ≤ 8) × (0 < length (now types)) × (11 * n ≤ length (now rule)) × (n ≤ 8) ⌝ }
-    ensures { λ r. ⌜ answer (r .walk) (actionIn (r .words) 0) ≡ action (sizes buffers (now (types .entry))) variables (testsIn (now (rule .entry)) 0 n) least (now (image .entry)) p ⌝ }
+    ensures { λ r. ⌜ answer (r .walk) (actionIn (r .words) 0) ≡ action finer (sizes buffers (now (types .entry))) variables (testsIn (now (rule .entry)) 0 n) least (now (image .entry)) p ⌝ }
     ensures within { λ r. ⌜ Within (r .walk) (8 * length (now (image .entry))) ⌝ }
 {
     let x = read_ranges::ranged(image, p, 3, least, buffers, BAD_BUFFER);
@@ -64,7 +65,7 @@ pub fn actions(
     n: usize,
 ) -> Walk
     requires { ⌜ (length (now image) ≤ 65536) × (p ≤ 8 * length (now image)) × (buffers ≤ 8) × (variables ≤ 8) × (0 < length (now types)) × (n ≤ 8) × (176 ≤ length (now rule)) × (m ≤ 8) ⌝ }
-    ensures { λ r. ⌜ answer r (actionsIn (now (rule .exit)) 88 m) ≡ actions (sizes buffers (now (types .entry))) variables (testsIn (now (rule .entry)) 0 n) m (now (image .entry)) p ⌝ }
+    ensures { λ r. ⌜ answer r (actionsIn (now (rule .exit)) 88 m) ≡ actions finer (sizes buffers (now (types .entry))) variables (testsIn (now (rule .entry)) 0 n) m (now (image .entry)) p ⌝ }
     ensures within { λ r. ⌜ Within r (8 * length (now (image .entry))) ⌝ }
     ensures kept { λ r. ⌜ take 88 (now (rule .exit)) ≡ take 88 (now (rule .entry)) ⌝ }
 {

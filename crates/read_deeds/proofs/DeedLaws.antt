@@ -7,7 +7,7 @@ use native.Mathlib.Omega.{arith}
 use lib.Dec.{leb, ltb}
 use lib.ListN.{length, getD}
 use borrow.Author.Tests.{leb-true, lt-leb, lt-ltb, ne-eqb}
-use Rattle.meaning.specs.Numbers.{bad-number}
+use Rattle.meaning.specs.Numbers.{finer, bad-number, bad-buffer}
 use Rattle.meaning.specs.Model.{Test, Named, Deed, Modify, Request, Sizes}
 use Rattle.meaning.specs.Read.{Read, Refused, Got, follow, field, must}
 use Rattle.meaning.specs.Image.{aType, kindRule, isTested, testedType, masked, deed}
@@ -25,30 +25,30 @@ use Rattle.read_deeds.specs.Deeds.{says, kindAndDeed}
 -- ---- the rule of the kind
 
 module _ (ts : List Test) (b : ℕ) where
-  pub modify-kept : isTested ts b ≡ true → kindRule ts b 0 ≡ 0
+  pub modify-kept : isTested ts b ≡ true → kindRule finer ts b 0 ≡ 0
   modify-kept e = rw e
 
-  pub modify-broken : isTested ts b ≡ false → kindRule ts b 0 ≡ 3
+  pub modify-broken : isTested ts b ≡ false → kindRule finer ts b 0 ≡ bad-buffer
   modify-broken e = rw e
 
-  pub kind-broken : (kind : ℕ) → 2 < kind → kindRule ts b kind ≡ 3
+  pub kind-broken : (kind : ℕ) → 2 < kind → kindRule finer ts b kind ≡ bad-number
   kind-broken kind h = rw (lt-leb kind 2 h)
 
 -- ---- the kind, and what follows it
 
 module _ (z : Sizes) (variables : ℕ) (ts : List Test) (b : ℕ) (s : List ℕ) (p : ℕ) where
-  pub kind-bad : (x y : ℕ) → field 2 (kindRule ts b) s p ≡ Refused x y → Refused x y ≡ kindAndDeed z variables ts b s p
+  pub kind-bad : (x y : ℕ) → field 2 (kindRule finer ts b) s p ≡ Refused x y → Refused x y ≡ kindAndDeed z variables ts b s p
   kind-bad x y e = rw e
 
-  pub kind-on : (d : Read Deed) (kind q : ℕ) → d ≡ deed z variables ts b kind s q → field 2 (kindRule ts b) s p ≡ Got kind q → d ≡ kindAndDeed z variables ts b s p
+  pub kind-on : (d : Read Deed) (kind q : ℕ) → d ≡ deed finer z variables ts b kind s q → field 2 (kindRule finer ts b) s p ≡ Got kind q → d ≡ kindAndDeed z variables ts b s p
   kind-on d kind q g e = rw e g
 
-  pub clear-says : (r : DeedRead) → r .walk ≡ Next p → r .deed ≡ 64 → says r ≡ deed z variables ts b 2 s p
+  pub clear-says : (r : DeedRead) → r .walk ≡ Next p → r .deed ≡ 64 → says r ≡ deed finer z variables ts b 2 s p
   unfolding deed
   clear-says r e g = rw (e, g)
 
-  pub modify-says : (r : DeedRead) (k : ℕ) → testedType ts b ≡ k → r .deed ≡ 0 → answer (r .walk) (namedBy (r .mask) (r .slots)) ≡ masked variables (getD (z .types) k 0) s p
-      → says r ≡ deed z variables ts b 0 s p
+  pub modify-says : (r : DeedRead) (k : ℕ) → testedType ts b ≡ k → r .deed ≡ 0 → answer (r .walk) (namedBy (r .mask) (r .slots)) ≡ masked finer variables (getD (z .types) k 0) s p
+      → says r ≡ deed finer z variables ts b 0 s p
   unfolding deed
   modify-says r k h d g = rw (h, d, ← g) (go (r .walk) (namedBy (r .mask) (r .slots)))
     where
@@ -57,12 +57,12 @@ module _ (z : Sizes) (variables : ℕ) (ts : List Test) (b : ℕ) (s : List ℕ)
       go (Bad x y) ns = refl
 
   module _ (v : Walk) (k : ℕ) (e : answer v k ≡ field 6 (must bad-number (aType (z .types) 1)) s p) where
-    pub request-bad : (x y : ℕ) → v ≡ Bad x y → Refused x y ≡ deed z variables ts b 1 s p
+    pub request-bad : (x y : ℕ) → v ≡ Bad x y → Refused x y ≡ deed finer z variables ts b 1 s p
     unfolding deed
     request-bad x y h = rw (← e, h)
 
-    pub request-says : (r : DeedRead) (q : ℕ) → v ≡ Next q → r .deed ≡ k → answer (r .walk) (namedBy (r .mask) (r .slots)) ≡ masked variables (getD (z .types) k 0) s q
-        → says r ≡ deed z variables ts b 1 s p
+    pub request-says : (r : DeedRead) (q : ℕ) → v ≡ Next q → r .deed ≡ k → answer (r .walk) (namedBy (r .mask) (r .slots)) ≡ masked finer variables (getD (z .types) k 0) s q
+        → says r ≡ deed finer z variables ts b 1 s p
     unfolding deed
     request-says r q h d g =
         let f : FieldRead 6 (must bad-number (aType (z .types) 1)) s p k q = field-got 6 (must bad-number (aType (z .types) 1)) s p k q (sym e ∙ answer-next v k q h) in

@@ -4,6 +4,7 @@ use mathlib.Core.List.{List}
 use Rattle.meaning.specs.Base.{if_then_else_}
 use Rattle.meaning.specs.Model.{Test, Deed, Action, Sizes}
 use Rattle.meaning.specs.Read.{Read, Reader, andThen, field}
+use Rattle.meaning.specs.Numbers.{finer}
 use Rattle.meaning.specs.Image.{isTested, testedType, kindRule, deed}
 use Rattle.layout.specs.Walks.{answer}
 use Rattle.layout.specs.Rows.{namedBy, deedOf}
@@ -24,7 +25,7 @@ says r = answer (r .walk) (deedIn r)
 
 -- what an action has after its buffer: "kind 2 bits", and what the kind asks
 abbrev pub kindAndDeed : Sizes → ℕ → List Test → ℕ → Reader Deed
-kindAndDeed z variables ts b = andThen (field 2 (kindRule ts b)) (deed z variables ts b)
+kindAndDeed z variables ts b = andThen (field 2 (kindRule finer ts b)) (deed finer z variables ts b)
 
 -- a deed on a buffer
 abbrev pub acts : ℕ → Deed → Action

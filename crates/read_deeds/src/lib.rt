@@ -4,6 +4,7 @@ ghost use mathlib.Core.List.{List};
 ghost use Prim.Native.Nat.{ℕ, _+_, _*_, _≤_, _<_};
 ghost use lib.ListN.{length, getD};
 ghost use Rattle.meaning.specs.Model.{Test};
+ghost use Rattle.meaning.specs.Numbers.{finer};
 ghost use Rattle.meaning.specs.Image.{testedType, masked, deed};
 ghost use Rattle.layout.specs.Walks.{answer, Within};
 ghost use Rattle.layout.specs.Rows.{sizes, namedBy, testsIn};
@@ -68,7 +69,7 @@ fn no_deed(number: u8, at: usize) -> DeedRead
 // A mask and its terms for a type, with the word of a deed before them.
 fn deed_for(image: &[u8], p: usize, types: &[u16], variables: u16, k: u16, word: u16) -> DeedRead
     requires { ⌜ (length (now image) ≤ 65536) × (p ≤ 8 * length (now image)) × (variables ≤ 8) ⌝ }
-    ensures { λ r. ⌜ answer (r .walk) (namedBy (r .mask) (r .slots)) ≡ masked variables (getD (now (types .entry)) k 0) (now (image .entry)) p ⌝ }
+    ensures { λ r. ⌜ answer (r .walk) (namedBy (r .mask) (r .slots)) ≡ masked finer variables (getD (now (types .entry)) k 0) (now (image .entry)) p ⌝ }
     ensures within { λ r. ⌜ Within (r .walk) (8 * length (now (image .entry))) ⌝ }
     ensures word { λ r. ⌜ r .deed ≡ word ⌝ }
 {
@@ -87,7 +88,7 @@ fn deed_for(image: &[u8], p: usize, types: &[u16], variables: u16, k: u16, word:
 // Modify: a mask and its terms for the tested type k.
 fn modify(image: &[u8], p: usize, types: &[u16], variables: u16, k: u16) -> DeedRead
     requires { ⌜ (length (now image) ≤ 65536) × (p ≤ 8 * length (now image)) × (variables ≤ 8) ⌝ }
-    ensures { λ r. ⌜ ((buffers : ℕ) (ts : List Test) (b : ℕ) → testedType ts b ≡ k → says r ≡ deed (sizes buffers (now (types .entry))) variables ts b 0 (now (image .entry)) p) ⌝ }
+    ensures { λ r. ⌜ ((buffers : ℕ) (ts : List Test) (b : ℕ) → testedType ts b ≡ k → says r ≡ deed finer (sizes buffers (now (types .entry))) variables ts b 0 (now (image .entry)) p) ⌝ }
     ensures within { λ r. ⌜ Within (r .walk) (8 * length (now (image .entry))) ⌝ }
 {
     deed_for(image, p, types, variables, k, 0)
@@ -96,7 +97,7 @@ fn modify(image: &[u8], p: usize, types: &[u16], variables: u16, k: u16) -> Deed
 // Request: a declared type, and a mask and its terms for it.
 fn request(image: &[u8], p: usize, types: &[u16], variables: u16) -> DeedRead
     requires { ⌜ (length (now image) ≤ 65536) × (p ≤ 8 * length (now image)) × (variables ≤ 8) × (0 < length (now types)) ⌝ }
-    ensures { λ r. ⌜ ((buffers : ℕ) (ts : List Test) (b : ℕ) → says r ≡ deed (sizes buffers (now (types .entry))) variables ts b 1 (now (image .entry)) p) ⌝ }
+    ensures { λ r. ⌜ ((buffers : ℕ) (ts : List Test) (b : ℕ) → says r ≡ deed finer (sizes buffers (now (types .entry))) variables ts b 1 (now (image .entry)) p) ⌝ }
     ensures within { λ r. ⌜ Within (r .walk) (8 * length (now (image .entry))) ⌝ }
 {
     let t = read_ranges::type_at(image, p, types, 1);

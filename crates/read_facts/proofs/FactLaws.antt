@@ -7,7 +7,7 @@ use lib.Dec.{leb, ltb}
 use lib.ListN.{length, getD, replicate}
 use lib.Seq.{sets}
 use borrow.Author.Tests.{ltb-true}
-use Rattle.meaning.specs.Numbers.{bad-number}
+use Rattle.meaning.specs.Numbers.{finer, bad-number}
 use Rattle.meaning.specs.Model.{Chunk, Fact}
 use Rattle.meaning.specs.Read.{Read, Refused, Got, follow, times, field, must}
 use Rattle.meaning.specs.Image.{eight, anything, aType, chunk, fact}
@@ -34,12 +34,12 @@ pub type-there : (types : List ℕ) (least : ℕ) (s : List ℕ) (p k q : ℕ) �
 type-there types least s p k q e = ltb-true k (length types) (and-right (leb least k) (ltb k (length types)) (must-kept 2 _ (field-got 6 (must bad-number (aType types least)) s p k q (sym e) .kept)))
 
 module _ (types : List ℕ) (least : ℕ) (s : List ℕ) (p : ℕ) where
-  pub chunk-bad : (a b : ℕ) → Refused a b ≡ field 6 (must bad-number (aType types least)) s p → Refused a b ≡ chunk types least s p
+  pub chunk-bad : (a b : ℕ) → Refused a b ≡ field 6 (must bad-number (aType types least)) s p → Refused a b ≡ chunk finer types least s p
   unfolding chunk
   chunk-bad a b e = rw (← e)
 
   pub chunk-on : (k q : ℕ) (w : Walk) (xs : List ℕ) → Got k q ≡ field 6 (must bad-number (aType types least)) s p → answer w xs ≡ mapped eight (times (getD types k 0) (field 12 anything) s q)
-      → answer w (aChunk k xs) ≡ chunk types least s p
+      → answer w (aChunk k xs) ≡ chunk finer types least s p
   unfolding chunk
   chunk-on k q w xs e g = rw (← e) (go w (times (getD types k 0) (field 12 anything) s q) g)
     where
@@ -52,12 +52,12 @@ module _ (types : List ℕ) (least : ℕ) (s : List ℕ) (p : ℕ) where
 -- ---- a fact
 
 pub fact-on : (types s : List ℕ) (p : ℕ) (w₁ w₂ w₃ : Walk) (c : Chunk) (a l : ℕ)
-    → answer w₁ c ≡ chunk types 1 s p → answer w₂ a ≡ after w₁ (field 16 anything s) → answer w₃ l ≡ after w₂ (field 16 anything s)
-    → answer w₃ (aFact c a l) ≡ fact types s p
+    → answer w₁ c ≡ chunk finer types 1 s p → answer w₂ a ≡ after w₁ (field 16 anything s) → answer w₃ l ≡ after w₂ (field 16 anything s)
+    → answer w₃ (aFact c a l) ≡ fact finer types s p
 unfolding fact
 fact-on types s p w₁ w₂ w₃ c a l e₁ e₂ e₃ =
     sym (
-    follow-answer w₁ c (chunk types 1 s p) _ e₁
+    follow-answer w₁ c (chunk finer types 1 s p) _ e₁
     ∙ after-step w₁ w₂ a (field 16 anything s) _ e₂
     ∙ after-step w₂ w₃ l (field 16 anything s) (λ n q. Got (aFact c a n) q) e₃
     ∙ after-end w₃ (aFact c a l)

@@ -3,6 +3,7 @@ ghost use mathlib.Core.Path.{_≡_};
 ghost use Prim.Native.Nat.{_*_, _≤_, _<_};
 ghost use lib.ListN.{length};
 ghost use Rattle.meaning.specs.Read.{times, field};
+ghost use Rattle.meaning.specs.Numbers.{finer};
 ghost use Rattle.meaning.specs.Image.{anything, eight, chunk, fact};
 ghost use Rattle.layout.specs.Walks.{answer, mapped, Within, Small};
 ghost use Rattle.layout.specs.Rows.{factIn, factsIn};
@@ -50,7 +51,7 @@ fn values(image: &[u8], p: usize, n: u16) -> Eight
 // A chunk of a type from `least` (0 or 1) to the last of `types`, with a value for each slot of its type.
 pub fn chunk(image: &[u8], p: usize, types: &[u16], least: u16) -> ChunkRead
     requires { ⌜ (length (now image) ≤ 65536) × (p ≤ 8 * length (now image)) × Small (now types) × (0 < length (now types)) × (least ≤ 1) ⌝ }
-    ensures { λ r. ⌜ answer (r .walk) (aChunk (r .isa) (r .slots)) ≡ chunk (now (types .entry)) least (now (image .entry)) p ⌝ }
+    ensures { λ r. ⌜ answer (r .walk) (aChunk (r .isa) (r .slots)) ≡ chunk finer (now (types .entry)) least (now (image .entry)) p ⌝ }
     ensures within { λ r. ⌜ Within (r .walk) (8 * length (now (image .entry))) ⌝ }
 {
     let t = read_ranges::type_at(image, p, types, least);
@@ -85,7 +86,7 @@ fn row(walk: Walk, c: ChunkRead, activation: u16, latency: u16) -> RowRead
 // A fact: a chunk of a declared type, its activation and its latency.
 fn fact(image: &[u8], p: usize, types: &[u16]) -> RowRead
     requires { ⌜ (length (now image) ≤ 65536) × (p ≤ 8 * length (now image)) × Small (now types) × (0 < length (now types)) ⌝ }
-    ensures { λ r. ⌜ answer (r .walk) (factIn (r .words) 0) ≡ fact (now (types .entry)) (now (image .entry)) p ⌝ }
+    ensures { λ r. ⌜ answer (r .walk) (factIn (r .words) 0) ≡ fact finer (now (types .entry)) (now (image .entry)) p ⌝ }
     ensures within { λ r. ⌜ Within (r .walk) (8 * length (now (image .entry))) ⌝ }
 {
     let c = chunk(image, p, types, 1);
@@ -100,7 +101,7 @@ fn fact(image: &[u8], p: usize, types: &[u16]) -> RowRead
 // n facts into words, a row each, from word 0 on.
 pub fn facts(image: &[u8], p: usize, types: &[u16], n: usize, words: &mut [u16]) -> Walk
     requires { ⌜ (length (now image) ≤ 65536) × (p ≤ 8 * length (now image)) × Small (now types) × (0 < length (now types)) × (11 * n ≤ length (now words)) ⌝ }
-    ensures { λ r. ⌜ answer r (factsIn (now (words .exit)) n) ≡ times n (fact (now (types .entry))) (now (image .entry)) p ⌝ }
+    ensures { λ r. ⌜ answer r (factsIn (now (words .exit)) n) ≡ times n (fact finer (now (types .entry))) (now (image .entry)) p ⌝ }
     ensures within { λ r. ⌜ Within r (8 * length (now (image .entry))) ⌝ }
 {
     let mut at = p;

@@ -16,7 +16,8 @@ use Rattle.meaning.specs.Bits.{fieldAt}
 use Rattle.meaning.specs.Model.{Model, Sizes, Chunk, Fact, Rule}
 use Rattle.meaning.specs.State.{nilAfter}
 use Rattle.meaning.specs.Read.{Read, Refused, Got, Reader, follow, times}
-use Rattle.meaning.specs.Image.{Header, header, slotCounts, chunk, fact, rule, padding, ending, Beginning, beginning, Contents, contents, model, decode}
+use Rattle.meaning.specs.Numbers.{finer}
+use Rattle.meaning.specs.Image.{Header, header, slotCounts, chunk, fact, rule, padding, ending, Beginning, beginning, Contents, contents, model, decode, decodeBy}
 use Rattle.meaning.specs.Calls.{opens}
 use Rattle.laws.specs.ReadLaws.{no-got, times-all}
 use Rattle.layout.specs.declared.Walk.{Walk}
@@ -75,27 +76,27 @@ abbrev pub aBeginning : Header → List ℕ → List Chunk → Beginning
 aBeginning h types opening = record { head = h; types = types; opening = opening }
 
 module _ (s : List ℕ) where
-  module _ (h : Header) (q : ℕ) (e₁ : Got h q ≡ header s 0) where
-    pub begin-second : (x y : ℕ) → Refused x y ≡ mapped (λ counts. 0 ∷ counts) (slotCounts (h .declared) s q) → Refused x y ≡ beginning s 0
+  module _ (h : Header) (q : ℕ) (e₁ : Got h q ≡ header finer s 0) where
+    pub begin-second : (x y : ℕ) → Refused x y ≡ mapped (λ counts. 0 ∷ counts) (slotCounts finer (h .declared) s q) → Refused x y ≡ beginning finer s 0
     unfolding beginning
-    begin-second x y e = rw (← e₁) (on (slotCounts (h .declared) s q) e)
+    begin-second x y e = rw (← e₁) (on (slotCounts finer (h .declared) s q) e)
       where
         on : (r : Read (List ℕ)) → Refused x y ≡ mapped (λ counts. 0 ∷ counts) r
-            → Refused x y ≡ follow r (λ counts o. follow (times (h .buffers) (chunk (0 ∷ counts) 0) s o) (λ opening z. Got (aBeginning h (0 ∷ counts) opening) z))
+            → Refused x y ≡ follow r (λ counts o. follow (times (h .buffers) (chunk finer (0 ∷ counts) 0) s o) (λ opening z. Got (aBeginning h (0 ∷ counts) opening) z))
         on (Refused a b) g = cc
         on (Got cs z) g = cc
 
-    pub begin-on : (types : List ℕ) (o : ℕ) → Got types o ≡ mapped (λ counts. 0 ∷ counts) (slotCounts (h .declared) s q) → (w : Walk) (opening : List Chunk)
-        → answer w opening ≡ times (h .buffers) (chunk types 0) s o → answer w (aBeginning h types opening) ≡ beginning s 0
+    pub begin-on : (types : List ℕ) (o : ℕ) → Got types o ≡ mapped (λ counts. 0 ∷ counts) (slotCounts finer (h .declared) s q) → (w : Walk) (opening : List Chunk)
+        → answer w opening ≡ times (h .buffers) (chunk finer types 0) s o → answer w (aBeginning h types opening) ≡ beginning finer s 0
     unfolding beginning
-    begin-on types o e₂ w opening e = rw (← e₁) (on (slotCounts (h .declared) s q) e₂)
+    begin-on types o e₂ w opening e = rw (← e₁) (on (slotCounts finer (h .declared) s q) e₂)
       where
         last : (w : Walk) → answer w (aBeginning h types opening) ≡ follow (answer w opening) (λ l z. Got (aBeginning h types l) z)
         last (Next z) = refl
         last (Bad x y) = refl
 
         on : (r : Read (List ℕ)) → Got types o ≡ mapped (λ counts. 0 ∷ counts) r
-            → answer w (aBeginning h types opening) ≡ follow r (λ counts o. follow (times (h .buffers) (chunk (0 ∷ counts) 0) s o) (λ opening z. Got (aBeginning h (0 ∷ counts) opening) z))
+            → answer w (aBeginning h types opening) ≡ follow r (λ counts o. follow (times (h .buffers) (chunk finer (0 ∷ counts) 0) s o) (λ opening z. Got (aBeginning h (0 ∷ counts) opening) z))
         on (Refused a b) g = cc
         on (Got cs z) g =
             let t : types ≡ 0 ∷ cs = cc in
@@ -107,7 +108,7 @@ module _ (s : List ℕ) where
 pub too-long : (s : List ℕ) → 65536 < length s → Refused 1 0 ≡ headerOf s
 too-long s h = rw (lt-ltb 65536 (length s) h)
 
-pub not-long : (s : List ℕ) → length s ≤ 65536 → header s 0 ≡ headerOf s
+pub not-long : (s : List ℕ) → length s ≤ 65536 → header finer s 0 ≡ headerOf s
 not-long s h = rw (le-ltb 65536 (length s) h)
 
 -- a refusal, with the plan for nothing
@@ -156,16 +157,16 @@ abbrev pub someContents : List Fact → List Rule → Contents
 someContents facts rules = record { facts = facts; rules = rules }
 
 module _ (z : Sizes) (n m : ℕ) (s : List ℕ) (p : ℕ) where
-  pub contents-first : (x y : ℕ) → Refused x y ≡ times n (fact (z .types)) s p → Refused x y ≡ contents z n m s p
+  pub contents-first : (x y : ℕ) → Refused x y ≡ times n (fact finer (z .types)) s p → Refused x y ≡ contents finer z n m s p
   unfolding contents
   contents-first x y e = rw (← e)
 
-  module _ (facts : List Fact) (q : ℕ) (e₁ : Got facts q ≡ times n (fact (z .types)) s p) where
-    pub contents-second : (x y : ℕ) → Refused x y ≡ times m (rule z) s q → Refused x y ≡ contents z n m s p
+  module _ (facts : List Fact) (q : ℕ) (e₁ : Got facts q ≡ times n (fact finer (z .types)) s p) where
+    pub contents-second : (x y : ℕ) → Refused x y ≡ times m (rule finer z) s q → Refused x y ≡ contents finer z n m s p
     unfolding contents
     contents-second x y e = rw (← e₁, ← e)
 
-    pub contents-on : (rules : List Rule) (o : ℕ) → Got rules o ≡ times m (rule z) s q → (w : Walk) → answer w tt ≡ ending s o → answer w (someContents facts rules) ≡ contents z n m s p
+    pub contents-on : (rules : List Rule) (o : ℕ) → Got rules o ≡ times m (rule finer z) s q → (w : Walk) → answer w tt ≡ ending s o → answer w (someContents facts rules) ≡ contents finer z n m s p
     unfolding contents
     contents-on rules o e₂ (Next i) e = rw (← e₁, ← e₂, ← e)
     contents-on rules o e₂ (Bad x y) e = rw (← e₁, ← e₂, ← e)
@@ -176,28 +177,28 @@ abbrev pub aModel : Beginning → Contents → Model
 aModel b c = record { buffers = b .head .buffers; types = b .types; failure = b .head .failure; opening = b .opening; facts = c .facts; rules = c .rules }
 
 abbrev restOf : Beginning → Reader Model
-restOf b s q = follow (contents (sizes (b .head .buffers) (b .types)) (b .head .facts) (b .head .rules) s q) (λ c z. Got (aModel b c) z)
+restOf b s q = follow (contents finer (sizes (b .head .buffers) (b .types)) (b .head .facts) (b .head .rules) s q) (λ c z. Got (aModel b c) z)
 
 -- a refusal of the header, by length or by what it says
 pub decode-refused : (s : List ℕ) (x y : ℕ) → Refused x y ≡ headerOf s → Refused x y ≡ decode s
-unfolding decode model beginning
+unfolding decodeBy model beginning
 decode-refused s x y e =
-    (elim (ltb 65536 (length s)) as (λ t. Refused x y ≡ (if t then Refused 1 0 else header s 0) → Refused x y ≡ (if t then Refused 1 0 else model s 0)) [
+    (elim (ltb 65536 (length s)) as (λ t. Refused x y ≡ (if t then Refused 1 0 else header finer s 0) → Refused x y ≡ (if t then Refused 1 0 else model finer s 0)) [
       | true ↦ λ g. cc
       | false ↦ λ g. rw (← g)
     ]) e
 
 module _ (s : List ℕ) (h : length s ≤ 65536) where
-  decode-short : decode s ≡ follow (beginning s 0) (λ b q. restOf b s q)
-  unfolding decode model
+  decode-short : decode s ≡ follow (beginning finer s 0) (λ b q. restOf b s q)
+  unfolding decodeBy model
   decode-short = rw (le-ltb 65536 (length s) h)
 
   -- a refusal of what follows the header, and the contents
-  pub decode-beginning : (x y : ℕ) → Refused x y ≡ beginning s 0 → Refused x y ≡ decode s
+  pub decode-beginning : (x y : ℕ) → Refused x y ≡ beginning finer s 0 → Refused x y ≡ decode s
   decode-beginning x y e = rw (decode-short, ← e)
 
-  pub decode-on : (b : Beginning) (p : ℕ) (w : Walk) (c : Contents) → Got b p ≡ beginning s 0
-      → answer w c ≡ contents (sizes (b .head .buffers) (b .types)) (b .head .facts) (b .head .rules) s p → answer w (aModel b c) ≡ decode s
+  pub decode-on : (b : Beginning) (p : ℕ) (w : Walk) (c : Contents) → Got b p ≡ beginning finer s 0
+      → answer w c ≡ contents finer (sizes (b .head .buffers) (b .types)) (b .head .facts) (b .head .rules) s p → answer w (aModel b c) ≡ decode s
   decode-on b p (Next q) c e₁ e = rw (decode-short, ← e₁, ← e)
   decode-on b p (Bad x y) c e₁ e = rw (decode-short, ← e₁, ← e)
 

@@ -5,7 +5,7 @@ use mathlib.Core.List.{List}
 use lib.Dec.{ltb}
 use lib.ListN.{length, take, drop}
 use Rattle.meaning.specs.Base.{if_then_else_}
-use Rattle.meaning.specs.Numbers.{too-long}
+use Rattle.meaning.specs.Numbers.{finer, too-long}
 use Rattle.meaning.specs.Model.{Model}
 use Rattle.meaning.specs.Read.{Read, Refused, Got}
 use Rattle.meaning.specs.Image.{Header, header, Beginning, beginning, Contents, decode}
@@ -36,7 +36,7 @@ pub record InBounds (p : Plan) : Type 0 where
 
 -- "image over 65,536 bytes" comes first
 abbrev pub headerOf : List ℕ → Read Header
-headerOf image = if ltb 65536 (length image) then Refused too-long 0 else header image 0
+headerOf image = if ltb 65536 (length image) then Refused too-long 0 else header finer image 0
 
 -- a header that was read as a plan: whatever it says, there are at most 256 rules, and the plan is as long as they need, with room on the larger tape
 pub record Begun (r : PlanRead) (image : List ℕ) : Type 0 where
@@ -51,7 +51,7 @@ pub record Begun (r : PlanRead) (image : List ℕ) : Type 0 where
 -- slot counts and opening chunks that were laid out: the definition's beginning or refusal; a place within the image;
 -- and of those that were not refused, that the types given back are those on the tape, with at most eight slots each, and the opening section is the opening state
 pub record OpeningMet (r : TypesRead) (p : Plan) (image tape : List ℕ) : Type 0 where
-  pub reads : answer (r .walk) (beginningOn p tape) ≡ beginning image 0
+  pub reads : answer (r .walk) (beginningOn p tape) ≡ beginning finer image 0
   pub within : Within (r .walk) (8 * length image)
   pub types : (q : ℕ) → r .walk ≡ Next q → typesOn p tape ≡ take (p .declared + 1) (r .types)
   pub small : (q : ℕ) → r .walk ≡ Next q → Small (typesOn p tape)

@@ -3,6 +3,7 @@ ghost use mathlib.Core.Path.{_≡_};
 ghost use Prim.Native.Nat.{_*_, _≤_, _<_};
 ghost use lib.ListN.{length, take};
 ghost use Rattle.meaning.specs.Read.{Got};
+ghost use Rattle.meaning.specs.Numbers.{finer};
 ghost use Rattle.meaning.specs.Image.{header, contents, ending};
 ghost use Rattle.layout.specs.Walks.{answer, Within, Small};
 ghost use Rattle.layout.specs.Rows.{sizes};
@@ -51,7 +52,7 @@ pub fn begin(image: &[u8]) -> PlanRead
 
 // The slot counts and the opening chunks, from p on: laid on the tape; the slot counts are given back too, to read the rest by.
 fn lay_opening(image: &[u8], p: usize, plan: Plan, tape: &mut [u16]) -> TypesRead
-    requires { ⌜ (length (now image) ≤ 65536) × (p ≤ 8 * length (now image)) × (Got (headerIn plan) p ≡ header (now image) 0) × InBounds plan × (144 ≤ length (now tape)) ⌝ }
+    requires { ⌜ (length (now image) ≤ 65536) × (p ≤ 8 * length (now image)) × (Got (headerIn plan) p ≡ header finer (now image) 0) × InBounds plan × (144 ≤ length (now tape)) ⌝ }
     ensures { λ r. ⌜ OpeningMet r plan (now (image .entry)) (now (tape .exit)) ⌝ }
 {
     let t = read_opening::slot_counts(image, p, plan.declared);
@@ -93,7 +94,7 @@ fn finish(image: &[u8], at: usize) -> Walk
 // The facts and rules of a plan and the end, from p on: laid on the tape after what is there.
 fn contents(image: &[u8], p: usize, types: &[u16], plan: Plan, tape: &mut [u16]) -> Walk
     requires { ⌜ (length (now image) ≤ 65536) × (p ≤ 8 * length (now image)) × Small (now types) × (0 < length (now types)) × InBounds plan × (plan .end ≤ length (now tape)) ⌝ }
-    ensures { λ r. ⌜ answer r (contentsOn plan (now (tape .exit))) ≡ contents (sizes (plan .buffers) (now (types .entry))) (plan .facts) (plan .rules) (now (image .entry)) p ⌝ }
+    ensures { λ r. ⌜ answer r (contentsOn plan (now (tape .exit))) ≡ contents finer (sizes (plan .buffers) (now (types .entry))) (plan .facts) (plan .rules) (now (image .entry)) p ⌝ }
     ensures kept { λ r. ⌜ take 144 (now (tape .exit)) ≡ take 144 (now (tape .entry)) ⌝ }
     ensures laid { λ r. ⌜ LaidIf r (headsOn plan (now (tape .exit))) (rowsOn plan (now (tape .exit))) (plan .rules) ⌝ }
 {

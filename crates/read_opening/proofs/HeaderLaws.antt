@@ -2,7 +2,7 @@
 use Prim.Native.Nat.{ℕ}
 use mathlib.Core.Path.{_≡_, sym, _∙_}
 use mathlib.Core.List.{List}
-use Rattle.meaning.specs.Numbers.{bad-number}
+use Rattle.meaning.specs.Numbers.{finer, bad-number}
 use Rattle.meaning.specs.Read.{Got, field, must}
 use Rattle.meaning.specs.Image.{Header, header, between, anything}
 use Rattle.laws.specs.ReadLaws.{split}
@@ -14,7 +14,7 @@ use Rattle.read_ranges.specs.After.{after}
 use Rattle.read_ranges.proofs.AfterLaws.{follow-answer, after-step, after-end, after-same}
 use Rattle.read_opening.specs.Parts.{aHeader, Bounds}
 
-pub header-bounds : (s : List ℕ) (at : ℕ) (h : Header) (end : ℕ) → header s at ≡ Got h end → Bounds (h .buffers) (h .declared) (h .rules) (h .facts)
+pub header-bounds : (s : List ℕ) (at : ℕ) (h : Header) (end : ℕ) → header finer s at ≡ Got h end → Bounds (h .buffers) (h .declared) (h .rules) (h .facts)
 unfolding header
 header-bounds s at h end e =
     split (field 8 (must bad-number (between 1 1)) s at) _ e λ version n₁ e₁ k₁.
@@ -42,7 +42,7 @@ module _ (s : List ℕ) (w₁ w₂ w₃ w₄ w₅ w₆ : Walk) (version buffers 
       → answer w₄ rules ≡ after w₃ (field 9 (must bad-number (inRange 0 257)) s)
       → answer w₅ facts ≡ after w₄ (field 10 (must bad-number (inRange 0 513)) s)
       → answer w₆ failure ≡ after w₅ (field 16 anything s)
-      → answer w₆ (aHeader buffers declared rules facts failure) ≡ header s 0
+      → answer w₆ (aHeader buffers declared rules facts failure) ≡ header finer s 0
   unfolding header
   header-on e₁ e₂ e₃ e₄ e₅ e₆ =
       sym (

@@ -6,6 +6,7 @@ use lib.ListN.{length, replicate}
 use Rattle.meaning.specs.declared.State.{State}
 use Rattle.meaning.specs.Model.{Chunk}
 use Rattle.meaning.specs.State.{nilAfter}
+use Rattle.meaning.specs.Numbers.{finer}
 use Rattle.meaning.specs.Image.{Header, header}
 use Rattle.meaning.specs.Calls.{opens}
 use Rattle.layout.specs.declared.Walk.the-variants.{Next}
@@ -32,7 +33,7 @@ headerIn p = aHeader (p .buffers) (p .declared) (p .rules) (p .facts) (p .failur
 -- a header that was read as a plan: the definition's header or refusal; a place within the image; sections one after the other;
 -- and of a header that was not refused, that its counts are within their bounds
 pub record HeaderMet (r : PlanRead) (image : List ℕ) : Type 0 where
-  pub reads : answer (r .walk) (headerIn (r .plan)) ≡ header image 0
+  pub reads : answer (r .walk) (headerIn (r .plan)) ≡ header finer image 0
   pub within : Within (r .walk) (8 * length image)
   pub starts : r .plan ≡ planOf (r .plan .buffers) (r .plan .declared) (r .plan .rules) (r .plan .facts) (r .plan .failure)
   pub bounds : (q : ℕ) → r .walk ≡ Next q → Bounds (r .plan .buffers) (r .plan .declared) (r .plan .rules) (r .plan .facts)

@@ -4,6 +4,7 @@ ghost use mathlib.Core.List.{_∷_};
 ghost use Prim.Native.Nat.{_+_, _*_, _≤_, _<_};
 ghost use lib.ListN.{length, take};
 ghost use Rattle.meaning.specs.Read.{times};
+ghost use Rattle.meaning.specs.Numbers.{finer};
 ghost use Rattle.meaning.specs.Image.{header, slotCounts, chunk};
 ghost use Rattle.meaning.specs.Calls.{opens};
 ghost use Rattle.layout.specs.Walks.{answer, mapped, Within, Small};
@@ -61,7 +62,7 @@ pub fn header(image: &[u8]) -> PlanRead
 // The slot counts, 0 for type 0 and a field (0 to 8) for each declared type, and zeros up to 64.
 pub fn slot_counts(image: &[u8], p: usize, declared: u16) -> TypesRead
     requires { ⌜ (length (now image) ≤ 65536) × (p ≤ 8 * length (now image)) × (declared ≤ 63) ⌝ }
-    ensures { λ r. ⌜ answer (r .walk) (take (declared + 1) (r .types)) ≡ mapped (λ counts. 0 ∷ counts) (slotCounts declared (now (image .entry)) p) ⌝ }
+    ensures { λ r. ⌜ answer (r .walk) (take (declared + 1) (r .types)) ≡ mapped (λ counts. 0 ∷ counts) (slotCounts finer declared (now (image .entry)) p) ⌝ }
     ensures within { λ r. ⌜ Within (r .walk) (8 * length (now (image .entry))) ⌝ }
     ensures small { λ r. ⌜ Small (r .types) ⌝ }
 {
@@ -106,7 +107,7 @@ fn opens(c: ChunkRead) -> Buffer
 // n opening chunks in the first n buffers, nil in the others, and clock 0.
 pub fn opening(image: &[u8], p: usize, types: &[u16], n: u16) -> OpeningRead
     requires { ⌜ (length (now image) ≤ 65536) × (p ≤ 8 * length (now image)) × Small (now types) × (0 < length (now types)) × (n ≤ 8) ⌝ }
-    ensures { λ r. ⌜ answer (r .walk) (r .state) ≡ mapped (openingState n) (times n (chunk (now (types .entry)) 0) (now (image .entry)) p) ⌝ }
+    ensures { λ r. ⌜ answer (r .walk) (r .state) ≡ mapped (openingState n) (times n (chunk finer (now (types .entry)) 0) (now (image .entry)) p) ⌝ }
     ensures within { λ r. ⌜ Within (r .walk) (8 * length (now (image .entry))) ⌝ }
 {
     let mut st = meaning::zero_state();

@@ -2,7 +2,7 @@
 use Prim.Native.Nat.{ℕ, _+_}
 use mathlib.Core.Path.{_≡_, sym, _∙_}
 use mathlib.Core.List.{List}
-use Rattle.meaning.specs.Numbers.{bad-number}
+use Rattle.meaning.specs.Numbers.{finer, bad-number}
 use Rattle.meaning.specs.Read.{Got, field, must}
 use Rattle.meaning.specs.Image.{Head, head, anything, between}
 use Rattle.layout.specs.declared.Walk.{Walk}
@@ -20,7 +20,7 @@ module _ (buffers : ℕ) (s : List ℕ) (p : ℕ) (w₁ w₂ w₃ w₄ : Walk) (
       → answer w₂ n ≡ after w₁ (field 4 (must bad-number (inRange 1 (buffers + 1))) s)
       → answer w₃ m ≡ after w₂ (field 4 (must bad-number (inRange 0 (buffers + 1))) s)
       → answer w₄ v ≡ after w₃ (field 4 (must bad-number (inRange 0 9)) s)
-      → answer w₄ (aHead u n m v) ≡ head buffers s p
+      → answer w₄ (aHead u n m v) ≡ head finer buffers s p
   unfolding head
   head-on e₁ e₂ e₃ e₄ =
       sym (

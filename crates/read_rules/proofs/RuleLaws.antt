@@ -8,6 +8,7 @@ use lib.ListN.{take}
 use Rattle.meaning.specs.Base.{every, upFrom}
 use Rattle.meaning.specs.Model.{Test, Action, Rule}
 use Rattle.meaning.specs.Read.{Read, Refused, Got, follow}
+use Rattle.meaning.specs.Numbers.{finer, bad-variable}
 use Rattle.meaning.specs.Image.{utilityOf, Head, head, tests, standsIn, actions, body, rule}
 use Rattle.layout.specs.declared.Walk.{Walk}
 use Rattle.layout.specs.declared.Walk.the-variants.{Next, Bad}
@@ -21,22 +22,22 @@ abbrev pub aRule : ℕ → List Test → List Action → Rule
 aRule u ts as′ = record { utility = utilityOf u; tests = ts; actions = as′ }
 
 module _ (buffers : ℕ) (types s : List ℕ) (p : ℕ) where
-  pub rule-first : (x y : ℕ) → Refused x y ≡ head buffers s p → Refused x y ≡ rule (sizes buffers types) s p
+  pub rule-first : (x y : ℕ) → Refused x y ≡ head finer buffers s p → Refused x y ≡ rule finer (sizes buffers types) s p
   unfolding rule
   rule-first x y e = rw (← e)
 
-  module _ (h : Head) (q : ℕ) (e₁ : Got h q ≡ head buffers s p) where
-    pub rule-second : (x y : ℕ) → Refused x y ≡ tests (sizes buffers types) (h .variables) (h .tests) s q → Refused x y ≡ rule (sizes buffers types) s p
+  module _ (h : Head) (q : ℕ) (e₁ : Got h q ≡ head finer buffers s p) where
+    pub rule-second : (x y : ℕ) → Refused x y ≡ tests finer (sizes buffers types) (h .variables) (h .tests) s q → Refused x y ≡ rule finer (sizes buffers types) s p
     unfolding rule body
     rule-second x y e = rw (← e₁, ← e)
 
-    module _ (ts : List Test) (o : ℕ) (e₂ : Got ts o ≡ tests (sizes buffers types) (h .variables) (h .tests) s q) where
-      pub rule-third : every (standsIn ts) (upFrom 0 (h .variables)) ≡ false → Refused 3 o ≡ rule (sizes buffers types) s p
+    module _ (ts : List Test) (o : ℕ) (e₂ : Got ts o ≡ tests finer (sizes buffers types) (h .variables) (h .tests) s q) where
+      pub rule-third : every (standsIn ts) (upFrom 0 (h .variables)) ≡ false → Refused bad-variable o ≡ rule finer (sizes buffers types) s p
       unfolding rule body
       rule-third e = rw (← e₁, ← e₂, e)
 
-      pub rule-on : every (standsIn ts) (upFrom 0 (h .variables)) ≡ true → (w : Walk) (as′ : List Action) → answer w as′ ≡ actions (sizes buffers types) (h .variables) ts (h .actions) s o
-          → answer w (aRule (h .utility) ts as′) ≡ rule (sizes buffers types) s p
+      pub rule-on : every (standsIn ts) (upFrom 0 (h .variables)) ≡ true → (w : Walk) (as′ : List Action) → answer w as′ ≡ actions finer (sizes buffers types) (h .variables) ts (h .actions) s o
+          → answer w (aRule (h .utility) ts as′) ≡ rule finer (sizes buffers types) s p
       unfolding rule body
       rule-on v (Next i) as′ e = rw (← e₁, ← e₂, v, ← e)
       rule-on v (Bad x y) as′ e = rw (← e₁, ← e₂, v, ← e)

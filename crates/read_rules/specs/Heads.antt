@@ -4,6 +4,7 @@ use mathlib.Core.Path.{_≡_}
 use mathlib.Core.List.{List}
 use lib.ListN.{length, getD}
 use Rattle.meaning.specs.Model.{Rule}
+use Rattle.meaning.specs.Numbers.{finer}
 use Rattle.meaning.specs.Image.{Head, utilityOf, rule}
 use Rattle.layout.specs.declared.Walk.{Walk}
 use Rattle.layout.specs.declared.Walk.the-variants.{Next}
@@ -27,7 +28,7 @@ pub record RuleFits (four own : List ℕ) : Type 0 where
 
 -- what the reading of one rule gives: the definition's rule or refusal; a place within the image; and of a rule that was read, that its four words fit
 pub record RuleMet (r : RuleRead) (image : List ℕ) (p buffers : ℕ) (types own : List ℕ) : Type 0 where
-  pub reads : answer (r .walk) (ruleBy (r .words) own) ≡ rule (sizes buffers types) image p
+  pub reads : answer (r .walk) (ruleBy (r .words) own) ≡ rule finer (sizes buffers types) image p
   pub within : Within (r .walk) (8 * length image)
   pub fits : (q : ℕ) → r .walk ≡ Next q → RuleFits (r .words) own
 

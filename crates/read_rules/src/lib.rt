@@ -4,6 +4,7 @@ ghost use mathlib.Core.Path.{_≡_};
 ghost use Prim.Native.Nat.{_+_, _*_, _≤_, _<_};
 ghost use lib.ListN.{length, drop};
 ghost use Rattle.meaning.specs.Read.{times};
+ghost use Rattle.meaning.specs.Numbers.{finer};
 ghost use Rattle.meaning.specs.Image.{head, rule};
 ghost use Rattle.layout.specs.Walks.{answer, Within};
 ghost use Rattle.layout.specs.Rows.{sizes, rulesIn};
@@ -41,7 +42,7 @@ fn no_rule(number: u8, at: usize) -> RuleRead
 // Utility, and how many tests, actions and variables follow.
 fn head(image: &[u8], p: usize, buffers: u16) -> HeadRead
     requires { ⌜ (length (now image) ≤ 65536) × (p ≤ 8 * length (now image)) × (buffers ≤ 8) ⌝ }
-    ensures { λ r. ⌜ answer (r .walk) (headIn r) ≡ head buffers (now (image .entry)) p ⌝ }
+    ensures { λ r. ⌜ answer (r .walk) (headIn r) ≡ head finer buffers (now (image .entry)) p ⌝ }
     ensures within { λ r. ⌜ Within (r .walk) (8 * length (now (image .entry))) ⌝ }
 {
     let utility = read_ranges::any_after(image, Walk::Next(p), 16);
@@ -105,7 +106,7 @@ pub fn rules(
     rows: usize,
 ) -> Walk
     requires { ⌜ (length (now image) ≤ 65536) × (p ≤ 8 * length (now image)) × (buffers ≤ 8) × (0 < length (now types)) × (n ≤ 256) × (4 * n ≤ rows) × (rows + 176 * n ≤ length (now words)) ⌝ }
-    ensures { λ r. ⌜ answer r (rulesIn (now (words .exit)) (drop rows (now (words .exit))) n) ≡ times n (rule (sizes buffers (now (types .entry)))) (now (image .entry)) p ⌝ }
+    ensures { λ r. ⌜ answer r (rulesIn (now (words .exit)) (drop rows (now (words .exit))) n) ≡ times n (rule finer (sizes buffers (now (types .entry)))) (now (image .entry)) p ⌝ }
     ensures within { λ r. ⌜ Within r (8 * length (now (image .entry))) ⌝ }
     ensures laid { λ r. ⌜ LaidIf r (now (words .exit)) (drop rows (now (words .exit))) n ⌝ }
 {

@@ -8,7 +8,7 @@ use lib.ListN.{length, getD, set}
 use lib.Seq.{getD-set-same, getD-set-other}
 use lib.Dec.{eqb, ltb}
 use borrow.Author.Tests.{ltb-false}
-use Rattle.meaning.specs.Numbers.{bad-mask, bad-variable}
+use Rattle.meaning.specs.Numbers.{finer, bad-mask, bad-variable}
 use Rattle.meaning.specs.Base.{if_then_else_, keep, admit, upFrom}
 use Rattle.meaning.specs.Model.{Named, Term, Symbol, Variable}
 use Rattle.meaning.specs.Read.{Read, Refused, Got, follow, field, must}
@@ -52,12 +52,12 @@ word-term variables t h g =
 -- ---- the loop over slots: what was passed, and what is left to read from here
 
 unfoldable pub onTo : ℕ → ℕ → List ℕ → List ℕ → ℕ → ℕ → Read (List Named)
-onTo m variables s xs b at = mapped (λ ns. map (namedAt xs) (below m b) ++ ns) (terms variables (rest m b) s at)
+onTo m variables s xs b at = mapped (λ ns. map (namedAt xs) (below m b) ++ ns) (terms finer variables (rest m b) s at)
 
 module _ (m variables : ℕ) (s : List ℕ) where
-  pub on-start : (xs : List ℕ) (at : ℕ) → onTo m variables s xs 0 at ≡ terms variables (slotsIn m) s at
+  pub on-start : (xs : List ℕ) (at : ℕ) → onTo m variables s xs 0 at ≡ terms finer variables (slotsIn m) s at
   unfolding onTo below
-  on-start xs at = rw (rest-start m) (go (terms variables (slotsIn m) s at))
+  on-start xs at = rw (rest-start m) (go (terms finer variables (slotsIn m) s at))
     where
       go : (r : Read (List Named)) → mapped (λ ns. [] ++ ns) r ≡ r
       go (Refused x y) = refl
@@ -83,7 +83,7 @@ module _ (m variables : ℕ) (s : List ℕ) where
           → onTo m variables s xs′ (b + 1) at′ ≡ onTo m variables s xs b at
       unfolding onTo terms
       on-turn t q hn ht hl g ex ea =
-          rw (ex, ea, rest-on m b h e, g, passed-on m xs b t e (omega arith), word-term variables t hn ht) (go (terms variables (rest m (b + 1)) s q))
+          rw (ex, ea, rest-on m b h e, g, passed-on m xs b t e (omega arith), word-term variables t hn ht) (go (terms finer variables (rest m (b + 1)) s q))
         where
           x : Named
           x = record { slot = b; term = termOf t }
@@ -96,25 +96,25 @@ module _ (m variables : ℕ) (s : List ℕ) where
 
 -- ---- a mask and its terms
 
-past-broken : (t r : Bool) → r ≡ not t → r ≡ true → _≡_ {A = ℕ} (if t then 0 else 3) 3
+past-broken : (t r : Bool) → r ≡ not t → r ≡ true → _≡_ {A = ℕ} (if t then 0 else bad-mask) bad-mask
 past-broken true r e g = let z : false ≡ true = cc in cc
 past-broken false r e g = refl
 
-past-kept : (t r : Bool) → r ≡ not t → r ≡ false → _≡_ {A = ℕ} (if t then 0 else 3) 0
+past-kept : (t r : Bool) → r ≡ not t → r ≡ false → _≡_ {A = ℕ} (if t then 0 else bad-mask) 0
 past-kept true r e g = refl
 past-kept false r e g = let z : true ≡ false = cc in cc
 
-pub mask-past : (slots m : ℕ) (r : Bool) → r ≡ not (eqb (m % 2 ^ (8 - slots)) 0) → r ≡ true → must bad-mask (aMask slots) m ≡ 3
+pub mask-past : (slots m : ℕ) (r : Bool) → r ≡ not (eqb (m % 2 ^ (8 - slots)) 0) → r ≡ true → must bad-mask (aMask slots) m ≡ bad-mask
 mask-past slots m r e g = past-broken (eqb (m % 2 ^ (8 - slots)) 0) r e g
 
 pub mask-kept : (slots m : ℕ) (r : Bool) → r ≡ not (eqb (m % 2 ^ (8 - slots)) 0) → r ≡ false → must bad-mask (aMask slots) m ≡ 0
 mask-kept slots m r e g = past-kept (eqb (m % 2 ^ (8 - slots)) 0) r e g
 
 module _ (variables slots : ℕ) (s : List ℕ) (p : ℕ) where
-  pub masked-bad : (x y : ℕ) → field 8 (must bad-mask (aMask slots)) s p ≡ Refused x y → Refused x y ≡ masked variables slots s p
+  pub masked-bad : (x y : ℕ) → field 8 (must bad-mask (aMask slots)) s p ≡ Refused x y → Refused x y ≡ masked finer variables slots s p
   unfolding masked
   masked-bad x y e = rw e
 
-  pub masked-on : (m q : ℕ) → field 8 (must bad-mask (aMask slots)) s p ≡ Got m q → terms variables (slotsIn m) s q ≡ masked variables slots s p
+  pub masked-on : (m q : ℕ) → field 8 (must bad-mask (aMask slots)) s p ≡ Got m q → terms finer variables (slotsIn m) s q ≡ masked finer variables slots s p
   unfolding masked
   masked-on m q e = rw e

@@ -4,6 +4,7 @@ ghost use mathlib.Core.Bool.{not};
 ghost use Prim.Native.Nat.{_*_, _-_, _%_, _^_, _≤_, _<_};
 ghost use lib.Dec.{eqb};
 ghost use lib.ListN.{length};
+ghost use Rattle.meaning.specs.Numbers.{finer};
 ghost use Rattle.meaning.specs.Image.{terms, masked, slotsIn};
 ghost use Rattle.layout.specs.Walks.{answer, Within};
 ghost use Rattle.layout.specs.Rows.{namedBy};
@@ -36,7 +37,7 @@ fn past(mask: u16, slots: u16) -> bool
 // What is left of the mask has the bit of slot b at 128, and no slot is looked at once it is 0.
 fn terms(image: &[u8], p: usize, mask: u16, variables: u16) -> Eight
     requires { ⌜ (length (now image) ≤ 65536) × (p ≤ 8 * length (now image)) × (mask < 256) × (variables ≤ 8) ⌝ }
-    ensures { λ r. ⌜ answer (r .walk) (namedBy mask (r .slots)) ≡ terms variables (slotsIn mask) (now (image .entry)) p ⌝ }
+    ensures { λ r. ⌜ answer (r .walk) (namedBy mask (r .slots)) ≡ terms finer variables (slotsIn mask) (now (image .entry)) p ⌝ }
     ensures within { λ r. ⌜ Within (r .walk) (8 * length (now (image .entry))) ⌝ }
 {
     let mut xs = [0u16; 8];
@@ -84,7 +85,7 @@ fn no_terms(number: u8, at: usize) -> MaskRead
 // A mask within so many slots, and its terms.
 pub fn masked(image: &[u8], p: usize, slots: u16, variables: u16) -> MaskRead
     requires { ⌜ (length (now image) ≤ 65536) × (p ≤ 8 * length (now image)) × (variables ≤ 8) ⌝ }
-    ensures { λ r. ⌜ answer (r .walk) (namedBy (r .mask) (r .slots)) ≡ masked variables slots (now (image .entry)) p ⌝ }
+    ensures { λ r. ⌜ answer (r .walk) (namedBy (r .mask) (r .slots)) ≡ masked finer variables slots (now (image .entry)) p ⌝ }
     ensures within { λ r. ⌜ Within (r .walk) (8 * length (now (image .entry))) ⌝ }
 {
     let Field::Value(m) = read_fields::field_at(image, p, 8) else {

@@ -6,7 +6,7 @@ use mathlib.Core.List.{List, _∷_}
 use native.Mathlib.Omega.{arith}
 use lib.Dec.{leb, ltb}
 use borrow.Author.Tests.{ltb-true}
-use Rattle.meaning.specs.Numbers.{bad-buffer, bad-number}
+use Rattle.meaning.specs.Numbers.{finer, bad-buffer, bad-number}
 use Rattle.meaning.specs.Model.{Named, Test}
 use Rattle.meaning.specs.State.{slotCount}
 use Rattle.meaning.specs.Read.{Refused, Got, field, must}
@@ -31,17 +31,17 @@ abbrev pub aTest : ℕ → ℕ → List Named → Test
 aTest b k ns = record { buffer = b; isa = k; named = ns }
 
 module _ (buffers : ℕ) (types : List ℕ) (variables least : ℕ) (s : List ℕ) (p : ℕ) where
-  pub test-first : (x y : ℕ) → Refused x y ≡ field 3 (must bad-buffer (aBuffer buffers least)) s p → Refused x y ≡ test (sizes buffers types) variables least s p
+  pub test-first : (x y : ℕ) → Refused x y ≡ field 3 (must bad-buffer (aBuffer buffers least)) s p → Refused x y ≡ test finer (sizes buffers types) variables least s p
   unfolding test
   test-first x y e = rw (← e)
 
   module _ (b q : ℕ) (e₁ : Got b q ≡ field 3 (must bad-buffer (aBuffer buffers least)) s p) where
-    pub test-second : (x y : ℕ) → Refused x y ≡ field 6 (must bad-number (aType types 0)) s q → Refused x y ≡ test (sizes buffers types) variables least s p
+    pub test-second : (x y : ℕ) → Refused x y ≡ field 6 (must bad-number (aType types 0)) s q → Refused x y ≡ test finer (sizes buffers types) variables least s p
     unfolding test
     test-second x y e = rw (← e₁, ← e)
 
-    pub test-on : (k o : ℕ) → Got k o ≡ field 6 (must bad-number (aType types 0)) s q → (w : Walk) (ns : List Named) → answer w ns ≡ masked variables (slotCount types k) s o
-        → answer w (aTest b k ns) ≡ test (sizes buffers types) variables least s p
+    pub test-on : (k o : ℕ) → Got k o ≡ field 6 (must bad-number (aType types 0)) s q → (w : Walk) (ns : List Named) → answer w ns ≡ masked finer variables (slotCount types k) s o
+        → answer w (aTest b k ns) ≡ test finer (sizes buffers types) variables least s p
     unfolding test
     test-on k o e₂ (Next r) ns e = rw (← e₁, ← e₂, ← e)
     test-on k o e₂ (Bad x y) ns e = rw (← e₁, ← e₂, ← e)

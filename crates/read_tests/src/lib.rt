@@ -2,6 +2,7 @@
 ghost use mathlib.Core.Path.{_≡_};
 ghost use Prim.Native.Nat.{_+_, _*_, _≤_, _<_};
 ghost use lib.ListN.{length, take};
+ghost use Rattle.meaning.specs.Numbers.{finer};
 ghost use Rattle.meaning.specs.Image.{test, tests};
 ghost use Rattle.layout.specs.Walks.{answer, Within};
 ghost use Rattle.layout.specs.Rows.{sizes, testIn, testsIn};
@@ -13,7 +14,7 @@ use meaning::numbers::BAD_BUFFER;
 // One test: a buffer from `least` to below `buffers`, a type, a mask within the type's slots and its terms.
 fn test(image: &[u8], p: usize, buffers: u16, types: &[u16], variables: u16, least: u16) -> RowRead
     requires { ⌜ (length (now image) ≤ 65536) × (p ≤ 8 * length (now image)) × (buffers ≤ 8) × (variables ≤ 8) × (0 < length (now types)) ⌝ }
-    ensures { λ r. ⌜ answer (r .walk) (testIn (r .words) 0) ≡ test (sizes buffers (now (types .entry))) variables least (now (image .entry)) p ⌝ }
+    ensures { λ r. ⌜ answer (r .walk) (testIn (r .words) 0) ≡ test finer (sizes buffers (now (types .entry))) variables least (now (image .entry)) p ⌝ }
     ensures within { λ r. ⌜ Within (r .walk) (8 * length (now (image .entry))) ⌝ }
 {
     let buffer = read_ranges::ranged(image, p, 3, least, buffers, BAD_BUFFER);
@@ -51,7 +52,7 @@ pub fn tests(
     o: usize,
 ) -> Walk
     requires { ⌜ (length (now image) ≤ 65536) × (p ≤ 8 * length (now image)) × (buffers ≤ 8) × (variables ≤ 8) × (0 < length (now types)) × (o + 11 * n ≤ length (now words)) ⌝ }
-    ensures { λ r. ⌜ answer r (testsIn (now (words .exit)) o n) ≡ tests (sizes buffers (now (types .entry))) variables n (now (image .entry)) p ⌝ }
+    ensures { λ r. ⌜ answer r (testsIn (now (words .exit)) o n) ≡ tests finer (sizes buffers (now (types .entry))) variables n (now (image .entry)) p ⌝ }
     ensures within { λ r. ⌜ Within r (8 * length (now (image .entry))) ⌝ }
     ensures kept { λ r. ⌜ take o (now (words .exit)) ≡ take o (now (words .entry)) ⌝ }
 {

@@ -3,6 +3,7 @@ use Prim.Native.Nat.{_≤_, _-_, _*_, _+_}
 use mathlib.Core.Path.{_≡_, refl, ap, _∙_}
 use native.Mathlib.Omega.{arith}
 use lib.ListN.{length, take}
+use Rattle.meaning.specs.Numbers.{finer}
 use Rattle.meaning.specs.Image.{actions}
 use Rattle.layout.specs.Rows.{sizes, testsIn}
 use Rattle.layout.proofs.WalkLaws.{bad-within, next-within}
@@ -15,7 +16,7 @@ use Rattle.read_actions.proofs.actions.Tie as tie
 abbrev Inv-loop : tie.InvT-loop
 Inv-loop image p m buffers types variables rule₀ n at₀ least₀ i₀ rule at least i =
     (i ≤ m) × (at ≤ 8 * length image) × (length rule ≡ length rule₀) × (take 88 rule ≡ take 88 rule₀)
-    × (acting (sizes buffers types) variables image rule₀ 0 n m rule i least at ≡ actions (sizes buffers types) variables (testsIn rule₀ 0 n) m image p)
+    × (acting (sizes buffers types) variables image rule₀ 0 n m rule i least at ≡ actions finer (sizes buffers types) variables (testsIn rule₀ 0 n) m image p)
 
 abbrev μ-loop : tie.MeasureT-loop
 μ-loop image p m buffers types variables rule₀ n at₀ least₀ i₀ rule at least i = m - i

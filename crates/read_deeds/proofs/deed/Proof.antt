@@ -4,6 +4,7 @@ use mathlib.Core.Path.{_≡_, refl, sym, ap, _∙_}
 use native.Mathlib.Omega.{arith}
 use Rattle.read_fields.specs.declared.Field.the-variants.{Value}
 use Rattle.meaning.specs.Read.{Got, field}
+use Rattle.meaning.specs.Numbers.{finer}
 use Rattle.meaning.specs.Image.{anything, kindRule}
 use Rattle.layout.specs.Rows.{sizes}
 use Rattle.layout.proofs.WalkLaws.{answer-bad, bad-within, next-within}
@@ -46,7 +47,7 @@ returns c =
     let a = begun d .args in (
       (λ buffers ts b t. answer-bad _ _ _ _ (c .no-deed .ensures)
           ∙ kind-bad (sizes buffers (a .types .now)) (a .variables) ts b (a .image .now) (a .p) _ _
-          (read-short (a .image .now) 2 (a .p) (kindRule ts b) (rw (c .before .enum-told .given .1) at (d .field-at .ensures)))),
+          (read-short (a .image .now) 2 (a .p) (kindRule finer ts b) (rw (c .before .enum-told .given .1) at (d .field-at .ensures)))),
       bad-within _ _ _ _ (c .no-deed .ensures),
     )
 
@@ -69,7 +70,7 @@ returns-2 c =
     let a = start k .args in (
       (λ buffers ts b t. answer-bad _ _ _ _ (c .no-deed2 .ensures)
           ∙ kind-bad (sizes buffers (a .types .now)) (a .variables) ts b (a .image .now) (a .p) _ _
-          (read-broken (a .image .now) 2 (a .p) (kindRule ts b) 0 2 e (modify-broken ts b (not-tested ts b (sym (c .before .enum-told2 .given .1) ∙ t))))),
+          (read-broken (a .image .now) 2 (a .p) (kindRule finer ts b) 0 12 e (modify-broken ts b (not-tested ts b (sym (c .before .enum-told2 .given .1) ∙ t))))),
       bad-within _ _ _ _ (c .no-deed2 .ensures),
     )
 
@@ -98,7 +99,7 @@ returns-3 c =
       (λ buffers ts b t.
           let u = sym (c .before .before .tested .given .1) ∙ t in
           kind-on (sizes buffers (a .types .now)) (a .variables) ts b (a .image .now) (a .p) _ 0 _ (c .modify .ensures .0 buffers ts b (tested-is ts b _ u))
-          (read-kept (a .image .now) 2 (a .p) (kindRule ts b) 0 e (modify-kept ts b (is-tested ts b _ u)))),
+          (read-kept (a .image .now) 2 (a .p) (kindRule finer ts b) 0 e (modify-kept ts b (is-tested ts b _ u)))),
       c .modify .ensures .1,
     )
 
@@ -108,7 +109,7 @@ returns-4 c =
     let e = fetched-kind k 1 (c .before .match2 .keys2) in
     let a = start k .args in (
       (λ buffers ts b t. kind-on (sizes buffers (a .types .now)) (a .variables) ts b (a .image .now) (a .p) _ 1 _ (c .request .ensures .0 buffers ts b)
-          (read-kept (a .image .now) 2 (a .p) (kindRule ts b) 1 e refl)),
+          (read-kept (a .image .now) 2 (a .p) (kindRule finer ts b) 1 e refl)),
       c .request .ensures .1,
     )
 
@@ -119,7 +120,7 @@ returns-5 c =
     let a = start k .args in (
       (λ buffers ts b t. kind-on (sizes buffers (a .types .now)) (a .variables) ts b (a .image .now) (a .p) _ 2 _
           (clear-says (sizes buffers (a .types .now)) (a .variables) ts b (a .image .now) _ (c .clear .result) (c .clear .ensures .0) (c .clear .ensures .1))
-          (read-kept (a .image .now) 2 (a .p) (kindRule ts b) 2 e refl)),
+          (read-kept (a .image .now) 2 (a .p) (kindRule finer ts b) 2 e refl)),
       next-within _ _ _ (c .clear .ensures .0) (there (a .image .now) 2 (a .p) _ e),
     )
 
@@ -134,7 +135,7 @@ returns-6 c =
     let n₂ = c .before .match2 .rest .1 in
     let big : 2 < n = omega arith in (
       (λ buffers ts b t. answer-bad _ _ _ _ (c .no-deed3 .ensures)
-          ∙ kind-bad (sizes buffers (a .types .now)) (a .variables) ts b (a .image .now) (a .p) _ _ (read-broken (a .image .now) 2 (a .p) (kindRule ts b) n 2 e (kind-broken ts b n big))),
+          ∙ kind-bad (sizes buffers (a .types .now)) (a .variables) ts b (a .image .now) (a .p) _ _ (read-broken (a .image .now) 2 (a .p) (kindRule finer ts b) n 2 e (kind-broken ts b n big))),
       bad-within _ _ _ _ (c .no-deed3 .ensures),
     )
 

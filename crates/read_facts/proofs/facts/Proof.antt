@@ -7,6 +7,7 @@ use native.Mathlib.Omega.{arith}
 use lib.ListN.{length}
 use Rattle.meaning.specs.Model.{Fact}
 use Rattle.meaning.specs.Read.{Got, times}
+use Rattle.meaning.specs.Numbers.{finer}
 use Rattle.meaning.specs.Image.{fact}
 use Rattle.layout.specs.Rows.{rowsIn, factIn, factsIn}
 use Rattle.layout.proofs.WalkLaws.{answer-bad, answer-next, bad-within, next-within}
@@ -17,7 +18,7 @@ use Rattle.read_facts.proofs.facts.Tie as tie
 
 abbrev Inv-loop : tie.InvT-loop
 Inv-loop image p types n words₀ at₀ i₀ words at i =
-    (i ≤ n) × (at ≤ 8 * length image) × (length words ≡ length words₀) × (along (fact types) image n (factsIn words i) i at ≡ times n (fact types) image p)
+    (i ≤ n) × (at ≤ 8 * length image) × (length words ≡ length words₀) × (along (fact finer types) image n (factsIn words i) i at ≡ times n (fact finer types) image p)
 
 abbrev μ-loop : tie.MeasureT-loop
 μ-loop image p types n words₀ at₀ i₀ words at i = n - i
@@ -39,7 +40,7 @@ loop-holds : tie.Need-loop-holds Inv-loop μ-loop
 unfolding rowsIn
 loop-holds c =
     let a = c .before .before .before .args in
-    (search needs, search needs, refl, along-start (fact (a .types .now)) (a .image .now) (a .n) (a .p))
+    (search needs, search needs, refl, along-start (fact finer (a .types .now)) (a .image .now) (a .n) (a .p))
 
 fact-requires : tie.Need-fact-requires Inv-loop μ-loop
 fact-requires c κs = (search needs, search needs, start (c .before) .pre .2, search needs)
@@ -59,7 +60,7 @@ returns c =
     let l = d .before .before .loop in
     let a = start (d .before .before) .args in
     let bad = sym (answer-bad _ _ _ _ (c .before .w2 .given .1)) ∙ d .fact .ensures .0 in (
-      along-bad (fact (a .types .now)) (a .image .now) (a .n) (factsIn (l .words) (l .i)) (l .i) (l .at) (d .before .loop-test .taken) _ _ bad ∙ l .inv .3,
+      along-bad (fact finer (a .types .now)) (a .image .now) (a .n) (factsIn (l .words) (l .i)) (l .i) (l .at) (d .before .loop-test .taken) _ _ bad ∙ l .inv .3,
       bad-within _ _ _ _ refl,
     )
 
@@ -89,8 +90,8 @@ loop-again c =
       search needs,
       f .ensures .1 _ next,
       search needs,
-      ap (λ (x : List Fact). along (fact (a .types .now)) (a .image .now) (a .n) x (l .i + 1) q) more
-          ∙ along-turn (fact (a .types .now)) (a .image .now) (a .n) (factsIn (l .words) (l .i)) (l .i) (l .at) below (factIn (f .result .words) 0) _ got ∙ l .inv .3,
+      ap (λ (x : List Fact). along (fact finer (a .types .now)) (a .image .now) (a .n) x (l .i + 1) q) more
+          ∙ along-turn (fact finer (a .types .now)) (a .image .now) (a .n) (factsIn (l .words) (l .i)) (l .i) (l .at) below (factIn (f .result .words) 0) _ got ∙ l .inv .3,
     )
 
 same-length-2 : tie.Need-same-length-2 Inv-loop μ-loop
@@ -101,7 +102,7 @@ returns-2 c =
     let l = c .before .loop in
     let a = start (c .before) .args in
     let e : a .n ≡ l .i = omega arith in (
-      ap (λ (k : ℕ). Got (factsIn (l .words) k) (l .at)) e ∙ along-end (fact (a .types .now)) (a .image .now) (a .n) (factsIn (l .words) (l .i)) (l .i) (l .at) (c .loop-test .left) ∙ l .inv .3,
+      ap (λ (k : ℕ). Got (factsIn (l .words) k) (l .at)) e ∙ along-end (fact finer (a .types .now)) (a .image .now) (a .n) (factsIn (l .words) (l .i)) (l .i) (l .at) (c .loop-test .left) ∙ l .inv .3,
       next-within _ (l .at) _ refl (l .inv .1),
     )
 

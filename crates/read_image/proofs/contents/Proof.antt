@@ -8,6 +8,7 @@ use lib.Seq.{drop-drop, take-take}
 use borrow.Rule.Slice.PartMut.{same-len-mid}
 use Rattle.meaning.specs.Model.{Fact, Rule}
 use Rattle.meaning.specs.Read.{Got, times}
+use Rattle.meaning.specs.Numbers.{finer}
 use Rattle.meaning.specs.Image.{fact, rule}
 use Rattle.layout.specs.declared.Plan.{Plan}
 use Rattle.layout.specs.Rows.{sizes, factsIn, rulesIn, Laid}
@@ -78,7 +79,7 @@ facts-here c =
     ap (λ (l : List ℕ). factsIn l (begun c .args .plan .facts)) (ap (drop 144) (part-put 144 w (facts-own c)) ∙ part-own 144 w (facts-own c) h)
 
 read-facts : (c : tie.After-known-told)
-    → let a = begun (found c) .args in Got (factsOn (a .plan) (with-facts (found c))) (c .before .after-facts .given .0 .0) ≡ times (a .plan .facts) (fact (a .types .now)) (a .image .now) (a .p)
+    → let a = begun (found c) .args in Got (factsOn (a .plan) (with-facts (found c))) (c .before .after-facts .given .0 .0) ≡ times (a .plan .facts) (fact finer (a .types .now)) (a .image .now) (a .p)
 read-facts c =
     let f = found c in
     let n = begun f .args .plan .facts in

@@ -9,6 +9,7 @@ use Rattle.meaning.specs.declared.Buffer.{Buffer}
 use Rattle.meaning.specs.declared.State.{State}
 use Rattle.meaning.specs.Model.{Chunk}
 use Rattle.meaning.specs.Read.{Got}
+use Rattle.meaning.specs.Numbers.{finer}
 use Rattle.meaning.specs.Image.{slotCounts, chunk}
 use Rattle.layout.specs.Walks.{answer, mapped, Small}
 use Rattle.layout.specs.StateWords.{buffersIn, stateIn}
@@ -60,7 +61,7 @@ as-many c = length-take-le (many c) (types c) (omega (arith, sixty-four c, decla
 
 read-types : (c : tie.After-struct-known)
     → let t = counted c in let a = start t .args in
-    Got (take (many t) (types t)) (c .before .before .before .after-types .given .0 .0) ≡ mapped (λ counts. 0 ∷ counts) (slotCounts (a .plan .declared) (a .image .now) (a .p))
+    Got (take (many t) (types t)) (c .before .before .before .after-types .given .0 .0) ≡ mapped (λ counts. 0 ∷ counts) (slotCounts finer (a .plan .declared) (a .image .now) (a .p))
 read-types c = let t = counted c in sym (answer-next _ (take (many t) (types t)) _ (c .before .before .before .after-types .given .1)) ∙ t .slot-counts .ensures .0
 
 -- the tape once the types are copied, and once the state has come back after them
@@ -173,14 +174,14 @@ returns-2 c =
     let put = part-put 64 (typed (copied l)) (own l) ∙ ap (λ (w : List ℕ). take 64 w ++ own l) (copied l .copy-into .ensures) in
     let same : typesOn (a .plan) (tape l) ≡ kinds = ap (typesOn (a .plan)) put ∙ types-laid (a .plan) (a .tape .now) (types t) (own l) (declared t) (sixty-four t) (start t .pre .4) in
     let chunks : openingOn (a .plan) (tape l) ≡ chunksIn st n = ap (λ (bs : List Buffer). map chunkIn (take n bs)) (laid l) in
-    let on = begin-on (a .image .now) (headerIn (a .plan)) (a .p) (start t .pre .2) kinds at (read-types d) walk (chunksIn st n) (opened-chunks (chunk kinds 0) n s at walk st read) in
+    let on = begin-on (a .image .now) (headerIn (a .plan)) (a .p) (start t .pre .2) kinds at (read-types d) walk (chunksIn st n) (opened-chunks (chunk finer kinds 0) n s at walk st read) in
     record {
       reads = ap₂ (λ (ts : List ℕ) (cs : List Chunk). answer walk (aBeginning (headerIn (a .plan)) ts cs)) same chunks ∙ on;
       within = o .opening .ensures .1;
       types = λ q g. same;
       small = λ q g. rw same (small-take (many t) (types t) (t .slot-counts .ensures .1 .1));
       opens = λ q g.
-          let first = opened-state (chunk kinds 0) n s at walk st q g read in
+          let first = opened-state (chunk finer kinds 0) n s at walk st q g read in
           ap (λ (bs : List Buffer). record { buffers = bs; clock = 0 }) (laid l ∙ ap (λ (x : State). x .buffers) first) ∙ ap (openingState n) (sym chunks);
     }
 

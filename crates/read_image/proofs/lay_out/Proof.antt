@@ -7,6 +7,7 @@ use lib.ListN.{length, take}
 use lib.Seq.{length-take-le}
 use Rattle.meaning.specs.Model.{Model, Chunk}
 use Rattle.meaning.specs.Read.{Got}
+use Rattle.meaning.specs.Numbers.{finer}
 use Rattle.meaning.specs.Image.{header, Beginning, beginning, contents}
 use Rattle.meaning.specs.Calls.{openState}
 use Rattle.layout.specs.declared.Plan.{Plan}
@@ -48,7 +49,7 @@ short c = start c .pre .0 .short _ (c .before .began .given .1)
 in-bounds : (c : tie.After-known-told) → InBounds (plan c)
 in-bounds c = start c .pre .0 .in-bounds _ (c .before .began .given .1)
 
-read-header : (c : tie.After-known-told) → Got (headerIn (plan c)) (c .before .began .given .0 .0) ≡ header (start c .args .image .now) 0
+read-header : (c : tie.After-known-told) → Got (headerIn (plan c)) (c .before .began .given .0 .0) ≡ header finer (start c .args .image .now) 0
 read-header c =
     sym (answer-next _ (headerIn (plan c)) _ (c .before .began .given .1)) ∙ start c .pre .0 .reads ∙ sym (not-long (start c .args .image .now) (short c))
 
@@ -81,7 +82,7 @@ module _ (c : tie.After-known-told3) where
   same-types : typesOn p (begun o) ≡ take (p .declared + 1) types
   same-types = o .lay-opening .ensures .types _ (c .before .after-opening .given .1)
 
-  read-beginning : Got (beginningOn p (begun o)) (c .before .after-opening .given .0 .0) ≡ beginning (start (headed o) .args .image .now) 0
+  read-beginning : Got (beginningOn p (begun o)) (c .before .after-opening .given .0 .0) ≡ beginning finer (start (headed o) .args .image .now) 0
   read-beginning = sym (answer-next _ (beginningOn p (begun o)) _ (c .before .after-opening .given .1)) ∙ o .lay-opening .ensures .reads
 
 -- ---- what is asked
@@ -162,7 +163,7 @@ returns-3 c =
     let b = in-bounds h in
     let kept = d .contents .ensures .1 .0 in
     let same = beginning-kept q old new kept (declared h) in
-    let rest = d .contents .ensures .0 ∙ ap (λ (ts : List ℕ). contents (sizes (q .buffers) ts) (q .facts) (q .rules) s (k .before .after-opening .given .0 .0)) (sym (same-types k)) in
+    let rest = d .contents .ensures .0 ∙ ap (λ (ts : List ℕ). contents finer (sizes (q .buffers) ts) (q .facts) (q .rules) s (k .before .after-opening .given .0 .0)) (sym (same-types k)) in
     let on = decode-on s (short h) (beginningOn q old) _ (d .contents .result) (contentsOn q new) (read-beginning k) rest in
     record {
       reads = ap (λ (x : Beginning). answer (d .contents .result) (aModel x (contentsOn q new))) same ∙ on;

@@ -5,6 +5,7 @@ use borrow.Author.Needs.{needs}
 use lib.ListN.{length}
 use Rattle.meaning.specs.declared.State.{State}
 use Rattle.meaning.specs.Read.{Got, times}
+use Rattle.meaning.specs.Numbers.{finer}
 use Rattle.meaning.specs.Image.{chunk}
 use Rattle.meaning.specs.Calls.{opens}
 use Rattle.layout.specs.Walks.{mapped}
@@ -19,7 +20,7 @@ use Rattle.read_opening.proofs.opening.Tie as tie
 abbrev Inv-loop : tie.InvT-loop
 Inv-loop image p types n st₀ at₀ i₀ st at i =
     (i ≤ n) × (at ≤ 8 * length image) × (st .clock ≡ 0)
-    × (stored opens stateOf (chunk types 0) image (st .buffers) i (n - i) at ≡ mapped (openingState n) (times n (chunk types 0) image p))
+    × (stored opens stateOf (chunk finer types 0) image (st .buffers) i (n - i) at ≡ mapped (openingState n) (times n (chunk finer types 0) image p))
 
 abbrev μ-loop : tie.MeasureT-loop
 μ-loop image p types n st₀ at₀ i₀ st at i = n - i
@@ -36,7 +37,7 @@ loop-holds c =
     let a = c .before .before .before .args in
     let z = c .zero-state .ensures in
     let fresh = opening-fresh (a .n) (search needs) in
-    (search needs, search needs, ap (λ (s : State). s .clock) z, rw z (stored-start opens stateOf (chunk (a .types .now) 0) (a .image .now) _ 0 (a .n) (a .p) (openingState (a .n)) fresh))
+    (search needs, search needs, ap (λ (s : State). s .clock) z, rw z (stored-start opens stateOf (chunk finer (a .types .now) 0) (a .image .now) _ 0 (a .n) (a .p) (openingState (a .n)) fresh))
 
 chunk-requires : tie.Need-chunk-requires Inv-loop μ-loop
 chunk-requires c κs = (search needs, search needs, start (c .before) .pre .2, search needs, search needs)
@@ -53,7 +54,7 @@ returns c =
     let l = d .before .before .loop in
     let a = start (d .before .before) .args in
     let bad = sym (answer-bad _ _ _ _ (c .before .w2 .given .1)) ∙ d .chunk .ensures .0 in (
-      stored-bad opens stateOf (chunk (a .types .now) 0) (a .image .now) (l .st .buffers) (l .i) (a .n) (l .i) (l .at) (d .before .loop-test .taken) _ _ bad ∙ l .inv .3,
+      stored-bad opens stateOf (chunk finer (a .types .now) 0) (a .image .now) (l .st .buffers) (l .i) (a .n) (l .i) (l .at) (d .before .loop-test .taken) _ _ bad ∙ l .inv .3,
       bad-within _ _ _ _ refl,
     )
 
@@ -86,7 +87,7 @@ loop-again c =
       search needs,
       d .chunk .ensures .1 _ next,
       l .inv .2,
-      stored-turn opens stateOf (chunk (a .types .now) 0) (a .image .now) (l .st .buffers) (l .i) (a .n) (l .i) (l .at) (d .before .loop-test .taken) one _ _ (c .opens .ensures) got ∙ l .inv .3,
+      stored-turn opens stateOf (chunk finer (a .types .now) 0) (a .image .now) (l .st .buffers) (l .i) (a .n) (l .i) (l .at) (d .before .loop-test .taken) one _ _ (c .opens .ensures) got ∙ l .inv .3,
     )
 
 returns-2 : tie.Need-returns-2 Inv-loop μ-loop
@@ -94,7 +95,7 @@ returns-2 c =
     let l = c .before .loop in
     let a = start (c .before) .args in (
       ap (λ (t : ℕ). Got (stateAt (l .st .buffers) t) (l .at)) (l .inv .2)
-          ∙ stored-end opens stateOf (chunk (a .types .now) 0) (a .image .now) (l .st .buffers) (l .i) (a .n) (l .i) (l .at) (c .loop-test .left) ∙ l .inv .3,
+          ∙ stored-end opens stateOf (chunk finer (a .types .now) 0) (a .image .now) (l .st .buffers) (l .i) (a .n) (l .i) (l .at) (c .loop-test .left) ∙ l .inv .3,
       next-within _ (l .at) _ refl (l .inv .1),
     )
 

@@ -4,7 +4,7 @@ use mathlib.Core.Path.{_≡_, refl, sym, _∙_}
 use mathlib.Core.List.{_∷_}
 use borrow.Author.Needs.{needs}
 use lib.ListN.{length, take}
-use Rattle.meaning.specs.Numbers.{bad-number}
+use Rattle.meaning.specs.Numbers.{finer, bad-number}
 use Rattle.meaning.specs.Read.{Reader, field, must}
 use Rattle.meaning.specs.Image.{between, slotCounts}
 use Rattle.layout.specs.Walks.{mapped, Small}
@@ -23,7 +23,7 @@ count = field 4 (must bad-number (between 0 8))
 abbrev Inv-loop : tie.InvT-loop
 Inv-loop image p declared types₀ at₀ i₀ types at i =
     (i ≤ declared) × (at ≤ 8 * length image) × Small types
-    × (stored (λ x. x) (take (declared + 1)) count image types (i + 1) (declared - i) at ≡ mapped (λ counts. 0 ∷ counts) (slotCounts declared image p))
+    × (stored (λ x. x) (take (declared + 1)) count image types (i + 1) (declared - i) at ≡ mapped (λ counts. 0 ∷ counts) (slotCounts finer declared image p))
 
 abbrev μ-loop : tie.MeasureT-loop
 μ-loop image p declared types₀ at₀ i₀ types at i = declared - i

@@ -7,6 +7,7 @@ use native.Mathlib.Omega.{arith}
 use lib.ListN.{length}
 use Rattle.meaning.specs.Model.{Test}
 use Rattle.meaning.specs.Read.{Got}
+use Rattle.meaning.specs.Numbers.{finer}
 use Rattle.meaning.specs.Image.{Head, head, tests}
 use Rattle.laws.specs.ImageLaws.{HeadFits, head-fits}
 use Rattle.layout.specs.Walks.{answer}
@@ -47,7 +48,7 @@ settled c = c .before .before .before
 abbrev own-head : tie.After-struct-known → Head
 own-head c = headIn (headed c .head .result)
 
-read-head : (c : tie.After-struct-known) → let a = start (headed c) .args in Got (own-head c) (c .before .before .after-head .given .0 .0) ≡ head (a .buffers) (a .image .now) (a .p)
+read-head : (c : tie.After-struct-known) → let a = start (headed c) .args in Got (own-head c) (c .before .before .after-head .given .0 .0) ≡ head finer (a .buffers) (a .image .now) (a .p)
 read-head c = sym (answer-next _ (own-head c) _ (c .before .before .after-head .given .1)) ∙ headed c .head .ensures .0
 
 head-counts : (c : tie.After-struct-known) → HeadFits (own-head c) (start (headed c) .args .buffers)
@@ -66,7 +67,7 @@ own-tests c = testsIn (tests-words c) 0 (headed (counted c) .head .result .tests
 
 read-tests : (c : tie.After-known-told3)
     → let d = counted (tested c) in let a = start (headed d) .args in let h = headed d .head .result in
-    Got (own-tests (tested c)) (c .before .after-tests .given .0 .0) ≡ tests (sizes (a .buffers) (a .types .now)) (h .variables) (h .tests) (a .image .now) (d .before .before .after-head .given .0 .0)
+    Got (own-tests (tested c)) (c .before .after-tests .given .0 .0) ≡ tests finer (sizes (a .buffers) (a .types .now)) (h .variables) (h .tests) (a .image .now) (d .before .before .after-head .given .0 .0)
 read-tests c = sym (answer-next _ (own-tests (tested c)) _ (c .before .after-tests .given .1)) ∙ tested c .tests .ensures .0
 
 -- ---- what is asked

@@ -57,7 +57,7 @@ returns-2 c =
     let a = start k .args in (
       answer-bad _ _ _ _ (c .no-terms2 .ensures)
           ∙ masked-bad (a .variables) (a .slots) (a .image .now) (a .p) _ _
-          (read-broken (a .image .now) 8 (a .p) (must bad-mask (aMask (a .slots))) _ 2 (fetched-mask k) (mask-past (a .slots) _ (past .result) (past .ensures) (c .before .if1 .taken))),
+          (read-broken (a .image .now) 8 (a .p) (must bad-mask (aMask (a .slots))) _ 10 (fetched-mask k) (mask-past (a .slots) _ (past .result) (past .ensures) (c .before .if1 .taken))),
       bad-within _ _ _ _ (c .no-terms2 .ensures),
     )
 

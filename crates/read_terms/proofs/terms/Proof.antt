@@ -9,7 +9,7 @@ use native.Mathlib.Omega.{arith}
 use lib.Count.{ones}
 use lib.ListN.{length, length-set}
 use Rattle.meaning.specs.Read.{Got, must}
-use Rattle.meaning.specs.Numbers.{bad-variable}
+use Rattle.meaning.specs.Numbers.{finer, bad-variable}
 use Rattle.meaning.specs.Image.{aTerm, names, terms, slotsIn}
 use Rattle.laws.specs.ImageLaws.{slots-ones}
 use Rattle.layout.specs.Rows.{namedBy}
@@ -23,7 +23,7 @@ use Rattle.read_terms.proofs.terms.Tie as tie
 
 abbrev Inv-loop : tie.InvT-loop
 Inv-loop image p mask variables xs₀ at₀ r₀ b₀ xs at r b = Walk mask b r × (at ≤ 8 * length image) × (length xs ≡ 8) ×
-    (onTo mask variables image xs b at ≡ terms variables (slotsIn mask) image p) × (at + 13 * length (rest mask b) ≡ p + 13 * length (slotsIn mask))
+    (onTo mask variables image xs b at ≡ terms finer variables (slotsIn mask) image p) × (at + 13 * length (rest mask b) ≡ p + 13 * length (slotsIn mask))
 
 abbrev μ-loop : tie.MeasureT-loop
 μ-loop image p mask variables xs₀ at₀ r₀ b₀ xs at r b = 8 - b
@@ -85,7 +85,7 @@ returns-2 c =
     let l = turn d .before .loop in
     let a = start (turn d .before) .args in (
       on-bad (a .mask) (a .variables) (a .image .now) (l .xs) (l .xs) (l .b) (l .at) (l .at) (low (turn d)) (named d) _ _
-          (read-broken (a .image .now) 13 (l .at) (must bad-variable (aTerm (a .variables))) _ 2 e (term-big (a .variables) _ (c .if2 .taken))) ∙ l .inv .3,
+          (read-broken (a .image .now) 13 (l .at) (must bad-variable (aTerm (a .variables))) _ 11 e (term-big (a .variables) _ (c .if2 .taken))) ∙ l .inv .3,
       bad-within _ _ _ _ refl,
     )
 

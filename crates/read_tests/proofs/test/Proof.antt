@@ -111,7 +111,7 @@ returns-3 c =
     let b = judged d .ranged .result .value in
     let isa = typed k .type-at .result .value in
     let r = m .result in
-    let h : b < 8 = omega (arith, range-below 3 2 (a .least) (a .buffers) (a .image .now) (a .p) _ _ (read-buffer d), start (judged d) .pre .2) in (
+    let h : b < 8 = omega (arith, range-below 3 12 (a .least) (a .buffers) (a .image .now) (a .p) _ _ (read-buffer d), start (judged d) .pre .2) in (
       ap₂ (λ (w : Walk) (l : List ℕ). answer w (testIn l 0)) (c .row .ensures .0) (c .row .ensures .1) ∙ ap (λ (t : Test). answer (r .walk) t) (test-row b isa (r .mask) (r .slots) h)
           ∙ test-on (a .buffers) (a .types .now) (a .variables) (a .least) (a .image .now) (a .p) b _ (read-buffer d) isa _ (read-type k) (r .walk) (namedBy (r .mask) (r .slots)) (m .ensures .0),
       subst (λ (w : Walk). Within w (8 * length (a .image .now))) (sym (c .row .ensures .0)) (m .ensures .1),

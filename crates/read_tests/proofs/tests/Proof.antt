@@ -7,6 +7,7 @@ use lib.ListN.{length, take}
 use borrow.Author.Needs.{needs}
 use Rattle.meaning.specs.Model.{Test}
 use Rattle.meaning.specs.Read.{Got}
+use Rattle.meaning.specs.Numbers.{finer}
 use Rattle.meaning.specs.Image.{test, tests}
 use Rattle.layout.specs.Rows.{rowsIn, sizes, testIn, testsIn}
 use Rattle.layout.proofs.WalkLaws.{answer-bad, answer-next, bad-within, next-within}
@@ -19,7 +20,7 @@ use Rattle.read_tests.proofs.tests.Tie as tie
 abbrev Inv-loop : tie.InvT-loop
 Inv-loop image p n buffers types variables words₀ o at₀ least₀ i₀ words at least i =
     (i ≤ n) × (at ≤ 8 * length image) × (length words ≡ length words₀) × (take o words ≡ take o words₀)
-    × (onward (test (sizes buffers types) variables) (λ t. t .buffer) image n (testsIn words o i) i least at ≡ tests (sizes buffers types) variables n image p)
+    × (onward (test finer (sizes buffers types) variables) (λ t. t .buffer) image n (testsIn words o i) i least at ≡ tests finer (sizes buffers types) variables n image p)
 
 abbrev μ-loop : tie.MeasureT-loop
 μ-loop image p n buffers types variables words₀ o at₀ least₀ i₀ words at least i = n - i
@@ -41,7 +42,7 @@ loop-holds : tie.Need-loop-holds Inv-loop μ-loop
 unfolding rowsIn
 loop-holds c =
     let a = c .before .before .before .args in
-    let f = test (sizes (a .buffers) (a .types .now)) (a .variables) in
+    let f = test finer (sizes (a .buffers) (a .types .now)) (a .variables) in
     (search needs, search needs, refl, refl, onward-start f (λ t. t .buffer) (a .image .now) (a .n) 0 (a .p))
 
 test-requires : tie.Need-test-requires Inv-loop μ-loop
@@ -61,7 +62,7 @@ returns c =
     let d = c .before .before .before in
     let l = d .before .before .loop in
     let a = start (d .before .before) .args in
-    let f = test (sizes (a .buffers) (a .types .now)) (a .variables) in
+    let f = test finer (sizes (a .buffers) (a .types .now)) (a .variables) in
     let bad = sym (answer-bad _ (testIn (d .test .result .words) 0) _ _ (c .before .walk2 .given .1)) ∙ d .test .ensures .0 in (
       onward-bad f (λ t. t .buffer) (a .image .now) (a .n) _ (l .i) (l .least) (l .at) (d .before .loop-test .taken) _ _ bad ∙ l .inv .4,
       (bad-within _ _ _ _ refl, l .inv .3),
@@ -92,7 +93,7 @@ loop-again : tie.Need-loop-again Inv-loop μ-loop
 loop-again c =
     let l = read (known c) .before .before .loop in
     let a = start (read (known c) .before .before) .args in
-    let f = test (sizes (a .buffers) (a .types .now)) (a .variables) in
+    let f = test finer (sizes (a .buffers) (a .types .now)) (a .variables) in
     let r = read (known c) .test .result in
     let reads = read (known c) .test .ensures in
     let m : length (r .words) ≡ 11 = search needs in
@@ -118,7 +119,7 @@ returns-2 : tie.Need-returns-2 Inv-loop μ-loop
 returns-2 c =
     let l = c .before .loop in
     let a = start (c .before) .args in
-    let f = test (sizes (a .buffers) (a .types .now)) (a .variables) in
+    let f = test finer (sizes (a .buffers) (a .types .now)) (a .variables) in
     let e : l .i ≡ a .n = omega arith in (
       ap (λ (j : ℕ). Got (testsIn (l .words) (a .o) j) (l .at)) (sym e)
           ∙ onward-end f (λ t. t .buffer) (a .image .now) (a .n) (testsIn (l .words) (a .o) (l .i)) (l .i) (l .least) (l .at) (omega arith) ∙ l .inv .4,
