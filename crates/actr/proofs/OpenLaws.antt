@@ -8,18 +8,18 @@ use Rattle.meaning.specs.Model.{Model}
 use Rattle.meaning.specs.Read.{Read, Refused, Got}
 use Rattle.meaning.specs.Image.{decode}
 use Rattle.meaning.specs.Match.{freshTable}
-use Rattle.meaning.specs.Calls.{accepted, wordsFor, tableLength, Opened, openState, openedBy, openOf, traceOf}
+use Rattle.meaning.specs.Calls.{accepted, neededBy, neededOf, Opened, openState, openedBy, openOf, traceOf}
 use Rattle.meaning.specs.Print.{End, linesOf, printedBy, printed}
 use Rattle.laws.specs.MatchLaws.{fresh-length}
 use Rattle.laws.specs.CallsLaws.{open-well}
 
-module _ (image table : List ℕ) (room : length table ≡ tableLength image) where
+module _ (image table : List ℕ) (room : length table ≡ neededOf image .words) where
   -- the table has the right length, so the image alone decides
   opened-as : (r : Read Model) → decode image ≡ r → openOf image table ≡ openedBy table r
-  unfolding openOf accepted tableLength
+  unfolding openOf accepted neededOf
   opened-as (Refused n at) e = rw e
   opened-as (Got m at) e =
-      let l : length table ≡ 9 * length (m .rules) = room ∙ ap wordsFor e in
+      let l : length table ≡ 9 * length (m .rules) = room ∙ ap (λ (r : Read Model). neededBy r .words) e in
       rw (e, eq-eqb (length table) (9 * length (m .rules)) l)
 
   lines-as : (r : Read Model) → decode image ≡ r → linesOf (traceOf image (openedBy table r .state) (openedBy table r .table) 1000) ≡ printedBy r

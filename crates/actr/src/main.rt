@@ -4,7 +4,7 @@ ghost use Prim.Native.Nat.{_≤_};
 ghost use lib.ListN.{length, take};
 ghost use Rattle.io.specs.Counts.{Counts};
 ghost use Rattle.meaning.specs.Print.{linesOf, printed};
-ghost use Rattle.meaning.specs.Calls.{tableLength, traceOf};
+ghost use Rattle.meaning.specs.Calls.{neededOf, traceOf};
 ghost use Rattle.actr_lines.specs.Text.{text as Text·text};
 ghost use Rattle.actr_lines.specs.Written.{Written};
 use actr_lines::put_end;
@@ -24,7 +24,7 @@ fn print_run(image: &[u8], state: State, table: &mut [u16], text: &mut [u8]) -> 
 
 // Opens an image and runs it, with the table that it needs; a refused opening puts the last line alone.
 fn print_model(image: &[u8], table: &mut [u16], text: &mut [u8]) -> usize
-    requires { ⌜ (length (now table) ≡ tableLength (now image)) × (27026 ≤ length (now text)) ⌝ }
+    requires { ⌜ (length (now table) ≡ neededOf (now image) .words) × (27026 ≤ length (now text)) ⌝ }
     ensures { λ r. ⌜ Written (now (text .entry)) 0 (now (text .exit)) r 27026 (Text·text (printed (now (image .entry)))) ⌝ }
 {
     let opened = calls::open(image, table);
@@ -41,7 +41,8 @@ pub fn print(image: &[u8], text: &mut [u8; 27026]) -> usize
     ensures { λ r. ⌜ take r (now (text .exit)) ≡ Text·text (printed (now (image .entry))) ⌝ }
 {
     let mut room = [0u16; 2304];
-    let length = calls::table_length(image) as usize;
+    let needed = calls::table_length(image);
+    let length = needed.words as usize;
     print_model(image, &mut room[..length], text)
 }
 

@@ -10,7 +10,7 @@ use lib.ListN.{length}
 use Rattle.meaning.specs.Model.{Model}
 use Rattle.meaning.specs.Read.{Read, Refused, Got}
 use Rattle.meaning.specs.Image.{decode}
-use Rattle.meaning.specs.Calls.{accepted}
+use Rattle.meaning.specs.Calls.{accepted, placeOf}
 use Rattle.layout.specs.declared.Walk.{Walk}
 use Rattle.layout.specs.declared.Walk.the-variants.{Next, Bad}
 use Rattle.layout.specs.declared.Plan.{Plan}
@@ -77,6 +77,11 @@ module _ (p : Plan) (image tape : List ℕ) (w : Walk) (met : LaidOut w p image 
           planned = λ x. met .planned q e;
           right-length = λ x. g;
         }
+
+-- an accepted image has no place
+pub place-settled : (a : Read Model) → placeOf a ≡ placeOf (settled a)
+place-settled (Refused n at) = refl
+place-settled (Got m at) = refl
 
 -- ---- a call by what is taken: f is what it gives, in which the place where an image ends plays no part
 

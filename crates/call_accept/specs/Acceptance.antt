@@ -21,7 +21,7 @@ abbrev pub takenBy : Taken → Model → Read Model
 takenBy taken.Accepted m = Got m 0
 takenBy (taken.Refused n at) m = Refused n at
 
--- numbers 1 to 5, for every table of that length; and of an accepted image, what the layers above need
+-- numbers 1 to 5 and 11 to 13, for every table of that length; and of an accepted image, what the layers above need
 pub record TakenMet (r : Taken) (p : Plan) (image : List ℕ) (lent : ℕ) (tape : List ℕ) : Type 0 where
   pub is-taken : (table : List ℕ) → length table ≡ lent → takenBy r (modelOn p tape) ≡ settled (accepted image table)
   pub planned : r ≡ taken.Accepted → Planned p tape

@@ -1,4 +1,4 @@
-// What every call looks at first, numbers 1 to 5: the image, and then the table's length.
+// What every call looks at first, numbers 1 to 5 and 11 to 13: the image, and then the table's length.
 ghost use mathlib.Core.Path.{_≡_};
 ghost use Prim.Native.Nat.{_*_, _≤_};
 ghost use lib.Dec.{eqb};
@@ -10,7 +10,7 @@ use layout::PlanRead;
 use layout::Walk;
 use meaning::numbers::WRONG_TABLE;
 
-// Whether an image and a table's length are accepted, or the number (1 to 5) of the refusal and the place of the refused field, 0 where there is none.
+// Whether an image and a table's length are accepted, or the number (1 to 5, or 11 to 13) of the refusal and the place of the refused field, 0 where there is none.
 pub enum Taken {
     Accepted,
     Refused(u8, usize),

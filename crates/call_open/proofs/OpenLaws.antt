@@ -24,11 +24,11 @@ opened-settled table (Refused n at) = refl
 opened-settled table (Got m at) = refl
 
 abbrev opened : ℕ → State → List ℕ → Opened
-opened number s table = record { number = number; state = s; table = table }
+opened number s table = record { number = number; position = 0; state = s; table = table }
 
 module _ (t : Taken) (p : Plan) (image table tape : List ℕ) (met : TakenMet t p image (length table) tape) where
   -- refused: nothing is done
-  pub open-refused : (n at : ℕ) → t ≡ taken.Refused n at → (r : OpenDone) → r ≡ record { number = n; state = zeroState } → openedIn r table ≡ openOf image table
+  pub open-refused : (n at : ℕ) → t ≡ taken.Refused n at → (r : OpenDone) → r ≡ record { number = n; position = at; state = zeroState } → openedIn r table ≡ openOf image table
   unfolding openOf
   open-refused n at e r g = rw g (by-refused (openedBy table) (opened-settled table) t p image table tape met n at e)
 

@@ -6,4 +6,4 @@ use Rattle.call_open.specs.declared.OpenDone.{OpenDone}
 
 -- the answer, with the table as it is left
 abbrev pub openedIn : OpenDone → List ℕ → Opened
-openedIn r table = record { number = r .number; state = r .state; table = table }
+openedIn r table = record { number = r .number; position = r .position; state = r .state; table = table }

@@ -18,19 +18,21 @@ use layout::SMALL_TAPE;
 use meaning::State;
 use meaning::numbers::ALL_DONE;
 
-// What open answers.
+// What open answers: the number, the position of the refused field if there is one, else 0, and the state.
 pub struct OpenDone {
     pub number: u8,
+    pub position: usize,
     pub state: State,
 }
 
-// A refusal: the number, with the all-zero state.
-fn no_opening(number: u8) -> OpenDone
-    ensures { λ r. ⌜ r ≡ record { number = number; state = zeroState } ⌝ }
+// A refusal: the number and the position, with the all-zero state.
+fn no_opening(number: u8, position: usize) -> OpenDone
+    ensures { λ r. ⌜ r ≡ record { number = number; position = position; state = zeroState } ⌝ }
 {
     let nothing = meaning::zero_state();
     OpenDone {
         number: number,
+        position: position,
         state: nothing,
     }
 }
@@ -52,19 +54,20 @@ fn open_on(image: &[u8], begun: PlanRead, table: &mut [u16], tape: &mut [u16]) -
     ensures { λ r. ⌜ openedIn r (now (table .exit)) ≡ openOf (now (image .entry)) (now (table .entry)) ⌝ }
 {
     let taken = call_accept::accept(image, begun, table.len(), tape);
-    if let Taken::Refused(number, _) = taken {
-        return no_opening(number);
+    if let Taken::Refused(number, at) = taken {
+        return no_opening(number, at);
     }
     let plan = begun.plan;
     fresh_on(table, plan, tape);
     let state = layout_state::read_state(&tape[OPENING_AT..], 0);
     OpenDone {
         number: ALL_DONE,
+        position: 0,
         state: state,
     }
 }
 
-// Opens an image: the number, and the opening state (all zero if it is refused); writes the fresh table if it is accepted.
+// Opens an image: the number, the position of a refused field, and the opening state (all zero if it is refused); writes the fresh table if it is accepted.
 pub fn open(image: &[u8], table: &mut [u16]) -> OpenDone
     ensures { λ r. ⌜ openedIn r (now (table .exit)) ≡ openOf (now (image .entry)) (now (table .entry)) ⌝ }
 {

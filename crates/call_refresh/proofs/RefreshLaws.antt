@@ -27,10 +27,10 @@ use Rattle.call_refresh.specs.declared.RefreshDone.{RefreshDone}
 use Rattle.call_refresh.specs.Answers.{refreshedIn}
 
 abbrev refreshed : ℕ → ℕ → List ℕ → Refreshed
-refreshed number count table = record { number = number; count = count; table = table }
+refreshed number count table = record { number = number; position = 0; count = count; table = table }
 
-abbrev none : ℕ → RefreshDone
-none number = record { number = number; count = 0 }
+abbrev none : ℕ → ℕ → RefreshDone
+none number at = record { number = number; position = at; count = 0 }
 
 -- 1 shifted by at most 8 is a power of two, within 32 bits
 pub shifted : (buffers : ℕ) → buffers ≤ 8 → 1 * 2 ^ buffers % 4294967296 ≡ 2 ^ buffers
@@ -44,7 +44,7 @@ module _ (s : State) (mark : ℕ) (t : Taken) (p : Plan) (image table tape : Lis
   refreshed-settled (Got m at) = refl
 
   -- refused: nothing is done
-  pub refresh-refused : (n at : ℕ) → t ≡ taken.Refused n at → (r : RefreshDone) → r ≡ none n → refreshedIn r table ≡ refreshOf image s mark table
+  pub refresh-refused : (n at : ℕ) → t ≡ taken.Refused n at → (r : RefreshDone) → r ≡ none n at → refreshedIn r table ≡ refreshOf image s mark table
   unfolding refreshOf
   refresh-refused n at e r g = rw g (by-refused (refreshedBy s mark table) refreshed-settled t p image table tape met n at e)
 
@@ -60,11 +60,11 @@ module _ (s : State) (mark : ℕ) (table : List ℕ) (m : Model) (types : List �
   formed : (x : Bool) → well ≡ x → wellFormed m s ≡ x
   formed x g = well-by m types buffers w s eb et stands well x judged g
 
-  pub refresh-ill : well ≡ false → (r : RefreshDone) → r ≡ none 6 → refreshedIn r table ≡ refreshedBy s mark table (Got m 0)
+  pub refresh-ill : well ≡ false → (r : RefreshDone) → r ≡ none 6 0 → refreshedIn r table ≡ refreshedBy s mark table (Got m 0)
   refresh-ill g r e = rw (e, formed false g)
 
   module _ (ok : well ≡ true) (allowed : Bool) (allows : allowed ≡ ltb mark (2 ^ buffers)) where
-    pub refresh-mark : allowed ≡ false → (r : RefreshDone) → r ≡ none 10 → refreshedIn r table ≡ refreshedBy s mark table (Got m 0)
+    pub refresh-mark : allowed ≡ false → (r : RefreshDone) → r ≡ none 10 0 → refreshedIn r table ≡ refreshedBy s mark table (Got m 0)
     refresh-mark g r e =
         let l : 2 ^ m .buffers ≤ mark = rw eb (ltb-false mark (2 ^ buffers) (sym allows ∙ g)) in
         rw (e, formed true ok, le-leb (2 ^ m .buffers) mark l)

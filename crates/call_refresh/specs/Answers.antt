@@ -6,4 +6,4 @@ use Rattle.call_refresh.specs.declared.RefreshDone.{RefreshDone}
 
 -- the answer, with the table as it is left
 abbrev pub refreshedIn : RefreshDone → List ℕ → Refreshed
-refreshedIn r table = record { number = r .number; count = r .count; table = table }
+refreshedIn r table = record { number = r .number; position = r .position; count = r .count; table = table }

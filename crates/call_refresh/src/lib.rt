@@ -19,18 +19,20 @@ use meaning::numbers::ALL_DONE;
 use meaning::numbers::BAD_MARK;
 use meaning::numbers::ILL_FORMED;
 
-// What refresh answers: the number, and how many rules test a marked buffer.
+// What refresh answers: the number, the position of the refused field if there is one, else 0, and how many rules test a marked buffer.
 pub struct RefreshDone {
     pub number: u8,
+    pub position: usize,
     pub count: u16,
 }
 
-// A refusal: the number, and no rule counted.
-fn no_refresh(number: u8) -> RefreshDone
-    ensures { λ r. ⌜ r ≡ record { number = number; count = 0 } ⌝ }
+// A refusal: the number and the position, and no rule counted.
+fn no_refresh(number: u8, position: usize) -> RefreshDone
+    ensures { λ r. ⌜ r ≡ record { number = number; position = position; count = 0 } ⌝ }
 {
     RefreshDone {
         number: number,
+        position: position,
         count: 0,
     }
 }
@@ -52,10 +54,10 @@ fn refresh_for(table: &mut [u16], plan: Plan, tape: &[u16], state: State, mark: 
     layout_state::lay_state(state, &mut now);
     let end = plan.declared as usize + 1;
     if !layout_state::well_formed(&now, &tape[..end], plan.buffers as usize) {
-        return no_refresh(ILL_FORMED);
+        return no_refresh(ILL_FORMED, 0);
     }
     if !mark_allowed(mark, plan.buffers) {
-        return no_refresh(BAD_MARK);
+        return no_refresh(BAD_MARK, 0);
     }
     let heads = plan.heads;
     let rows = plan.rows;
@@ -63,6 +65,7 @@ fn refresh_for(table: &mut [u16], plan: Plan, tape: &[u16], state: State, mark: 
     let count = match_table::refresh(table, &tape[heads..], &tape[rows..], n, &now, mark);
     RefreshDone {
         number: ALL_DONE,
+        position: 0,
         count: count,
     }
 }
@@ -80,14 +83,14 @@ fn refresh_on(
     ensures { λ r. ⌜ refreshedIn r (now (table .exit)) ≡ refreshOf (now (image .entry)) state mark (now (table .entry)) ⌝ }
 {
     let taken = call_accept::accept(image, begun, table.len(), tape);
-    if let Taken::Refused(number, _) = taken {
-        return no_refresh(number);
+    if let Taken::Refused(number, at) = taken {
+        return no_refresh(number, at);
     }
     let plan = begun.plan;
     refresh_for(table, plan, tape, state, mark)
 }
 
-// Makes the entries of the rules that test a marked buffer afresh: the number, and how many these rules are.
+// Makes the entries of the rules that test a marked buffer afresh: the number, the position of a refused field, and how many these rules are.
 pub fn refresh(image: &[u8], state: State, mark: u16, table: &mut [u16]) -> RefreshDone
     ensures { λ r. ⌜ refreshedIn r (now (table .exit)) ≡ refreshOf (now (image .entry)) state mark (now (table .entry)) ⌝ }
 {

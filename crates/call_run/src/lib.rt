@@ -20,19 +20,21 @@ use match_beds::SMALL_SETS;
 use meaning::State;
 use meaning::numbers::ILL_FORMED;
 
-// What run answers: the number, the state, and the steps made.
+// What run answers: the number, the position of the refused field if there is one, else 0, the state, and the steps made.
 pub struct RunDone {
     pub number: u8,
+    pub position: usize,
     pub state: State,
     pub made: u16,
 }
 
-// A refusal: the number, the state as it was handed in, and no step made.
-fn no_run(number: u8, state: State) -> RunDone
-    ensures { λ r. ⌜ r ≡ record { number = number; state = state; made = 0 } ⌝ }
+// A refusal: the number and the position, the state as it was handed in, and no step made.
+fn no_run(number: u8, position: usize, state: State) -> RunDone
+    ensures { λ r. ⌜ r ≡ record { number = number; position = position; state = state; made = 0 } ⌝ }
 {
     RunDone {
         number: number,
+        position: position,
         state: state,
         made: 0,
     }
@@ -55,7 +57,7 @@ fn run_for(
     layout_state::lay_state(state, &mut now);
     let end = plan.declared as usize + 1;
     if !layout_state::well_formed(&now, &tape[..end], plan.buffers as usize) {
-        return no_run(ILL_FORMED, state);
+        return no_run(ILL_FORMED, 0, state);
     }
     step_aids::lay_aids(plan, tape);
     let order = plan.order;
@@ -80,6 +82,7 @@ fn run_for(
     let after = layout_state::read_state(&now, went.clock);
     RunDone {
         number: went.number,
+        position: 0,
         state: after,
         made: went.made,
     }
@@ -100,8 +103,8 @@ fn run_on(
     ensures { λ r. ⌜ RunMet r (accepted (now (image .entry)) (now (table .entry))) state (now (table .entry)) (now (table .exit)) steps (now (events .entry)) (now (events .exit)) ⌝ }
 {
     let taken = call_accept::accept(image, begun, table.len(), tape);
-    if let Taken::Refused(number, _) = taken {
-        return no_run(number, state);
+    if let Taken::Refused(number, at) = taken {
+        return no_run(number, at, state);
     }
     let plan = begun.plan;
     run_for(table, plan, tape, state, steps, events, sets)
@@ -148,7 +151,7 @@ pub fn trace(
     )
 }
 
-// Runs at most `steps` steps from a state: the number, the state and the steps made; the table is refreshed after each step.
+// Runs at most `steps` steps from a state: the number, the position of a refused field, the state and the steps made; the table is refreshed after each step.
 pub fn run(image: &[u8], state: State, table: &mut [u16], steps: u16) -> RunDone
     ensures { λ r. ⌜ ranBack r (now (table .exit)) ≡ runOf (now (image .entry)) state (now (table .entry)) steps ⌝ }
 {

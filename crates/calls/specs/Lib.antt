@@ -1,2 +1,3 @@
--- What the calls' contracts settle.
+-- What the table's length answers, and what the calls' contracts settle.
+pub mod Answers
 pub mod Once

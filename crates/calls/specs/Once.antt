@@ -3,7 +3,7 @@ use mathlib.Core.Path.{_≡_, sym, ap, _∙_}
 use mathlib.Core.List.{List}
 use Prim.Native.Nat.{ℕ}
 use Rattle.meaning.specs.declared.State.{State}
-use Rattle.meaning.specs.Calls.{Opened, openOf, Ran, traceOf, runOf, Refreshed, refreshOf, tableLength}
+use Rattle.meaning.specs.Calls.{Opened, openOf, Ran, traceOf, runOf, Refreshed, refreshOf, Needed, neededOf}
 use Rattle.meaning.specs.Fresh.{FreshRan, freshTraceOf, freshOf}
 use Rattle.step_note.specs.Events.{inscribed}
 use Rattle.call_open.specs.declared.OpenDone.{OpenDone}
@@ -14,40 +14,42 @@ use Rattle.call_run.specs.declared.RunDone.{RunDone}
 use Rattle.call_run.specs.Answers.{ranBack}
 use Rattle.fresh_call.specs.declared.FreshDone.{FreshDone}
 use Rattle.fresh_call.specs.Answers.{freshBack}
+use Rattle.calls.specs.declared.LengthDone.{LengthDone}
+use Rattle.calls.specs.Answers.{neededIn}
 
--- the words that a table needs
-pub length-once : (image : List ℕ) (r r′ : ℕ) → r ≡ tableLength image → r′ ≡ tableLength image → r ≡ r′
-length-once image r r′ p q = p ∙ sym q
+-- what the table's length gives: number, position and words
+pub length-once : (image : List ℕ) (r r′ : LengthDone) → neededIn r ≡ neededOf image → neededIn r′ ≡ neededOf image → r ≡ r′
+length-once image r r′ p q = ap (λ (o : Needed). record { number = o .number; position = o .position; words = o .words }) (p ∙ sym q)
 
--- what open gives: number and state; and the table that it leaves
+-- what open gives: number, position and state; and the table that it leaves
 pub open-once : (image table : List ℕ) (r r′ : OpenDone) (left left′ : List ℕ)
     → openedIn r left ≡ openOf image table → openedIn r′ left′ ≡ openOf image table → (r ≡ r′) × (left ≡ left′)
 open-once image table r r′ left left′ p q =
     let same : openedIn r left ≡ openedIn r′ left′ = p ∙ sym q in
-    (ap (λ (o : Opened). record { number = o .number; state = o .state }) same, ap (λ (o : Opened). o .table) same)
+    (ap (λ (o : Opened). record { number = o .number; position = o .position; state = o .state }) same, ap (λ (o : Opened). o .table) same)
 
--- what run gives: number, state and steps made; and the table that it leaves
+-- what run gives: number, position, state and steps made; and the table that it leaves
 pub run-once : (image : List ℕ) (s : State) (table : List ℕ) (steps : ℕ) (r r′ : RunDone) (left left′ : List ℕ)
     → ranBack r left ≡ runOf image s table steps → ranBack r′ left′ ≡ runOf image s table steps → (r ≡ r′) × (left ≡ left′)
 run-once image s table steps r r′ left left′ p q =
     let same : ranBack r left ≡ ranBack r′ left′ = p ∙ sym q in
-    (ap (λ (o : Ran). record { number = o .number; state = o .state; made = o .made }) same, ap (λ (o : Ran). o .table) same)
+    (ap (λ (o : Ran). record { number = o .number; position = o .position; state = o .state; made = o .made }) same, ap (λ (o : Ran). o .table) same)
 
 -- what trace notes besides: every word of the events, those past the steps made among them
 pub events-once : (image : List ℕ) (s : State) (table : List ℕ) (steps : ℕ) (events noted noted′ : List ℕ)
     → noted ≡ inscribed events 0 (traceOf image s table steps .events) → noted′ ≡ inscribed events 0 (traceOf image s table steps .events) → noted ≡ noted′
 events-once image s table steps events noted noted′ p q = p ∙ sym q
 
--- what refresh gives: number and count; and the table that it leaves
+-- what refresh gives: number, position and count; and the table that it leaves
 pub refresh-once : (image : List ℕ) (s : State) (mark : ℕ) (table : List ℕ) (r r′ : RefreshDone) (left left′ : List ℕ)
     → refreshedIn r left ≡ refreshOf image s mark table → refreshedIn r′ left′ ≡ refreshOf image s mark table → (r ≡ r′) × (left ≡ left′)
 refresh-once image s mark table r r′ left left′ p q =
     let same : refreshedIn r left ≡ refreshedIn r′ left′ = p ∙ sym q in
-    (ap (λ (o : Refreshed). record { number = o .number; count = o .count }) same, ap (λ (o : Refreshed). o .table) same)
+    (ap (λ (o : Refreshed). record { number = o .number; position = o .position; count = o .count }) same, ap (λ (o : Refreshed). o .table) same)
 
--- what a run without a table gives: number, state and steps made
+-- what a run without a table gives: number, position, state and steps made
 pub fresh-once : (image : List ℕ) (s : State) (steps : ℕ) (r r′ : FreshDone) → freshBack r ≡ freshOf image s steps → freshBack r′ ≡ freshOf image s steps → r ≡ r′
-fresh-once image s steps r r′ p q = ap (λ (o : FreshRan). record { number = o .number; state = o .state; made = o .made }) (p ∙ sym q)
+fresh-once image s steps r r′ p q = ap (λ (o : FreshRan). record { number = o .number; position = o .position; state = o .state; made = o .made }) (p ∙ sym q)
 
 -- and what it notes, every word of it
 pub fresh-events-once : (image : List ℕ) (s : State) (steps : ℕ) (events noted noted′ : List ℕ)

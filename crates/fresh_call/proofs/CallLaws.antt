@@ -26,21 +26,21 @@ use Rattle.fresh_run.specs.Went.{WentMet}
 use Rattle.fresh_call.specs.declared.FreshDone.{FreshDone}
 use Rattle.fresh_call.specs.Answers.{FreshMet}
 
-abbrev done : ℕ → State → ℕ → FreshDone
-done number s made = record { number = number; state = s; made = made }
+abbrev done : ℕ → ℕ → State → ℕ → FreshDone
+done number at s made = record { number = number; position = at; state = s; made = made }
 
 -- a run that ends before its first step
-none-made : (n : ℕ) (s : State) (lent : List ℕ) → Tells freshRanBy (record { number = n; state = s; made = 0 }) (ends n s) lent lent
-none-made n s lent = nothing-done (λ (number : ℕ) (left : State) (made : ℕ). record { number = number; state = left; made = made }) n s lent
+none-made : (n at : ℕ) (s : State) (lent : List ℕ) → Tells (freshRanBy at) (record { number = n; position = at; state = s; made = 0 }) (ends n s) lent lent
+none-made n at s lent = nothing-done (λ (number : ℕ) (left : State) (made : ℕ). record { number = number; position = at; state = left; made = made }) n s lent
 
 -- ---- by how the image was laid out
 
 module _ (s : State) (steps : ℕ) (w : Walk) (p : Plan) (image tape : List ℕ) (met : LaidOut w p image tape) where
   -- refused: nothing is done, and no event is noted
-  pub fresh-refused : (n at : ℕ) → w ≡ Bad n at → (r : FreshDone) → r ≡ done n s 0 → (lent : List ℕ) → FreshMet r (decode image) s steps lent lent
+  pub fresh-refused : (n at : ℕ) → w ≡ Bad n at → (r : FreshDone) → r ≡ done n at s 0 → (lent : List ℕ) → FreshMet r (decode image) s steps lent lent
   fresh-refused n at e r g lent =
       let reads : Refused n at ≡ decode image = sym (answer-bad w (modelOn p tape) n at e) ∙ met .reads in
-      rw (g, ← reads) (none-made n s lent)
+      rw (g, ← reads) (none-made n at s lent)
 
   -- accepted: what is left, for the model that was laid out
   pub fresh-accepted : (q : ℕ) → w ≡ Next q → (r : FreshDone) (lent lent′ : List ℕ) → FreshMet r (Got (modelOn p tape) 0) s steps lent lent′ → FreshMet r (decode image) s steps lent lent′
@@ -55,9 +55,9 @@ module _ (s : State) (steps : ℕ) (m : Model) (types : List ℕ) (buffers : ℕ
   formed : (x : Bool) → well ≡ x → wellFormed m s ≡ x
   formed x g = well-by m types buffers w s eb et stands well x judged g
 
-  pub fresh-ill : well ≡ false → (r : FreshDone) → r ≡ done 6 s 0 → (lent : List ℕ) → FreshMet r (Got m 0) s steps lent lent
-  fresh-ill g r e lent = rw (e, formed false g) (none-made 6 s lent)
+  pub fresh-ill : well ≡ false → (r : FreshDone) → r ≡ done 6 0 s 0 → (lent : List ℕ) → FreshMet r (Got m 0) s steps lent lent
+  fresh-ill g r e lent = rw (e, formed false g) (none-made 6 0 s lent)
 
   pub fresh-went : well ≡ true → (went : Went) (after : State) (w′ lent lent′ : List ℕ) → after ≡ stateIn w′ (went .clock) → WentMet went m w w′ (s .clock) steps lent lent′
-      → FreshMet (done (went .number) after (went .made)) (Got m 0) s steps lent lent′
+      → FreshMet (done (went .number) 0 after (went .made)) (Got m 0) s steps lent lent′
   fresh-went g went after w′ lent lent′ e met = rw (e, formed true g) (rw (state-is w s stands) at met)

@@ -18,19 +18,21 @@ use layout::Walk;
 use meaning::State;
 use meaning::numbers::ILL_FORMED;
 
-// What a run with nothing kept answers: the number, the state, and the steps made.
+// What a run with nothing kept answers: the number, the position of the refused field if there is one, else 0, the state, and the steps made.
 pub struct FreshDone {
     pub number: u8,
+    pub position: usize,
     pub state: State,
     pub made: u16,
 }
 
-// A refusal: the number, the state as it was handed in, and no step made.
-fn no_run(number: u8, state: State) -> FreshDone
-    ensures { λ r. ⌜ r ≡ record { number = number; state = state; made = 0 } ⌝ }
+// A refusal: the number and the position, the state as it was handed in, and no step made.
+fn no_run(number: u8, position: usize, state: State) -> FreshDone
+    ensures { λ r. ⌜ r ≡ record { number = number; position = position; state = state; made = 0 } ⌝ }
 {
     FreshDone {
         number: number,
+        position: position,
         state: state,
         made: 0,
     }
@@ -45,13 +47,14 @@ fn run_for(plan: Plan, tape: &mut [u16], state: State, asked: u16, events: &mut 
     layout_state::lay_state(state, &mut now);
     let end = plan.declared as usize + 1;
     if !layout_state::well_formed(&now, &tape[..end], plan.buffers as usize) {
-        return no_run(ILL_FORMED, state);
+        return no_run(ILL_FORMED, 0, state);
     }
     step_chains::lay_chains(plan, tape);
     let went = fresh_run::advance(&mut now, state.clock, plan, tape, asked, events);
     let after = layout_state::read_state(&now, went.clock);
     FreshDone {
         number: went.number,
+        position: 0,
         state: after,
         made: went.made,
     }
@@ -70,8 +73,8 @@ fn run_on(
     ensures { λ r. ⌜ FreshMet r (decode (now (image .entry))) state steps (now (events .entry)) (now (events .exit)) ⌝ }
 {
     let walk = read_image::lay_out(image, begun, tape);
-    if let Walk::Bad(number, _) = walk {
-        return no_run(number, state);
+    if let Walk::Bad(number, at) = walk {
+        return no_run(number, at, state);
     }
     let plan = begun.plan;
     run_for(plan, tape, state, steps, events)
@@ -92,7 +95,7 @@ pub fn trace_fresh(image: &[u8], state: State, steps: u16, events: &mut [u32]) -
     run_on(image, begun, state, steps, events, &mut tape)
 }
 
-// Runs at most `steps` steps from a state, with every rule matched afresh at each step: the number, the state and the steps made.
+// Runs at most `steps` steps from a state, with every rule matched afresh at each step: the number, the position of a refused field, the state and the steps made.
 pub fn run_fresh(image: &[u8], state: State, steps: u16) -> FreshDone
     ensures { λ r. ⌜ freshBack r ≡ freshOf (now (image .entry)) state steps ⌝ }
 {

@@ -20,7 +20,7 @@ use Rattle.fresh_run.specs.Went.{WentMet}
 
 -- what a run gives: number, state and count
 abbrev answered : ℕ → State → ℕ → FreshRan
-answered number s made = record { number = number; state = s; made = made }
+answered number s made = record { number = number; position = 0; state = s; made = made }
 
 -- after `made` of n steps: what is left to run from here gives what the whole run gives
 abbrev pub SoFar : Model → ℕ → List ℕ → ℕ → List ℕ → ℕ → List ℕ → ℕ → List ℕ → Type 0

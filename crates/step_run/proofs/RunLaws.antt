@@ -22,7 +22,7 @@ use Rattle.step_run.specs.Went.{WentMet}
 
 -- what a run gives: number, state, table and count
 abbrev answered : ℕ → Going → ℕ → Ran
-answered number g made = record { number = number; state = g .state; table = g .table; made = made }
+answered number g made = record { number = number; position = 0; state = g .state; table = g .table; made = made }
 
 -- a step that is made, as it was told
 abbrev made′ : Told → List ℕ → ℕ → Step

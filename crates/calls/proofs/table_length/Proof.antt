@@ -9,11 +9,14 @@ use Rattle.calls.proofs.table_length.Tie as tie
 
 -- ---- the places of the code, each named once
 
+abbrev start : tie.After-begin → tie.Start
+start c = c .before .before
+
 abbrev begun : tie.After-check → tie.After-begin
 begun c = c .before .before
 
-abbrev start : tie.After-begin → tie.Start
-start c = c .before .before
+abbrev checked : tie.After-enum-told → tie.After-check
+checked c = c .before .before
 
 -- ---- what is asked
 
@@ -23,27 +26,28 @@ begin-requires c κs = search needs
 check-requires : tie.Need-check-requires
 check-requires c κs = search needs
 
-enum-told : tie.Need-enum-told
-enum-told c = search needs
-
-mul-result : tie.Need-mul-result
-mul-result c = omega (arith, begun (c .before .before .before) .begin .ensures .few-rules)
-
-enum-told-2 : tie.Need-enum-told-2
-enum-told-2 c = search needs
+enum-known-walk : tie.Need-enum-known-walk
+enum-known-walk c = search needs
 
 returns : tie.Need-returns
 returns c =
     let k = c .before .before .before in
-    let b = begun k in
-    length-next (k .check .result) (b .begin .result .plan) (start b .args .image .now) _ (k .check .ensures) (sym (answer-next _ tt _ (c .before .enum-told .given .1)) ∙ k .check .ensures .reads)
+    length-bad (start (begun k) .args .image .now) _ _ (sym (answer-bad _ tt _ _ (c .before .walk .given .1)) ∙ k .check .ensures .reads)
+
+enum-told : tie.Need-enum-told
+enum-told c = search needs
+
+mul-words : tie.Need-mul-words
+mul-words c = omega (arith, begun (checked (c .before)) .begin .ensures .few-rules)
 
 returns-2 : tie.Need-returns-2
 returns-2 c =
-    let k = c .before .before in
-    length-bad (start (begun k) .args .image .now) _ _ (sym (answer-bad _ tt _ _ (c .enum-told2 .given .1)) ∙ k .check .ensures .reads)
+    let told = c .before in
+    let k = checked told in
+    let b = begun k in
+    length-next (k .check .result) (b .begin .result .plan) (start b .args .image .now) _ (k .check .ensures) (sym (answer-next _ tt _ (told .enum-told .given .1)) ∙ k .check .ensures .reads)
 
 pub table-length-spec : {M : Type 1} → statement M
 table-length-spec =
     tie.close
-    (tie.spec begin-requires check-requires enum-told mul-result enum-told-2 returns returns-2)
+    (tie.spec begin-requires check-requires enum-known-walk returns enum-told mul-words returns-2)
