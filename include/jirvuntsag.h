@@ -4,10 +4,17 @@
  * A call needs less than 131,072 bytes of stack. Calls in several threads need no lock, as long as each has its own state and table.
  * Every pointer must point to as much as its length says, and what a call writes must not overlap what else it is handed.
  *
- * Numbers: 0 all that was asked is done; 1 image over 65,536 bytes; 2 a field is not wholly there; 3 a field breaks its rule;
- * 4 a pad bit is 1, or a byte follows; 5 the table's length is not 9 x rules; 6 the state is not well formed;
- * 7 the chosen entry is not the fresh one; 8 the clock would pass 4,294,967,295; 9 halted before the steps asked were made;
- * 10 the mark is 2 to the power of the buffer count, or more.
+ * Numbers: 0 all that was asked is done; 1 image over 65,536 bytes; 2 a field is not wholly there;
+ * 3 a version, count, type or action kind breaks its rule; 4 a pad bit is 1, or a byte follows; 5 the table's length is not 9 x rules;
+ * 6 the state is not well formed; 7 the chosen entry is not the fresh one; 8 the clock would pass 4,294,967,295;
+ * 9 halted before the steps asked were made; 10 the mark is 2 to the power of the buffer count, or more;
+ * 11 a mask has a bit past the type's slots; 12 a variable is not below the rule's count, or stands in no test;
+ * 13 a buffer does not exist, does not rise, or is modified untested.
+ *
+ * With 2, 3, 11, 12 and 13, which are about a field of the image, goes the position of the field's first bit: bits count from 0, and the
+ * most significant bit of byte 0 is bit 0. A term is one field, which begins with its kind bit. Of a variable that stands in no test it is the
+ * bit after the rule's last test, of a buffer that is modified untested the action's kind field. With every other number it is 0.
+ * It is the first field in reading order that is refused: those before it are in order, and what follows changes nothing.
  *
  * A state is 81 words: the clock in ms, then for each of the eight buffers its type, eight slot values and its delay in ms.
  * A type, slot or delay over 65,535 makes the state not well formed (6).
@@ -18,7 +25,7 @@
  * call: for who must be quick, as a tutor that answers between two keystrokes. jirvuntsag_run_fresh and jirvuntsag_trace_fresh take no
  * table and match every rule afresh at each step: for who wants nothing kept that could outlive its chunk, as a memory laboratory.
  * Nobody can tell them apart: for every accepted image and every state the second give the number, count, state and events that the
- * first give from the fresh table, and a refused image gets its number from all.
+ * first give from the fresh table, and a refused image gets its number and position from all.
  */
 #ifndef JIRVUNTSAG_H
 #define JIRVUNTSAG_H
@@ -32,9 +39,9 @@ extern "C" {
 
 /* The version of this header, and by a function that of the library that is linked. */
 #define JIRVUNTSAG_VERSION_MAJOR 0
-#define JIRVUNTSAG_VERSION_MINOR 4
+#define JIRVUNTSAG_VERSION_MINOR 5
 #define JIRVUNTSAG_VERSION_PATCH 0
-#define JIRVUNTSAG_VERSION "0.4.0"
+#define JIRVUNTSAG_VERSION "0.5.0"
 const char *jirvuntsag_version(void);
 
 #define JIRVUNTSAG_STATE_WORDS 81
@@ -44,9 +51,11 @@ const char *jirvuntsag_version(void);
 #define JIRVUNTSAG_SLOT(buffer, slot) (2 + 10 * (buffer) + (slot))
 #define JIRVUNTSAG_DELAY(buffer) (10 + 10 * (buffer))
 
-/* The number (0 to 10) in an answer, and the steps made or the rules counted. */
-#define JIRVUNTSAG_NUMBER(answer) ((answer) & 0xffffu)
-#define JIRVUNTSAG_COUNT(answer) ((answer) >> 16)
+/* Every call answers 64 bits: the number (0 to 13) in the low 16, in the next 16 the count, which is the steps made, the rules counted or the
+ * words needed, and in the upper 32 the position, at most 524,288. Each of these is a uint32_t. */
+#define JIRVUNTSAG_NUMBER(answer) ((uint32_t)((uint64_t)(answer) & 0xffffu))
+#define JIRVUNTSAG_COUNT(answer) ((uint32_t)((uint64_t)(answer) >> 16 & 0xffffu))
+#define JIRVUNTSAG_POSITION(answer) ((uint32_t)((uint64_t)(answer) >> 32))
 
 /* Steps and marks have 16 bits, and C cuts a larger int without a word: 65,536 steps would be none. This gives the steps nearest to a
  * number, 0 to 65,535; a run that answers 0 has made all of them, and can be called again for the others. */
@@ -54,40 +63,41 @@ static inline uint16_t jirvuntsag_steps(int64_t number) {
     return (uint16_t)(number < 0 ? 0 : number > 65535 ? 65535 : number);
 }
 
-/* The words that the table of this image needs: 9 for each rule. 0 for an image that is refused (and for one without rules). */
-uint32_t jirvuntsag_table_len(const uint8_t *image, size_t image_len);
+/* Answers a number (0 to 4, or 11 to 13), its position, and as the count the words that the table of this image needs: 9 for each rule, at
+ * most 2,304; 0 if it is refused. An image without rules needs none either: its number is 0. */
+uint64_t jirvuntsag_table_len(const uint8_t *image, size_t image_len);
 
-/* Opens an image. Answers a number: 0 to 5; the count is 0.
+/* Opens an image. Answers a number (0 to 5, or 11 to 13) and its position; the count is 0.
  * Leaves: at 0 the opening state and the fresh table; otherwise a state of zeros, and the table as it was. */
-uint32_t jirvuntsag_open(const uint8_t *image, size_t image_len, uint16_t *table, size_t table_len, uint32_t state[81]);
+uint64_t jirvuntsag_open(const uint8_t *image, size_t image_len, uint16_t *table, size_t table_len, uint32_t state[81]);
 
-/* Runs at most `steps` steps, up to 65,535 (jirvuntsag_steps). Answers a number (0 to 9) and, times 65,536, the steps made.
- * Leaves: the state and the table after the steps made; at 1 to 6 both as they were, and no step is made. */
-uint32_t jirvuntsag_run(const uint8_t *image, size_t image_len, uint32_t state[81], uint16_t *table, size_t table_len, uint16_t steps);
+/* Runs at most `steps` steps, up to 65,535 (jirvuntsag_steps). Answers a number (0 to 9, or 11 to 13), its position, and the steps made.
+ * Leaves: the state and the table after the steps made; at 1 to 6 and 11 to 13 both as they were, and no step is made. */
+uint64_t jirvuntsag_run(const uint8_t *image, size_t image_len, uint32_t state[81], uint16_t *table, size_t table_len, uint16_t steps);
 
 /* Runs as jirvuntsag_run does, with the same answer, and notes step k (from 0) in events[3 k .. 3 k + 2], if these are there:
  * the clock after the step; 0 and the rule that fired, or 1 and the ms waited.
  * Leaves: as jirvuntsag_run; the words of events past those of the steps made as they were. */
-uint32_t jirvuntsag_trace(const uint8_t *image, size_t image_len, uint32_t state[81], uint16_t *table, size_t table_len, uint16_t steps,
+uint64_t jirvuntsag_trace(const uint8_t *image, size_t image_len, uint32_t state[81], uint16_t *table, size_t table_len, uint16_t steps,
                           uint32_t *events, size_t events_len);
 
 /* Makes the entries of the rules that test a marked buffer afresh; buffer b has weight 2 to the power b in `mark`.
- * Answers a number (0 to 6, or 10) and, times 65,536, how many rules test a marked buffer (0 if the number is not 0).
+ * Answers a number (0 to 6, or 10 to 13), its position, and how many rules test a marked buffer (0 if the number is not 0).
  * Leaves: at 0 these rules' entries fresh and the others as they were; otherwise the table as it was. The state is only read. */
-uint32_t jirvuntsag_refresh(const uint8_t *image, size_t image_len, const uint32_t state[81], uint16_t mark, uint16_t *table, size_t table_len);
+uint64_t jirvuntsag_refresh(const uint8_t *image, size_t image_len, const uint32_t state[81], uint16_t mark, uint16_t *table, size_t table_len);
 
 /* Runs at most `steps` steps, up to 65,535 (jirvuntsag_steps), without a table: at each step every rule is matched afresh, and nothing is
  * kept between two steps but the state. What jirvuntsag_open leaves may be handed in, or any other state; the table that it filled is not
  * needed, and a buffer may be changed between two calls without a refresh.
- * Answers a number and, times 65,536, the steps made: what jirvuntsag_run answers that is handed the fresh table of the state. The number
- * is 0 to 4, 6, 8 or 9; there is no table that could be of another length (5) or stale (7).
- * Leaves: the state after the steps made; at 1 to 4 and 6 as it was, and no step is made. A table that was kept for the state before does
- * not fit the state after: refresh it with all buffers marked before jirvuntsag_run is handed it. */
-uint32_t jirvuntsag_run_fresh(const uint8_t *image, size_t image_len, uint32_t state[81], uint16_t steps);
+ * Answers a number, its position, and the steps made: what jirvuntsag_run answers that is handed the fresh table of the state. The number
+ * is 0 to 4, 6, 8, 9 or 11 to 13; there is no table that could be of another length (5) or stale (7).
+ * Leaves: the state after the steps made; at 1 to 4, 6 and 11 to 13 as it was, and no step is made. A table that was kept for the state
+ * before does not fit the state after: refresh it with all buffers marked before jirvuntsag_run is handed it. */
+uint64_t jirvuntsag_run_fresh(const uint8_t *image, size_t image_len, uint32_t state[81], uint16_t steps);
 
 /* Runs as jirvuntsag_run_fresh does, with the same answer, and notes each step in events as jirvuntsag_trace does.
  * Leaves: as jirvuntsag_run_fresh; the words of events past those of the steps made as they were. */
-uint32_t jirvuntsag_trace_fresh(const uint8_t *image, size_t image_len, uint32_t state[81], uint16_t steps, uint32_t *events, size_t events_len);
+uint64_t jirvuntsag_trace_fresh(const uint8_t *image, size_t image_len, uint32_t state[81], uint16_t steps, uint32_t *events, size_t events_len);
 
 #ifdef __cplusplus
 }

@@ -1,5 +1,5 @@
-/* The functions of jirvuntsag.h on model A, answers and all that they leave; those without a table are in fresh_calls.c.
- * Also compiled as C++. Exits with 1 at the first that differs. */
+/* The functions of jirvuntsag.h on model A, answers and all that they leave; those without a table are in fresh_calls.c, and the images
+ * that are refused in refused.c. Also compiled as C++. Exits with 1 at the first that differs. */
 #include "calls.h"
 
 #include <string.h>
@@ -14,8 +14,8 @@ static void read_image(const char *path) {
     fclose(file);
 }
 
-uint32_t answered(uint32_t number, uint32_t count) {
-    return number + 65536 * count;
+uint64_t answered(uint32_t number, uint32_t count) {
+    return number + 65536 * (uint64_t)count;
 }
 
 void large_word(uint32_t state[STATE], size_t word) {
@@ -24,21 +24,43 @@ void large_word(uint32_t state[STATE], size_t word) {
     state[word] += large[word % 5];
 }
 
-/* Opens model A, and three images that are refused. */
+/* Opens model A, and hands it a table that is too short. */
 static void check_open(void) {
-    CHECK(jirvuntsag_table_len(image, LENGTH) == WORDS);
+    CHECK(jirvuntsag_table_len(image, LENGTH) == answered(0, WORDS));
     CHECK(jirvuntsag_open(image, LENGTH, fresh, WORDS, opening) == 0);
     CHECK(opening[0] == 0 && opening[1] == 2 && opening[2] == 1 && opening[3] == 3 && opening[11] == 0);
     CHECK(fresh[0] == 1 && fresh[1] == 1 && fresh[9] == 0 && fresh[18] == 0);
     uint16_t table[WORDS] = {7, 8, 9}, before[WORDS] = {7, 8, 9};
     uint32_t state[STATE], zeros[STATE] = {0};
     memset(state, 255, sizeof state);
-    CHECK(jirvuntsag_table_len(image, LENGTH - 1) == 0);
-    CHECK(jirvuntsag_open(image, LENGTH - 1, table, WORDS, state) == 2);
-    CHECK(memcmp(state, zeros, sizeof state) == 0 && memcmp(table, before, sizeof table) == 0);
     CHECK(jirvuntsag_open(image, LENGTH, table, WORDS - 1, state) == 5);
-    CHECK(jirvuntsag_open(image, 0, table, 0, state) == 2);
-    CHECK(memcmp(table, before, sizeof table) == 0);
+    CHECK(memcmp(state, zeros, sizeof state) == 0 && memcmp(table, before, sizeof table) == 0);
+}
+
+/* An image without rules needs no words and is accepted; without its last byte it needs none and is refused. */
+static void check_without_rules(void) {
+    const uint8_t nothing[8] = {1, 16, 0, 0, 0, 0, 0, 0};
+    uint32_t state[STATE];
+    CHECK(jirvuntsag_table_len(nothing, 8) == 0);
+    CHECK(jirvuntsag_open(nothing, 8, NULL, 0, state) == 0);
+    uint64_t refused = jirvuntsag_table_len(nothing, 7);
+    CHECK(JIRVUNTSAG_NUMBER(refused) == 2 && JIRVUNTSAG_COUNT(refused) == 0 && JIRVUNTSAG_POSITION(refused) == 53);
+}
+
+/* Every call that takes a table, and the table's length: state, table and events come back as they were, from open a state of zeros. */
+static void check_refused(const uint8_t *handed, size_t length, uint64_t answer) {
+    uint16_t table[WORDS] = {7, 8, 9}, before[WORDS] = {7, 8, 9};
+    uint32_t state[STATE], ones[STATE], zeros[STATE] = {0}, events[3] = {1, 2, 3};
+    memset(ones, 255, sizeof ones);
+    memset(state, 255, sizeof state);
+    CHECK(jirvuntsag_table_len(handed, length) == answer);
+    CHECK(jirvuntsag_run(handed, length, state, table, WORDS, 5) == answer);
+    CHECK(jirvuntsag_run(handed, length, state, table, WORDS - 1, 0) == answer);
+    CHECK(jirvuntsag_trace(handed, length, state, table, WORDS, 5, events, 3) == answer);
+    CHECK(jirvuntsag_refresh(handed, length, state, 65535, table, WORDS) == answer);
+    CHECK(memcmp(state, ones, sizeof state) == 0 && events[0] == 1 && events[1] == 2 && events[2] == 3);
+    CHECK(jirvuntsag_open(handed, length, table, WORDS - 1, state) == answer);
+    CHECK(memcmp(state, zeros, sizeof state) == 0 && memcmp(table, before, sizeof table) == 0);
 }
 
 /* Runs one step, then all. */
@@ -52,6 +74,12 @@ static void check_run(void) {
     CHECK(jirvuntsag_run(image, LENGTH, state, table, WORDS, 0) == 0);
     CHECK(jirvuntsag_run(image, LENGTH, state, table, WORDS, 65535) == answered(9, 6));
     CHECK(state[0] == 550);
+    /* The chosen entry with another value for its variable than the goal has. */
+    memcpy(table, fresh, sizeof table);
+    memcpy(state, opening, sizeof state);
+    table[1] = 2;
+    CHECK(jirvuntsag_run(image, LENGTH, state, table, WORDS, 5) == 7);
+    CHECK(jirvuntsag_run(image, LENGTH, state, table, WORDS - 1, 5) == 5);
 }
 
 /* A word that is too large for its field is 6 in each call, and every word comes back as it was. */
@@ -90,7 +118,7 @@ void check_noted(Trace trace) {
     }
 }
 
-static uint32_t trace_kept(uint32_t *state, uint16_t steps, uint32_t *events, size_t room) {
+static uint64_t trace_kept(uint32_t *state, uint16_t steps, uint32_t *events, size_t room) {
     uint16_t table[WORDS];
     memcpy(table, fresh, sizeof table);
     return jirvuntsag_trace(image, LENGTH, state, table, WORDS, steps, events, room);
@@ -111,8 +139,10 @@ static void check_refresh(void) {
     CHECK(memcmp(table, fresh, sizeof table) == 0);
 }
 
-/* What the header has besides the calls: where words stand in a state, steps from an int, the version. */
+/* What the header has besides the calls: the parts of an answer, where words stand in a state, steps from an int, the version. */
 static void check_header(void) {
+    const uint64_t answer = 0xfedcba9887654321u;
+    CHECK(JIRVUNTSAG_NUMBER(answer) == 0x4321 && JIRVUNTSAG_COUNT(answer) == 0x8765 && JIRVUNTSAG_POSITION(answer) == 0xfedcba98u);
     CHECK(opening[JIRVUNTSAG_TYPE(0)] == 2 && opening[JIRVUNTSAG_SLOT(0, 0)] == 1 && opening[JIRVUNTSAG_SLOT(0, 1)] == 3);
     uint16_t table[WORDS];
     uint32_t state[STATE];
@@ -137,6 +167,8 @@ int main(int count, char **arguments) {
     }
     read_image(arguments[1]);
     check_open();
+    check_without_rules();
+    check_each_refused(check_refused);
     check_run();
     check_large_words();
     check_noted(trace_kept);

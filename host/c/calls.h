@@ -24,14 +24,20 @@ extern uint8_t image[LENGTH];
 extern uint16_t fresh[WORDS];
 extern uint32_t opening[STATE];
 
-/* An answer of this number and count. */
-uint32_t answered(uint32_t number, uint32_t count);
+/* An answer of this number and count, with no position. */
+uint64_t answered(uint32_t number, uint32_t count);
+
+/* A check of what the calls answer to an image that is refused: a number and a position, and no count. */
+typedef void (*Refusal)(const uint8_t *handed, size_t length, uint64_t answer);
+
+/* Makes a check on every image of refused.c: each number and each rule of a field, from the smallest change of model A that has it. */
+void check_each_refused(Refusal check);
 
 /* The opening with a word that is too large for its field: each word after the clock has one of several numbers over 65,535 added. */
 void large_word(uint32_t state[STATE], size_t word);
 
 /* A trace of model A from its opening, by one of the two engines. */
-typedef uint32_t (*Trace)(uint32_t *state, uint16_t steps, uint32_t *events, size_t room);
+typedef uint64_t (*Trace)(uint32_t *state, uint16_t steps, uint32_t *events, size_t room);
 
 /* Events are noted as far as there is room, and no word past those of the steps made is written. */
 void check_noted(Trace trace);

@@ -75,14 +75,14 @@ static void add(const void *from, size_t size) {
 }
 
 /* Takes an answer and the state that it left into the sum. */
-static void note(uint32_t answer, const uint32_t *state) {
+static void note(uint64_t answer, const uint32_t *state) {
     calls++;
     add(&answer, sizeof answer);
     add(state, STATE_WORDS * sizeof state[0]);
 }
 
 /* The same, and the table. */
-static void note_kept(uint32_t answer, const uint32_t *state, const uint16_t *table, const Case *one) {
+static void note_kept(uint64_t answer, const uint32_t *state, const uint16_t *table, const Case *one) {
     note(answer, state);
     add(table, sizeof one->table[0] * one->table_length);
 }
@@ -128,7 +128,7 @@ static void make_fresh_calls(const Case *one, const uint8_t *image) {
 static void make_calls(const Case *one) {
     size_t lent = one->image_length - (is_short && one->image_length > 0);
     const uint8_t *image = lend_to_read(&image_place, one->image, lent);
-    uint32_t answer = jirvuntsag_table_len(image, one->image_length);
+    uint64_t answer = jirvuntsag_table_len(image, one->image_length);
     add(&answer, sizeof answer);
     calls++;
     make_kept_calls(one, image);

@@ -3,14 +3,12 @@
 
 #include <string.h>
 
-enum { TOO_LONG = 65537 };
-
-/* Both calls answer a number with count 0, and leave the state as it was handed in and the events untouched. */
-static void check_left(const uint8_t *handed, size_t length, const uint32_t *handed_state, uint16_t steps, uint32_t number) {
+/* Both calls give an answer, and leave the state as it was handed in and the events untouched. */
+static void check_left(const uint8_t *handed, size_t length, const uint32_t *handed_state, uint16_t steps, uint64_t answer) {
     uint32_t state[STATE], events[3] = {1, 2, 3};
     memcpy(state, handed_state, sizeof state);
-    CHECK(jirvuntsag_run_fresh(handed, length, state, steps) == number);
-    CHECK(jirvuntsag_trace_fresh(handed, length, state, steps, events, 3) == number);
+    CHECK(jirvuntsag_run_fresh(handed, length, state, steps) == answer);
+    CHECK(jirvuntsag_trace_fresh(handed, length, state, steps, events, 3) == answer);
     CHECK(memcmp(state, handed_state, sizeof state) == 0);
     CHECK(events[0] == 1 && events[1] == 2 && events[2] == 3);
 }
@@ -40,27 +38,12 @@ static void check_changed(void) {
 }
 
 /* An image that is refused is so before the state is looked at, and even if no step is asked. */
-static void check_refused_image(const uint8_t *handed, size_t length, uint32_t number) {
+static void check_refused_image(const uint8_t *handed, size_t length, uint64_t answer) {
     uint32_t state[STATE];
     memset(state, 255, sizeof state);
-    check_left(handed, length, state, 5, number);
-    check_left(handed, length, state, 0, number);
-    check_left(handed, length, opening, 5, number);
-}
-
-/* Numbers 1 to 4, each from the smallest change of model A that has it. */
-static void check_refused_images(void) {
-    static uint8_t changed[TOO_LONG];
-    check_refused_image(changed, TOO_LONG, 1);
-    check_refused_image(changed, TOO_LONG - 1, 3);
-    check_refused_image(image, 0, 2);
-    check_refused_image(image, LENGTH - 1, 2);
-    memcpy(changed, image, LENGTH);
-    check_refused_image(changed, LENGTH + 1, 4);
-    changed[LENGTH - 1] ^= 1;
-    check_refused_image(changed, LENGTH, 4);
-    changed[0] = 2;
-    check_refused_image(changed, LENGTH, 3);
+    check_left(handed, length, state, 5, answer);
+    check_left(handed, length, state, 0, answer);
+    check_left(handed, length, opening, 5, answer);
 }
 
 /* Number 6: a word that its field cannot hold, whichever it is, and words that the image does not allow. */
@@ -92,14 +75,14 @@ static void check_clock(void) {
     CHECK(jirvuntsag_run_fresh(image, LENGTH, state, 5) == answered(8, 1) && state[0] == UINT32_MAX);
 }
 
-static uint32_t trace_afresh(uint32_t *state, uint16_t steps, uint32_t *events, size_t room) {
+static uint64_t trace_afresh(uint32_t *state, uint16_t steps, uint32_t *events, size_t room) {
     return jirvuntsag_trace_fresh(image, LENGTH, state, steps, events, room);
 }
 
 void check_fresh_calls(void) {
     check_run();
     check_changed();
-    check_refused_images();
+    check_each_refused(check_refused_image);
     check_refused_states();
     check_clock();
     check_noted(trace_afresh);

@@ -1,5 +1,6 @@
 /* Runs the model image at a path by jirvuntsag_trace and prints a line for each step: lines PATH [fresh].
- * With the word fresh it runs by jirvuntsag_trace_fresh, which takes no table; the lines are the same. */
+ * With the word fresh it runs by jirvuntsag_trace_fresh, which takes no table; the lines are the same.
+ * Of an image that is refused the last line alone is printed, and to standard error its number and the position that goes with it. */
 #include <stdbool.h>
 #include <stdio.h>
 #include <stdlib.h>
@@ -32,12 +33,15 @@ int main(int count, char **arguments) {
         return 2;
     }
     size_t length = read_image(arguments[1]);
-    size_t words = jirvuntsag_table_len(image, length);
+    size_t words = JIRVUNTSAG_COUNT(jirvuntsag_table_len(image, length));
     uint32_t state[JIRVUNTSAG_STATE_WORDS];
-    uint32_t answer = jirvuntsag_open(image, length, table, words, state);
-    if (JIRVUNTSAG_NUMBER(answer) == 0 && is_fresh)
+    uint64_t answer = jirvuntsag_open(image, length, table, words, state);
+    if (JIRVUNTSAG_NUMBER(answer) != 0)
+        fprintf(stderr, "%s: refused with %lu, position %lu\n", arguments[1], (unsigned long)JIRVUNTSAG_NUMBER(answer),
+                (unsigned long)JIRVUNTSAG_POSITION(answer));
+    else if (is_fresh)
         answer = jirvuntsag_trace_fresh(image, length, state, STEPS, events, 3 * STEPS);
-    else if (JIRVUNTSAG_NUMBER(answer) == 0)
+    else
         answer = jirvuntsag_trace(image, length, state, table, words, STEPS, events, 3 * STEPS);
     for (uint32_t step = 0; step < JIRVUNTSAG_COUNT(answer); step++) {
         const uint32_t *event = events + 3 * step;

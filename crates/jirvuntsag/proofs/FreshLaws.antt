@@ -1,5 +1,5 @@
 -- Laws of the calls without a table on words: a word too large stands for a state that is well formed in no model, and the state's words stay.
-use Prim.Native.Nat.{ℕ}
+use Prim.Native.Nat.{ℕ, _≤_}
 use mathlib.Core.Path.{_≡_, refl, ap, _∙_}
 use mathlib.Core.Bool.{Bool, true, false}
 use mathlib.Core.List.{List, []}
@@ -9,29 +9,33 @@ use Rattle.meaning.specs.Model.{Model}
 use Rattle.meaning.specs.Read.{Read, Refused, Got}
 use Rattle.meaning.specs.Image.{decode}
 use Rattle.meaning.specs.Run.{Run, ends}
+use Rattle.meaning.specs.Calls.{placeOf}
 use Rattle.meaning.specs.Fresh.{FreshRan, freshBy, freshRanBy, freshTraceOf, freshOf}
 use Rattle.step_note.specs.Events.{inscribed}
+use Rattle.laws.specs.CallsLaws.{fresh-place}
 use Rattle.jirvuntsag.specs.Words.{stateOf, wordsOf, fits, unfitState, givenBy}
-use Rattle.jirvuntsag.specs.Told.{answer, unfitBy}
+use Rattle.jirvuntsag.specs.Told.{answer, unfitBy, unfitAnswer}
 use Rattle.jirvuntsag.specs.Fresh.{freshTold, toldFresh, freshIn, freshEventsIn}
-use Rattle.jirvuntsag.proofs.ToldLaws.{unfit, answer-none}
+use Rattle.jirvuntsag.proofs.ToldLaws.{unfit}
 
 -- what the call answers on the unfit state
 unfit-fresh : (k : ℕ) (r : Read Model) → freshBy unfitState k r ≡ ends (unfitBy r) unfitState
 unfit-fresh k (Refused n at) = refl
 unfit-fresh k (Got m at) = rw (unfit m)
 
+-- the position is small enough for its place in the answer
+pub fresh-near : (image : List ℕ) (s : State) (k : ℕ) (r : FreshRan) → r ≡ freshOf image s k → r .position ≤ 524288
+fresh-near image s k r e = rw e (fresh-place image s k)
+
 module _ (image w : List ℕ) (k : ℕ) where
   fresh-by : (b : Bool) (r : FreshRan) → r ≡ freshOf image (if b then stateOf w else unfitState) k
-      → freshTold (answer (r .number) (r .made)) (if b then wordsOf (r .state) else w) ≡ (if b then toldFresh (freshOf image (stateOf w) k) else freshTold (unfitBy (decode image)) w)
+      → freshTold (answer (r .number) (r .made) (r .position)) (if b then wordsOf (r .state) else w) ≡ (if b then toldFresh (freshOf image (stateOf w) k) else freshTold (unfitAnswer (decode image)) w)
   unfolding freshOf freshTraceOf
   fresh-by true r e = ap toldFresh e
-  fresh-by false r e =
-      ap (λ (r : FreshRan). freshTold (answer (r .number) (r .made)) w) (e ∙ ap freshRanBy (unfit-fresh k (decode image)))
-      ∙ ap (λ (n : ℕ). freshTold n w) (answer-none (unfitBy (decode image)))
+  fresh-by false r e = ap (λ (r : FreshRan). freshTold (answer (r .number) (r .made) (r .position)) w) (e ∙ ap (freshRanBy (placeOf (decode image))) (unfit-fresh k (decode image)))
 
   pub fresh-told : (b : Bool) (s : State) (r : FreshRan) (a : ℕ) (w′ : List ℕ) → b ≡ fits w → s ≡ givenBy w → r ≡ freshOf image s k
-      → w′ ≡ (if b then wordsOf (r .state) else w) → a ≡ answer (r .number) (r .made) → freshTold a w′ ≡ freshIn image w k
+      → w′ ≡ (if b then wordsOf (r .state) else w) → a ≡ answer (r .number) (r .made) (r .position) → freshTold a w′ ≡ freshIn image w k
   unfolding freshIn
   fresh-told b s r a w′ f g e l n = rw (n, l, f) (fresh-by (fits w) r (e ∙ ap (λ (s : State). freshOf image s k) g))
 

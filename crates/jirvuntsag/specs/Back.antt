@@ -13,7 +13,7 @@ use Rattle.meaning.specs.Model.{Model}
 use Rattle.meaning.specs.Read.{Got}
 use Rattle.meaning.specs.Calls.{accepted}
 use Rattle.jirvuntsag.specs.Words.{fits}
-use Rattle.jirvuntsag.specs.Told.{told, runIn, refreshIn, eventsIn}
+use Rattle.jirvuntsag.specs.Told.{answer, told, runIn, refreshIn, eventsIn}
 
 and-none : (b : Bool) → (b && false) ≡ false
 and-none true = refl
@@ -29,9 +29,9 @@ pub unfit : (w : List ℕ) (k : ℕ) → 65535 < getD (drop 1 w) k 0 → fits w 
 unfolding fits
 unfit w k h = one-large (drop 1 w) k h
 
--- Where image and table's length are accepted, a word over 65,535 after the clock makes a run and a refresh answer 6 and count 0,
+-- Where image and table's length are accepted, a word over 65,535 after the clock makes a run and a refresh answer 6, count 0 and position 0,
 -- with the state's words and the table as they were handed in, and no event.
 pub words-back : (image w table : List ℕ) (m : Model) (at : ℕ) → accepted image table ≡ Got m at → (k : ℕ) → 65535 < getD (drop 1 w) k 0 → (steps mark : ℕ)
-    → (runIn image w table steps ≡ told ill-formed w table) × (eventsIn image w table steps ≡ []) × (refreshIn image w mark table ≡ told ill-formed w table)
+    → (runIn image w table steps ≡ told (answer ill-formed 0 0) w table) × (eventsIn image w table steps ≡ []) × (refreshIn image w mark table ≡ told (answer ill-formed 0 0) w table)
 unfolding runIn eventsIn refreshIn
 words-back image w table m at e k h steps mark = (rw (unfit w k h, e), rw (unfit w k h), rw (unfit w k h, e))

@@ -12,7 +12,7 @@ use Rattle.meaning.specs.Run.{Timed}
 use Rattle.meaning.specs.Fresh.{FreshRan, freshTraceOf, freshOf}
 use Rattle.step_note.specs.Events.{inscribed}
 use Rattle.jirvuntsag.specs.Words.{stateOf, wordsOf, fits}
-use Rattle.jirvuntsag.specs.Told.{answer, unfitBy}
+use Rattle.jirvuntsag.specs.Told.{answer, unfitAnswer}
 use Rattle.jirvuntsag.specs.Back.{unfit}
 
 -- the answer and the state's words, as a call leaves them
@@ -24,10 +24,10 @@ abbrev pub freshTold : ℕ → List ℕ → FreshTold
 freshTold a w = record { answered = a; words = w }
 
 abbrev pub toldFresh : FreshRan → FreshTold
-toldFresh r = freshTold (answer (r .number) (r .made)) (wordsOf (r .state))
+toldFresh r = freshTold (answer (r .number) (r .made) (r .position)) (wordsOf (r .state))
 
 unfoldable pub freshIn : List ℕ → List ℕ → ℕ → FreshTold
-freshIn image w steps = if fits w then toldFresh (freshOf image (stateOf w) steps) else freshTold (unfitBy (decode image)) w
+freshIn image w steps = if fits w then toldFresh (freshOf image (stateOf w) steps) else freshTold (unfitAnswer (decode image)) w
 
 -- the events of a run, none if it is refused
 unfoldable pub freshEventsIn : List ℕ → List ℕ → ℕ → List Timed
@@ -44,9 +44,9 @@ pub fresh-events-once : (image state : List ℕ) (steps : ℕ) (events noted not
     → noted ≡ inscribed events 0 (freshEventsIn image state steps) → noted′ ≡ inscribed events 0 (freshEventsIn image state steps) → noted ≡ noted′
 fresh-events-once image state steps events noted noted′ p q = p ∙ sym q
 
--- ---- where the image is accepted, a word over 65,535 after the clock makes the call answer 6 and count 0, with the words as they were handed in, and no event
+-- ---- where the image is accepted, a word over 65,535 after the clock makes the call answer 6, count 0 and position 0, with the words as they were handed in, and no event
 
 pub fresh-words-back : (image w : List ℕ) (m : Model) (at : ℕ) → decode image ≡ Got m at → (k : ℕ) → 65535 < getD (drop 1 w) k 0 → (steps : ℕ)
-    → (freshIn image w steps ≡ freshTold ill-formed w) × (freshEventsIn image w steps ≡ [])
+    → (freshIn image w steps ≡ freshTold (answer ill-formed 0 0) w) × (freshEventsIn image w steps ≡ [])
 unfolding freshIn freshEventsIn
 fresh-words-back image w m at e k h steps = (rw (unfit w k h, e), rw (unfit w k h))

@@ -2,9 +2,8 @@
 use mathlib.Core.Path.{_≡_, sym, ap, _∙_}
 use mathlib.Core.List.{List}
 use Prim.Native.Nat.{ℕ}
-use Rattle.meaning.specs.Calls.{tableLength}
 use Rattle.step_note.specs.Events.{inscribed}
-use Rattle.jirvuntsag.specs.Told.{Told, told, openIn, runIn, refreshIn, eventsIn}
+use Rattle.jirvuntsag.specs.Told.{Told, told, lengthIn, openIn, runIn, refreshIn, eventsIn}
 
 -- two results that tell the same: their answers, words and tables are the same
 told-once : (x : Told) (a a′ : ℕ) (w w′ t t′ : List ℕ) → told a w t ≡ x → told a′ w′ t′ ≡ x → (a ≡ a′) × (w ≡ w′) × (t ≡ t′)
@@ -13,7 +12,7 @@ told-once x a a′ w w′ t t′ p q =
     (ap (λ (o : Told). o .answered) same, ap (λ (o : Told). o .words) same, ap (λ (o : Told). o .table) same)
 
 module _ (image : List ℕ) where
-  pub table-len-once : (a a′ : ℕ) → a ≡ tableLength image → a′ ≡ tableLength image → a ≡ a′
+  pub table-len-once : (a a′ : ℕ) → a ≡ lengthIn image → a′ ≡ lengthIn image → a ≡ a′
   table-len-once a a′ p q = p ∙ sym q
 
   pub open-once : (table : List ℕ) (a a′ : ℕ) (w w′ t t′ : List ℕ)

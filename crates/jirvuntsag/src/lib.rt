@@ -3,12 +3,12 @@
 ghost use mathlib.Core.Path.{_≡_};
 ghost use mathlib.Core.Bool.{true};
 ghost use mathlib.Core.List.{_∷_};
+ghost use Prim.Native.Nat.{_≤_};
 ghost use lib.ListN.{length, getD, drop};
 ghost use Rattle.meaning.specs.Base.{if_then_else_};
-ghost use Rattle.meaning.specs.Calls.{tableLength};
 ghost use Rattle.step_note.specs.Events.{inscribed};
 ghost use Rattle.jirvuntsag.specs.Words.{wordsOf, fits, unfitState, givenBy};
-ghost use Rattle.jirvuntsag.specs.Told.{told, openIn, runIn, refreshIn, eventsIn};
+ghost use Rattle.jirvuntsag.specs.Told.{told, lengthIn, openIn, runIn, refreshIn, eventsIn};
 ghost use Rattle.jirvuntsag.specs.Told.{answer as Told·answer};
 ghost use Rattle.jirvuntsag.specs.Fresh.{freshTold, freshIn, freshEventsIn};
 use layout::STATE_WORDS;
@@ -21,11 +21,12 @@ struct Handed {
     state: State,
 }
 
-// The number, and 65,536 times a count.
-fn answer(number: u8, count: u16) -> u32
-    ensures { λ r. ⌜ r ≡ Told·answer number count ⌝ }
+// The number, 65,536 times a count, and 4,294,967,296 times a position: each can be read back.
+fn answer(number: u8, count: u16, position: usize) -> u64
+    requires { ⌜ position ≤ 524288 ⌝ }
+    ensures { λ r. ⌜ r ≡ Told·answer number count position ⌝ }
 {
-    number as u32 + 65536 * (count as u32)
+    number as u64 + 65536 * (count as u64) + 4294967296 * (position as u64)
 }
 
 // A state that is well formed in no model.
@@ -113,23 +114,24 @@ fn lay_back(fitting: bool, state: State, words: &mut [u32])
     }
 }
 
-// The words that the table of an image needs: nine for each rule, 0 for an image that is refused.
+// The words that the table of an image needs: nine for each rule, 0 for an image that is refused, which the number tells from one without rules.
 #[no_mangle]
-pub extern "C" fn jirvuntsag_table_len(image: &[u8]) -> u32
-    ensures { λ r. ⌜ r ≡ tableLength (now (image .entry)) ⌝ }
+pub extern "C" fn jirvuntsag_table_len(image: &[u8]) -> u64
+    ensures { λ r. ⌜ r ≡ lengthIn (now (image .entry)) ⌝ }
 {
-    calls::table_length(image) as u32
+    let done = calls::table_length(image);
+    answer(done.number, done.words, done.position)
 }
 
 // Opens an image: writes the opening state (all zero if it is refused), and the fresh table if it is accepted.
 #[no_mangle]
-pub extern "C" fn jirvuntsag_open(image: &[u8], table: &mut [u16], state: &mut [u32; 81]) -> u32
+pub extern "C" fn jirvuntsag_open(image: &[u8], table: &mut [u16], state: &mut [u32; 81]) -> u64
     ensures { λ r. ⌜ told r (now (state .exit)) (now (table .exit)) ≡ openIn (now (image .entry)) (now (table .entry)) ⌝ }
 {
     let done = calls::open(image, table);
     let opened = done.state;
     lay(opened, state);
-    answer(done.number, 0)
+    answer(done.number, 0, done.position)
 }
 
 // Runs at most `steps` steps: writes the state and the table after them.
@@ -139,7 +141,7 @@ pub extern "C" fn jirvuntsag_run(
     state: &mut [u32; 81],
     table: &mut [u16],
     steps: u16,
-) -> u32
+) -> u64
     ensures { λ r. ⌜ told r (now (state .exit)) (now (table .exit)) ≡ runIn (now (image .entry)) (now (state .entry)) (now (table .entry)) steps ⌝ }
 {
     let before = given(state);
@@ -147,7 +149,7 @@ pub extern "C" fn jirvuntsag_run(
     let done = calls::run(image, from, table, steps);
     let after = done.state;
     lay_back(before.fitting, after, state);
-    answer(done.number, done.made)
+    answer(done.number, done.made, done.position)
 }
 
 // Runs as `jirvuntsag_run` does, and notes each step in three lent words, as long as there is room: the clock after it, 0 and the rule that fired or 1 and the ms waited.
@@ -158,7 +160,7 @@ pub extern "C" fn jirvuntsag_trace(
     table: &mut [u16],
     steps: u16,
     events: &mut [u32],
-) -> u32
+) -> u64
     ensures { λ r. ⌜ (told r (now (state .exit)) (now (table .exit)) ≡ runIn (now (image .entry)) (now (state .entry)) (now (table .entry)) steps)
         × (now (events .exit) ≡ inscribed (now (events .entry)) 0 (eventsIn (now (image .entry)) (now (state .entry)) (now (table .entry)) steps)) ⌝ }
 {
@@ -167,7 +169,7 @@ pub extern "C" fn jirvuntsag_trace(
     let done = calls::trace(image, from, table, steps, events);
     let after = done.state;
     lay_back(before.fitting, after, state);
-    answer(done.number, done.made)
+    answer(done.number, done.made, done.position)
 }
 
 // Makes the entries of the rules that test a marked buffer afresh.
@@ -177,18 +179,18 @@ pub extern "C" fn jirvuntsag_refresh(
     state: &[u32; 81],
     mark: u16,
     table: &mut [u16],
-) -> u32
+) -> u64
     ensures { λ r. ⌜ told r (now (state .entry)) (now (table .exit)) ≡ refreshIn (now (image .entry)) (now (state .entry)) mark (now (table .entry)) ⌝ }
 {
     let before = given(state);
     let from = before.state;
     let done = calls::refresh(image, from, mark, table);
-    answer(done.number, done.count)
+    answer(done.number, done.count, done.position)
 }
 
 // Runs at most `steps` steps with nothing kept, every rule matched afresh at each: writes the state after them.
 #[no_mangle]
-pub extern "C" fn jirvuntsag_run_fresh(image: &[u8], state: &mut [u32; 81], steps: u16) -> u32
+pub extern "C" fn jirvuntsag_run_fresh(image: &[u8], state: &mut [u32; 81], steps: u16) -> u64
     ensures { λ r. ⌜ freshTold r (now (state .exit)) ≡ freshIn (now (image .entry)) (now (state .entry)) steps ⌝ }
 {
     let before = given(state);
@@ -196,7 +198,7 @@ pub extern "C" fn jirvuntsag_run_fresh(image: &[u8], state: &mut [u32; 81], step
     let done = calls::run_fresh(image, from, steps);
     let after = done.state;
     lay_back(before.fitting, after, state);
-    answer(done.number, done.made)
+    answer(done.number, done.made, done.position)
 }
 
 // Runs as `jirvuntsag_run_fresh` does, and notes each step in three lent words, as `jirvuntsag_trace` does.
@@ -206,7 +208,7 @@ pub extern "C" fn jirvuntsag_trace_fresh(
     state: &mut [u32; 81],
     steps: u16,
     events: &mut [u32],
-) -> u32
+) -> u64
     ensures { λ r. ⌜ (freshTold r (now (state .exit)) ≡ freshIn (now (image .entry)) (now (state .entry)) steps)
         × (now (events .exit) ≡ inscribed (now (events .entry)) 0 (freshEventsIn (now (image .entry)) (now (state .entry)) steps)) ⌝ }
 {
@@ -215,5 +217,5 @@ pub extern "C" fn jirvuntsag_trace_fresh(
     let done = calls::trace_fresh(image, from, steps, events);
     let after = done.state;
     lay_back(before.fitting, after, state);
-    answer(done.number, done.made)
+    answer(done.number, done.made, done.position)
 }
