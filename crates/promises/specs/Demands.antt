@@ -1,51 +1,55 @@
--- The three demands, a statement for each, over what the calls answer; and one for the run without a table. Beside the definitions of `meaning` they use the table
--- of numbers (Sentences), the published semantics (Published), and what a refresh, a chain of calls and runs that are alike are (Words).
+-- The three demands, a statement for each, over what the calls answer; one for the run without a table, and one for where an image is bad. Beside the definitions of
+-- `meaning` they use the table of numbers (Sentences), the published semantics (Published), what a refresh, a chain of calls and runs that are alike are (Words), and
+-- what a position is (Places).
 use mathlib.Core.Path.{_≡_, refl, _∙_}
-use mathlib.Core.Logic.{_↔_}
+use mathlib.Core.Logic.{_↔_, _⊎_}
 use mathlib.Core.Bool.{true, false}
 use mathlib.Core.List.{List, []}
-use Prim.Native.Nat.{ℕ, _*_, _^_, _<_}
+use Prim.Native.Nat.{ℕ, _*_, _^_, _≤_, _<_}
 use lib.ListN.{length}
 use Rattle.meaning.specs.declared.State.{State}
 use Rattle.meaning.specs.Base.{bit}
+use Rattle.meaning.specs.Numbers.{coarse, finer, not-there, bad-variable}
 use Rattle.meaning.specs.Model.{Model}
 use Rattle.meaning.specs.State.{zeroState, bufferOf, wellFormed}
 use Rattle.meaning.specs.Read.{Refused, Got}
-use Rattle.meaning.specs.Image.{decode}
+use Rattle.meaning.specs.Image.{decodeBy, decode}
 use Rattle.meaning.specs.Match.{freshTable}
 use Rattle.meaning.specs.Refresh.{refresh, refreshCount}
-use Rattle.meaning.specs.Calls.{tableLength, openState, openOf, Ran, traceOf, runOf, Refreshed, refreshOf}
+use Rattle.meaning.specs.Calls.{neededOf, openState, openOf, Ran, traceOf, runOf, Refreshed, refreshOf}
 use Rattle.meaning.specs.Fresh.{freshTraceOf, FreshRan, freshOf}
 use Rattle.laws.specs.MatchLaws.{fresh-length}
 use Rattle.promises.specs.Words.{RefreshedTo, Machine, Reached, AsKept, answerOf}
-use Rattle.promises.specs.Sentences.{Taken, Given, AfterOpen, AfterRun, AfterRefresh, RanTo, GivenBare, AfterFresh}
+use Rattle.promises.specs.Sentences.{Beforehand, Taken, Given, AfterOpen, AfterRun, AfterRefresh, RanTo, GivenBare, AfterFresh}
+use Rattle.promises.specs.Places.{HasPlace, Located, SameVerdict, WhateverFollows, FieldAtBit, TestsEndAt}
 use Rattle.promises.specs.Published.{Follows}
 use Rattle.promises.specs.Numbers as numbers
 use Rattle.promises.specs.Semantics as semantics
 use Rattle.promises.specs.Refreshing as refreshing
 use Rattle.promises.specs.Keeping as keeping
 use Rattle.promises.specs.Fresh as fresh
+use Rattle.promises.specs.Placing as placing
 
 -- ---- 1: each call takes everything it could be handed, and does its work or refuses by a number
 
 pub record Demand-1 (image table : List ℕ) : Type 0 where
-  -- the words that a table needs: nine for each rule of an accepted image, 0 for one that is refused
-  pub words : (m : Model) (end : ℕ) → decode image ≡ Got m end → tableLength image ≡ 9 * length (m .rules)
-  pub no-words : (n at : ℕ) → decode image ≡ Refused n at → tableLength image ≡ 0
+  -- the words that a table needs: nine for each rule of an accepted image, 0 for one that is refused, told by its number and position
+  pub words : (m : Model) (end : ℕ) → decode image ≡ Got m end → neededOf image ≡ record { number = 0; position = 0; words = 9 * length (m .rules) }
+  pub no-words : (n at : ℕ) → decode image ≡ Refused n at → neededOf image ≡ record { number = n; position = at; words = 0 }
   -- each number is answered exactly when its row of the table holds, and no row before it
   pub open-answers : (n : ℕ) → (openOf image table .number ≡ n) ↔ Given image table AfterOpen n
   pub run-answers : (s : State) (asked n : ℕ) → (runOf image s table asked .number ≡ n) ↔ Given image table (AfterRun s table asked) n
   pub refresh-answers : (s : State) (mark n : ℕ) → (refreshOf image s mark table .number ≡ n) ↔ Given image table (AfterRefresh s mark) n
   -- an image and a table that are taken, a well-formed state and an allowed mark are never refused: the work is done
-  pub open-works : (m : Model) → Taken image table m → openOf image table ≡ record { number = 0; state = openState m; table = freshTable (m .rules) (openState m) }
+  pub open-works : (m : Model) → Taken image table m → openOf image table ≡ record { number = 0; position = 0; state = openState m; table = freshTable (m .rules) (openState m) }
   pub run-works : (s : State) (asked : ℕ) (m : Model) → Taken image table m → wellFormed m s ≡ true → RanTo m s table asked (traceOf image s table asked .events) (runOf image s table asked)
   pub refresh-works : (s : State) (mark : ℕ) (m : Model) → Taken image table m → wellFormed m s ≡ true → mark < 2 ^ m .buffers
-      → refreshOf image s mark table ≡ record { number = 0; count = refreshCount (m .rules) mark; table = refresh (m .rules) s mark table }
-  -- "Numbers 1 to 6 and 10 return count 0, the state as handed in (an all-zero state from open) and an unaltered table."
+      → refreshOf image s mark table ≡ record { number = 0; position = 0; count = refreshCount (m .rules) mark; table = refresh (m .rules) s mark table }
+  -- "Numbers 1 to 6 and 10 return count 0, the state as handed in (an all-zero state from open) and an unaltered table", and "11 to 13 return and leave what 3 does"
   pub open-leaves : (openOf image table .number ≡ 0 → ⊥) → (openOf image table .state ≡ zeroState) × (openOf image table .table ≡ table)
-  pub run-leaves : (s : State) (asked : ℕ) → 0 < runOf image s table asked .number → runOf image s table asked .number < 7
-      → runOf image s table asked ≡ record { number = runOf image s table asked .number; state = s; table = table; made = 0 }
-  pub trace-leaves : (s : State) (asked : ℕ) → 0 < runOf image s table asked .number → runOf image s table asked .number < 7 → traceOf image s table asked .events ≡ []
+  pub run-leaves : (s : State) (asked : ℕ) → Beforehand (runOf image s table asked .number)
+      → runOf image s table asked ≡ record { number = runOf image s table asked .number; position = runOf image s table asked .position; state = s; table = table; made = 0 }
+  pub trace-leaves : (s : State) (asked : ℕ) → Beforehand (runOf image s table asked .number) → traceOf image s table asked .events ≡ []
   -- (a refresh gives no state back)
   pub refresh-leaves : (s : State) (mark : ℕ) → (refreshOf image s mark table .number ≡ 0 → ⊥) → (refreshOf image s mark table .count ≡ 0) × (refreshOf image s mark table .table ≡ table)
 
@@ -116,15 +120,16 @@ pub record Laboratory (image : List ℕ) (s : State) (asked : ℕ) : Type 0 wher
   -- it is the kept run handed the fresh table, its number, state and events, and so its answer
   pub as-kept : (m : Model) (end : ℕ) → decode image ≡ Got m end → AsKept (traceOf image s (freshTable (m .rules) s) asked) (freshTraceOf image s asked)
   pub answers-as-kept : (m : Model) (end : ℕ) → decode image ≡ Got m end → freshOf image s asked ≡ answerOf (runOf image s (freshTable (m .rules) s) asked)
-  -- a refused image gets the same number from both, the state handed in and count 0
+  -- a refused image gets the same number and position from both, the state handed in and count 0
   pub refused-as-kept : (n at : ℕ) → decode image ≡ Refused n at → (table : List ℕ)
-      → (runOf image s table asked ≡ record { number = n; state = s; table = table; made = 0 }) × (freshOf image s asked ≡ record { number = n; state = s; made = 0 })
+      → (runOf image s table asked ≡ record { number = n; position = at; state = s; table = table; made = 0 }) × (freshOf image s asked ≡ record { number = n; position = at; state = s; made = 0 })
   -- whatever table a caller holds after any kept runs, refreshes, and changes of buffers that are refreshed with their mark: it is the kept run handed that table
   pub as-held : (table : List ℕ) → Reached image s table → AsKept (traceOf image s table asked) (freshTraceOf image s asked)
   pub answers-as-held : (table : List ℕ) → Reached image s table → freshOf image s asked ≡ answerOf (runOf image s table asked)
-  -- demand 1: each number exactly when its row holds, and no row before it; refused by 1 to 4 or 6, it gives the state back and counts nothing
+  -- demand 1: each number exactly when its row holds, and no row before it; refused by 1 to 4, 6 or 11 to 13, it gives the state back and counts nothing
   pub answers : (n : ℕ) → (freshOf image s asked .number ≡ n) ↔ GivenBare image (AfterFresh s asked) n
-  pub leaves : 0 < freshOf image s asked .number → freshOf image s asked .number < 7 → freshOf image s asked ≡ record { number = freshOf image s asked .number; state = s; made = 0 }
+  pub leaves : Beforehand (freshOf image s asked .number)
+      → freshOf image s asked ≡ record { number = freshOf image s asked .number; position = freshOf image s asked .position; state = s; made = 0 }
   -- demand 2, from a well-formed state
   pub follows : (m : Model) (end : ℕ) → decode image ≡ Got m end → wellFormed m s ≡ true
       → let a : FreshRan = freshOf image s asked in Follows m s asked (freshTraceOf image s asked .events) (a .state) (a .made) (a .number)
@@ -141,4 +146,38 @@ laboratory image s asked =
       answers = fresh.fresh-exactly image s asked;
       leaves = fresh.fresh-refused image s asked;
       follows = fresh.fresh-published image s asked;
+    }
+
+-- ---- request 2026-03: every call says where an image is bad, and no image is judged otherwise than before
+
+pub record Where (image : List ℕ) : Type 1 where
+  -- "Everything refused stays refused and nothing new is": both numberings accept the same model, or refuse at the same position, the finer number standing for 01's
+  pub as-before : SameVerdict (decodeBy finer image) (decodeBy coarse image)
+  -- "from every call the position of the offending field's first bit for 2, 3 and these, else 0"
+  pub length-tells : Located image (neededOf image .number) (neededOf image .position)
+  pub open-tells : (table : List ℕ) → Located image (openOf image table .number) (openOf image table .position)
+  pub run-tells : (s : State) (table : List ℕ) (asked : ℕ) → Located image (runOf image s table asked .number) (runOf image s table asked .position)
+  pub refresh-tells : (s : State) (mark : ℕ) (table : List ℕ) → Located image (refreshOf image s mark table .number) (refreshOf image s mark table .position)
+  pub fresh-tells : (s : State) (asked : ℕ) → Located image (freshOf image s asked .number) (freshOf image s asked .position)
+  -- the position is a bit of the image, but for 2 and for tests that end with the image at most at its end; it is the first bit of the field that is refused, or the bit
+  -- after a rule's last test; and every field before it is in order, whatever follows
+  pub within : (n at : ℕ) → decode image ≡ Refused n at → at ≤ 8 * length image
+  pub inside : (n at : ℕ) → decode image ≡ Refused n at → HasPlace n → (n ≡ not-there) ⊎ ((at < 8 * length image) ⊎ ((n ≡ bad-variable) × TestsEndAt image at))
+  pub first : (n at : ℕ) → decode image ≡ Refused n at → HasPlace n → FieldAtBit image n at ⊎ ((n ≡ bad-variable) × TestsEndAt image at)
+  pub in-order : (n at : ℕ) → decode image ≡ Refused n at → HasPlace n → WhateverFollows image at λ image′. (k x : ℕ) → decode image′ ≡ Refused k x → HasPlace k → at ≤ x
+
+-- For every image.
+pub say-where : (image : List ℕ) → Where image
+say-where image =
+    record {
+      as-before = placing.refused-as-before image;
+      length-tells = placing.length-position image;
+      open-tells = placing.open-position image;
+      run-tells = placing.run-position image;
+      refresh-tells = placing.refresh-position image;
+      fresh-tells = placing.fresh-position image;
+      within = λ n at refused. placing.position-most image n at refused .0;
+      inside = placing.position-inside image;
+      first = placing.position-first image;
+      in-order = placing.fields-before image;
     }

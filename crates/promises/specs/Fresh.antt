@@ -18,7 +18,7 @@ use Rattle.meaning.specs.Calls.{traceOf, runOf}
 use Rattle.meaning.specs.Fresh.{chooseFresh, Stays, Moves, move, freshTraceOf, FreshRan, freshOf}
 use Rattle.promises.specs.Words.{Reached, AsKept, answerOf}
 use Rattle.promises.specs.Published.{Follows}
-use Rattle.promises.specs.Sentences.{GivenBare, AfterFresh}
+use Rattle.promises.specs.Sentences.{Beforehand, GivenBare, AfterFresh}
 use Rattle.promises.specs.Proofs.Afresh as afresh
 
 -- ---- one step, whatever facts and utilities are handed over
@@ -47,9 +47,9 @@ module _ (image : List ℕ) (s : State) (asked : ℕ) where
   pub fresh-answers : (m : Model) (end : ℕ) → decode image ≡ Got m end → freshOf image s asked ≡ answerOf (runOf image s (freshTable (m .rules) s) asked)
   fresh-answers m end accepted = afresh.answers-as-kept image s asked m end accepted
 
-  -- "A refused image gets the same number from both", whatever table the kept run is handed, with the state handed in and count 0,
+  -- "A refused image gets the same number from both", and the same position, whatever table the kept run is handed, with the state handed in and count 0,
   pub refused-as-kept : (n at : ℕ) → decode image ≡ Refused n at → (table : List ℕ)
-      → (runOf image s table asked ≡ record { number = n; state = s; table = table; made = 0 }) × (freshOf image s asked ≡ record { number = n; state = s; made = 0 })
+      → (runOf image s table asked ≡ record { number = n; position = at; state = s; table = table; made = 0 }) × (freshOf image s asked ≡ record { number = n; position = at; state = s; made = 0 })
   refused-as-kept n at unread table = afresh.both-refuse image s asked n at unread table
 
   -- and no event from either.
@@ -66,7 +66,7 @@ module _ (image : List ℕ) (s : State) (asked : ℕ) where
 
   -- ---- its numbers
 
-  -- A number is answered exactly when its row holds and none before it: 1; 2 and 3 in reading order; 4; 6; then 0, 8 or 9.
+  -- A number is answered exactly when its row holds and none before it: 1; 2, 3 and 11 to 13 in reading order; 4; 6; then 0, 8 or 9.
   pub fresh-exactly : (n : ℕ) → (freshOf image s asked .number ≡ n) ↔ GivenBare image (AfterFresh s asked) n
   fresh-exactly n = afresh.number-exactly image s asked n
 
@@ -75,17 +75,17 @@ module _ (image : List ℕ) (s : State) (asked : ℕ) where
       → let n : ℕ = freshOf image s asked .number in (n ≡ 0) ⊎ ((n ≡ 8) ⊎ (n ≡ 9))
   fresh-taken m end accepted well = afresh.number-taken image s asked m end accepted well
 
-  -- Refused by 1 to 4 or 6, it gives the state back and counts nothing,
-  pub fresh-refused : 0 < freshOf image s asked .number → freshOf image s asked .number < 7
-      → freshOf image s asked ≡ record { number = freshOf image s asked .number; state = s; made = 0 }
-  fresh-refused a b = afresh.call-refused image s asked a b
+  -- Refused by 1 to 4, 6 or 11 to 13, it gives the state back and counts nothing,
+  pub fresh-refused : Beforehand (freshOf image s asked .number)
+      → freshOf image s asked ≡ record { number = freshOf image s asked .number; position = freshOf image s asked .position; state = s; made = 0 }
+  fresh-refused b = afresh.call-refused image s asked b
 
   -- and tells no event.
-  pub fresh-untold : 0 < freshOf image s asked .number → freshOf image s asked .number < 7 → freshTraceOf image s asked .events ≡ []
-  fresh-untold a b = afresh.call-untold image s asked a b
+  pub fresh-untold : Beforehand (freshOf image s asked .number) → freshTraceOf image s asked .events ≡ []
+  fresh-untold b = afresh.call-untold image s asked b
 
-  -- 5 and 7 "have no meaning here" and never come, nor does 10 or a larger number.
-  pub fresh-never : let n : ℕ = freshOf image s asked .number in (n ≡ 5 → ⊥) × (n ≡ 7 → ⊥) × (n < 10)
+  -- 5 and 7 "have no meaning here" and never come, nor does 10, or a number larger than 13.
+  pub fresh-never : let n : ℕ = freshOf image s asked .number in (n ≡ 5 → ⊥) × (n ≡ 7 → ⊥) × (n ≡ 10 → ⊥) × (n < 14)
   fresh-never = afresh.number-never image s asked
 
   -- ---- demand 2, of this run by itself

@@ -1,9 +1,10 @@
--- What is promised: Demands, a statement for each demand. The words of the statements are in Words, Sentences and Published; the statements in Numbers
--- (demand 1), Semantics and Filling (demand 2), Refreshing, Marking, Keeping and Clearing (demand 3), and Fresh (the run without a table); their proofs stand
+-- What is promised: Demands, a statement for each demand. The words of the statements are in Words, Sentences, Places and Published; the statements in Numbers and
+-- Placing (demand 1), Semantics and Filling (demand 2), Refreshing, Marking, Keeping and Clearing (demand 3), and Fresh (the run without a table); their proofs stand
 -- apart, in Proofs.
 pub mod Words
 pub mod Published
 pub mod Sentences
+pub mod Places
 pub mod Numbers
 pub mod Refreshing
 pub mod Marking
@@ -12,5 +13,6 @@ pub mod Clearing
 pub mod Semantics
 pub mod Filling
 pub mod Fresh
+pub mod Placing
 pub mod Demands
 pub mod Proofs

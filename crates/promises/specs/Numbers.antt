@@ -7,41 +7,42 @@ use mathlib.Core.List.{List, [], _++_}
 use Prim.Native.Nat.{ℕ, _*_, _^_, _≤_, _<_}
 use lib.ListN.{length}
 use Rattle.meaning.specs.declared.State.{State}
-use Rattle.meaning.specs.Numbers.{not-there, bad-number, bad-end}
+use Rattle.meaning.specs.Numbers.{finer, not-there, bad-end}
 use Rattle.meaning.specs.Model.{Model}
 use Rattle.meaning.specs.State.{zeroState, wellFormed}
 use Rattle.meaning.specs.Read.{Refused, Got}
 use Rattle.meaning.specs.Image.{model, decode}
 use Rattle.meaning.specs.Match.{freshTable}
 use Rattle.meaning.specs.Refresh.{refresh, refreshCount}
-use Rattle.meaning.specs.Calls.{tableLength, openState, openOf, traceOf, runOf, refreshOf}
-use Rattle.promises.specs.Sentences.{Stops, Taken, Given, AfterOpen, AfterRefresh, AfterRun, RanTo}
+use Rattle.meaning.specs.Calls.{neededOf, openState, openOf, traceOf, runOf, refreshOf}
+use Rattle.promises.specs.Sentences.{BrokenRule, Stops, Beforehand, Taken, Given, AfterOpen, AfterRefresh, AfterRun, RanTo}
+use Rattle.promises.specs.Proofs.Placed as placed
 use Rattle.promises.specs.Proofs.Numbers as numbers
 
 -- ---- an image alone
 
--- Reading stops by 2 at a field that is not wholly there, by 3 at one that is, by 4 after the last field, if a pad bit is 1 or a byte follows;
--- and by no other number.
-pub reading-stops : (image : List ℕ) (n at : ℕ) → model image 0 ≡ Refused n at → Stops image at n
-reading-stops image n at e = numbers.reading-stops image n at e
+-- Reading stops by 2 at a field that is not wholly there, by 3, 11, 12 or 13 at one that is, by 12 where a rule's tests end, by 4 after the last field, if a pad bit
+-- is 1 or a byte follows; and by no other number.
+pub reading-stops : (image : List ℕ) (n at : ℕ) → model finer image 0 ≡ Refused n at → Stops image at n
+reading-stops image n at e = placed.model-stops image n at e
 
--- "the earlier in reading order": an image that is refused by 3 is refused by 3 at the same place with any bytes put after it, as far as the length allows.
-pub stays-broken : (image rest : List ℕ) → 0 < length rest → length (image ++ rest) ≤ 65536 → (at : ℕ) → decode image ≡ Refused bad-number at → decode (image ++ rest) ≡ Refused bad-number at
-stays-broken image rest l h at e = numbers.broken-longer image rest l h at e
+-- "the earlier in reading order": an image that is refused by 3, 11, 12 or 13 is refused so at the same place with any bytes put after it, as far as the length allows.
+pub stays-broken : (image rest : List ℕ) → length (image ++ rest) ≤ 65536 → (n at : ℕ) → BrokenRule n → decode image ≡ Refused n at → decode (image ++ rest) ≡ Refused n at
+stays-broken image rest h n at k e = placed.broken-longer image rest h n at k e
 
 -- Every beginning of an accepted image, short of the whole, is refused by 2.
 pub cut-short : (image rest : List ℕ) → 0 < length rest → (m : Model) (end : ℕ) → decode (image ++ rest) ≡ Got m end → (at : ℕ) × (decode image ≡ Refused not-there at)
-cut-short image rest l m end e = numbers.cut-short image rest l m end e
+cut-short image rest l m end e = placed.cut-short image rest l m end e
 
 -- An accepted image with any bytes put after it, as far as the length allows, is refused by 4.
 pub bytes-follow : (image rest : List ℕ) → 0 < length rest → length (image ++ rest) ≤ 65536 → (m : Model) (end : ℕ) → decode image ≡ Got m end → decode (image ++ rest) ≡ Refused bad-end 0
-bytes-follow image rest l h m end e = numbers.accepted-longer image rest l h m end e
+bytes-follow image rest l h m end e = placed.accepted-longer image rest l h m end e
 
--- The words that a table needs: nine for each rule of an accepted image, and 0 for an image that is refused.
-pub length-accepted : (image : List ℕ) (m : Model) (end : ℕ) → decode image ≡ Got m end → tableLength image ≡ 9 * length (m .rules)
+-- The words that a table needs: nine for each rule of an accepted image, with number 0; and 0 for an image that is refused, with its number and position.
+pub length-accepted : (image : List ℕ) (m : Model) (end : ℕ) → decode image ≡ Got m end → neededOf image ≡ record { number = 0; position = 0; words = 9 * length (m .rules) }
 length-accepted image m end e = numbers.length-accepted image m end e
 
-pub length-refused : (image : List ℕ) (n at : ℕ) → decode image ≡ Refused n at → tableLength image ≡ 0
+pub length-refused : (image : List ℕ) (n at : ℕ) → decode image ≡ Refused n at → neededOf image ≡ record { number = n; position = at; words = 0 }
 length-refused image n at e = numbers.length-refused image n at e
 
 -- An image that is accepted, with a table of that length, is taken.
@@ -52,7 +53,7 @@ accepted-taken image table m end e l = numbers.accepted-taken image table m end 
 
 module _ (image table : List ℕ) where
   -- An image and a table that are taken are opened, however large they are: number 0, the opening state, and the fresh table.
-  pub open-taken : (m : Model) → Taken image table m → openOf image table ≡ record { number = 0; state = openState m; table = freshTable (m .rules) (openState m) }
+  pub open-taken : (m : Model) → Taken image table m → openOf image table ≡ record { number = 0; position = 0; state = openState m; table = freshTable (m .rules) (openState m) }
   open-taken m t = numbers.open-taken image table m t
 
   -- Open answers a number exactly when its row holds and none before it.
@@ -68,7 +69,7 @@ module _ (image table : List ℕ) where
 module _ (image table : List ℕ) (s : State) (mark : ℕ) where
   -- A well-formed state and a mark below 2 to the power of the buffer count are never refused: number 0, the count, and the table refreshed.
   pub refresh-taken : (m : Model) → Taken image table m → wellFormed m s ≡ true → mark < 2 ^ m .buffers
-      → refreshOf image s mark table ≡ record { number = 0; count = refreshCount (m .rules) mark; table = refresh (m .rules) s mark table }
+      → refreshOf image s mark table ≡ record { number = 0; position = 0; count = refreshCount (m .rules) mark; table = refresh (m .rules) s mark table }
   refresh-taken m t w l = numbers.refresh-taken image table s mark m t w l
 
   -- Refresh answers a number exactly when its row holds and none before it.
@@ -90,11 +91,11 @@ module _ (image table : List ℕ) (s : State) (asked : ℕ) where
   pub run-exactly : (n : ℕ) → (runOf image s table asked .number ≡ n) ↔ Given image table (AfterRun s table asked) n
   run-exactly n = numbers.run-number image table s asked n
 
-  -- Refused by 1 to 6, it gives the state back, counts nothing and leaves the table,
-  pub run-refused : 0 < runOf image s table asked .number → runOf image s table asked .number < 7
-      → runOf image s table asked ≡ record { number = runOf image s table asked .number; state = s; table = table; made = 0 }
-  run-refused a b = numbers.run-refused image table s asked a b
+  -- Refused by 1 to 6 or 11 to 13, it gives the state back, counts nothing and leaves the table,
+  pub run-refused : Beforehand (runOf image s table asked .number)
+      → runOf image s table asked ≡ record { number = runOf image s table asked .number; position = runOf image s table asked .position; state = s; table = table; made = 0 }
+  run-refused b = numbers.run-refused image table s asked b
 
   -- and tells no event.
-  pub trace-refused : 0 < runOf image s table asked .number → runOf image s table asked .number < 7 → traceOf image s table asked .events ≡ []
-  trace-refused a b = numbers.trace-refused image table s asked a b
+  pub trace-refused : Beforehand (runOf image s table asked .number) → traceOf image s table asked .events ≡ []
+  trace-refused b = numbers.trace-refused image table s asked b

@@ -19,6 +19,9 @@ pub mod Filled
 pub mod Outcomes
 pub mod Stopping
 pub mod Reading
+pub mod Placed
+pub mod Verdicts
 pub mod Numbers
 pub mod Machines
 pub mod Afresh
+pub mod Locations

@@ -7,7 +7,7 @@ use mathlib.Core.Option.{none, some}
 use Prim.Native.Nat.{ℕ, _+_, _*_, _^_, _≤_, _<_}
 use lib.ListN.{length}
 use Rattle.meaning.specs.declared.State.{State}
-use Rattle.meaning.specs.Numbers.{all-done, too-long, not-there, bad-number, bad-end, wrong-table, ill-formed, not-fresh, clock-full, halted, bad-mark}
+use Rattle.meaning.specs.Numbers.{finer, all-done, too-long, not-there, bad-number, bad-mask, bad-variable, bad-buffer, bad-end, wrong-table, ill-formed, not-fresh, clock-full, halted, bad-mark}
 use Rattle.meaning.specs.Model.{Model}
 use Rattle.meaning.specs.State.{bufferOf, wellFormed}
 use Rattle.meaning.specs.Read.{Refused, Got}
@@ -21,46 +21,64 @@ use Rattle.meaning.specs.Run.{Timed}
 use Rattle.meaning.specs.Calls.{Ran}
 use Rattle.promises.specs.Published.{LeastDelay, Transitions, Ended}
 
--- where the reading of an image can stop, and by which number: at a field of at most 16 bits that is reached and not wholly there; at one that is wholly there
--- (or at none, width 0, where the variables of a rule are looked at) and breaks its rule; after all fields, if a bit up to the byte's end is 1 or a byte follows
-pub data Stops (image : List ℕ) (at : ℕ) : ℕ → Type 0 where
-  missing : (width : ℕ) → width ≤ 16 → at ≤ 8 * length image → 8 * length image < at + width → Stops image at not-there
-  broken : (width : ℕ) → width ≤ 16 → at + width ≤ 8 * length image → Stops image at bad-number
-  unended : (end : ℕ) → end ≤ 8 * length image → (fieldAt image end (padding end) ≡ 0 → ⊥) ⊎ (end + padding end < 8 * length image) → Stops image at bad-end
+-- ---- why a field is refused, and where
 
--- ---- "Order: 1; then 2 and 3, the earlier in reading order; 4; 5"
+-- the numbers of a broken rule, since request 2026-03 one for each thing that a rule is about
+pub data BrokenRule : ℕ → Type 0 where
+  -- "3 now means a version, count, type or action kind"
+  of-a-number : BrokenRule bad-number
+  -- "11 a mask bit past the type's slots"
+  of-a-mask : BrokenRule bad-mask
+  -- "12 a variable not below the count or in no test"
+  of-a-variable : BrokenRule bad-variable
+  -- "13 a buffer that does not exist, does not rise, or is modified untested"
+  of-a-buffer : BrokenRule bad-buffer
+
+-- where the reading of an image can stop, and by which number: at a field of 1 to 16 bits that is reached and not wholly there; at one that is wholly there and
+-- breaks its rule; where a rule's tests end, if a variable stood in none; after all fields, if a bit up to the byte's end is 1 or a byte follows, at no position
+pub data Stops (image : List ℕ) : ℕ → ℕ → Type 0 where
+  missing : {at : ℕ} (width : ℕ) → width ≤ 16 → at ≤ 8 * length image → 8 * length image < at + width → Stops image at not-there
+  broken : {at n : ℕ} (width : ℕ) → 0 < width → width ≤ 16 → at + width ≤ 8 * length image → BrokenRule n → Stops image at n
+  unbound : {at : ℕ} → at ≤ 8 * length image → Stops image at bad-variable
+  unended : (end : ℕ) → end ≤ 8 * length image → (fieldAt image end (padding end) ≡ 0 → ⊥) ⊎ (end + padding end < 8 * length image) → Stops image 0 bad-end
+
+-- "1 to 6 and 10", and 11 to 13, which "return and leave what 3 does": found before a step is made
+abbrev pub Beforehand : ℕ → Type 0
+Beforehand n = (0 < n) × ((n < 7) ⊎ (9 < n))
+
+-- ---- "Order: 1; then 2 and 3, the earlier in reading order; 4; 5", where 3 is 3 and 11 to 13
 
 -- why an image is refused: what all calls look at first
 pub data Unread (image : List ℕ) : ℕ → Type 0 where
   -- "image over 65,536 bytes"
   over : 65536 < length image → Unread image too-long
   -- "a field is not wholly there"
-  lacking : {at : ℕ} → length image ≤ 65536 → model image 0 ≡ Refused not-there at → Unread image not-there
+  lacking : {at : ℕ} → length image ≤ 65536 → model finer image 0 ≡ Refused not-there at → Unread image not-there
   -- "a field breaks its rule above"
-  against : {at : ℕ} → length image ≤ 65536 → model image 0 ≡ Refused bad-number at → Unread image bad-number
+  against : {at n : ℕ} → length image ≤ 65536 → model finer image 0 ≡ Refused n at → BrokenRule n → Unread image n
   -- "a pad bit is 1, or a byte follows"
-  trailing : {at : ℕ} → length image ≤ 65536 → model image 0 ≡ Refused bad-end at → Unread image bad-end
+  trailing : {at : ℕ} → length image ≤ 65536 → model finer image 0 ≡ Refused bad-end at → Unread image bad-end
 
 -- an image that is not too long, whose fields are all there and keep their rules, which ends as it must, and a table of nine words a rule
 pub record Taken (image table : List ℕ) (m : Model) : Type 0 where
   pub short : length image ≤ 65536
   pub end : ℕ
-  pub reads : model image 0 ≡ Got m end
+  pub reads : model finer image 0 ≡ Got m end
   pub fits : length table ≡ 9 * length (m .rules)
 
 -- what a call that takes a table answers; `after` is what it answers with a model and a table that were taken
 pub data Given (image table : List ℕ) (after : Model → ℕ → Type 0) : ℕ → Type 0 where
-  -- 1 to 4
+  -- 1 to 4, and 11 to 13
   unread : {n : ℕ} → Unread image n → Given image table after n
   -- "table length is not 9 × rules"
-  unfit : {m : Model} {end : ℕ} → length image ≤ 65536 → model image 0 ≡ Got m end → (length table ≡ 9 * length (m .rules) → ⊥) → Given image table after wrong-table
+  unfit : {m : Model} {end : ℕ} → length image ≤ 65536 → model finer image 0 ≡ Got m end → (length table ≡ 9 * length (m .rules) → ⊥) → Given image table after wrong-table
   -- none of these
   taken : {m : Model} {n : ℕ} → Taken image table m → after m n → Given image table after n
 
--- what a call that takes no table answers: 1 to 4, or what it answers with the model
+-- what a call that takes no table answers: 1 to 4 and 11 to 13, or what it answers with the model
 pub data GivenBare (image : List ℕ) (after : Model → ℕ → Type 0) : ℕ → Type 0 where
   refused : {n : ℕ} → Unread image n → GivenBare image after n
-  read : {m : Model} {end n : ℕ} → length image ≤ 65536 → model image 0 ≡ Got m end → after m n → GivenBare image after n
+  read : {m : Model} {end n : ℕ} → length image ≤ 65536 → model finer image 0 ≡ Got m end → after m n → GivenBare image after n
 
 -- ---- what follows, call by call
 
@@ -111,6 +129,7 @@ pub data AfterRun (s : State) (table : List ℕ) (asked : ℕ) (m : Model) : ℕ
 pub record RanTo (m : Model) (s : State) (table : List ℕ) (asked : ℕ) (events : List Timed) (a : Ran) : Type 0 where
   pub steps : Steps m events s table (a .state) (a .table)
   pub counted : a .made ≡ length events
+  pub unplaced : a .position ≡ 0
   pub ended : EndsBy m asked (a .made) (a .state) (a .table) (a .number)
 
 -- the run without a table: "6", and then its steps, which are transitions of the published semantics, and why there are no more: 0, 8 or 9

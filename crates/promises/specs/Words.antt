@@ -87,6 +87,6 @@ pub record AsKept (kept : Run Going) (fresh : Run State) : Type 0 where
   pub same-state : fresh .left ≡ kept .left .state
   pub same-events : fresh .events ≡ kept .events
 
--- the answer of a run that keeps a table, but for the table: number, state and count
+-- the answer of a run that keeps a table, but for the table: number, position, state and count
 abbrev pub answerOf : Ran → FreshRan
-answerOf a = record { number = a .number; state = a .state; made = a .made }
+answerOf a = record { number = a .number; position = a .position; state = a .state; made = a .made }

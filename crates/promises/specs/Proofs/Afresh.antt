@@ -1,6 +1,6 @@
 -- The run without a table is the kept run with the fresh one: choice, step, run and call; and so its numbers and its transitions.
-use mathlib.Core.Path.{_≡_, refl, ap, subst}
-use mathlib.Core.Logic.{_↔_, _⊎_, inl, inr}
+use mathlib.Core.Path.{_≡_, refl, sym, ap, subst, _∙_}
+use mathlib.Core.Logic.{_↔_, _⊎_, inl, inr, ⊎-elim}
 use mathlib.Core.Bool.{Bool, true, false}
 use mathlib.Core.List.{List, [], _∷_}
 use mathlib.Core.Option.{Option, none, some}
@@ -26,13 +26,13 @@ use Rattle.meaning.specs.Wait.{soonest, wait}
 use Rattle.meaning.specs.Mark.{markOf}
 use Rattle.meaning.specs.Step.{Event, Fired, Waited, Step, Stopped, Made, largest, unlessPast, waitStep, stepBy, step, stepOf}
 use Rattle.meaning.specs.Run.{Going, going, Timed, Run, ends, before, runFrom}
-use Rattle.meaning.specs.Calls.{accepted, openOf, traceOf, ranBy, runOf}
+use Rattle.meaning.specs.Calls.{accepted, placeOf, openOf, traceOf, ranBy, runOf}
 use Rattle.meaning.specs.Fresh.{matched, chooseFresh, Move, Stays, Moves, movesTo, waitFresh, moveBy, move, moveOf, freshFrom}
 use Rattle.meaning.specs.Fresh.{freshBy, freshTraceOf, FreshRan, freshRanBy, freshOf}
 use Rattle.laws.specs.MatchLaws.{entry-length, fresh-length}
 use Rattle.promises.specs.Words.{Reached, opened, ran, refreshed, changed, AsKept, answerOf}
 use Rattle.promises.specs.Published.{Transition, Transitions, no-step, one-step, Ended, done, full, over, Follows}
-use Rattle.promises.specs.Sentences.{GivenBare, refused, read, AfterFresh, unsound, moved}
+use Rattle.promises.specs.Sentences.{Beforehand, GivenBare, refused, read, AfterFresh, unsound, moved}
 use Rattle.promises.specs.Proofs.Decoded.{Decoded, decoded}
 use Rattle.promises.specs.Proofs.Steps.{fire-fresh}
 use Rattle.promises.specs.Proofs.Selection.{chosen-own}
@@ -133,8 +133,8 @@ run-as-kept m (suc n) s = by (λ s′. run-as-kept m n s′) (same-step m (m .fa
 -- ---- the call
 
 -- runs that are alike are answered alike
-alike-answers : {kept : Run Going} {fresh : Run State} → AsKept kept fresh → freshRanBy fresh ≡ answerOf (ranBy kept)
-alike-answers a = rw (a .same-number, a .same-state, a .same-events) refl
+alike-answers : {kept : Run Going} {fresh : Run State} → AsKept kept fresh → (at : ℕ) → freshRanBy at fresh ≡ answerOf (ranBy at kept)
+alike-answers a at = rw (a .same-number, a .same-state, a .same-events) refl
 
 module _ (image : List ℕ) (s : State) (steps : ℕ) where
   module _ (n at : ℕ) (d : decode image ≡ Refused n at) where
@@ -146,9 +146,10 @@ module _ (image : List ℕ) (s : State) (steps : ℕ) where
     unfolding freshTraceOf
     fresh-refuses = rw d refl
 
-    pub both-refuse : (table : List ℕ) → (runOf image s table steps ≡ record { number = n; state = s; table = table; made = 0 }) × (freshOf image s steps ≡ record { number = n; state = s; made = 0 })
-    unfolding runOf freshOf
-    both-refuse table = (ap ranBy (kept-refuses table), ap freshRanBy fresh-refuses)
+    pub both-refuse : (table : List ℕ) → (runOf image s table steps ≡ record { number = n; position = at; state = s; table = table; made = 0 })
+        × (freshOf image s steps ≡ record { number = n; position = at; state = s; made = 0 })
+    unfolding runOf freshOf accepted
+    both-refuse table = (rw d (ap (ranBy at) (kept-refuses table)), rw d (ap (freshRanBy at) fresh-refuses))
 
     pub both-silent : (table : List ℕ) → (traceOf image s table steps .events ≡ []) × (freshTraceOf image s steps .events ≡ [])
     both-silent table = (ap (λ (r : Run Going). r .events) (kept-refuses table), ap (λ (r : Run State). r .events) fresh-refuses)
@@ -164,9 +165,16 @@ module _ (image : List ℕ) (s : State) (steps : ℕ) where
           | false ↦ record { same-number = refl; same-state = refl; same-events = refl }
         ])
 
+    -- neither has a position to tell
+    same-place : placeOf (accepted image (freshTable (m .rules) s)) ≡ placeOf (decode image)
+    unfolding accepted
+    same-place = rw (d, eq-eqb (length (freshTable (m .rules) s)) (9 * length (m .rules)) (fresh-length (m .rules) s)) refl
+
     pub answers-as-kept : freshOf image s steps ≡ answerOf (runOf image s (freshTable (m .rules) s) steps)
     unfolding freshOf runOf
-    answers-as-kept = alike-answers call-as-kept
+    answers-as-kept =
+        alike-answers call-as-kept (placeOf (decode image))
+        ∙ ap (λ (at : ℕ). answerOf (ranBy at (traceOf image s (freshTable (m .rules) s) steps))) (sym same-place)
 
 -- ---- a chain of calls is over an accepted image
 
@@ -196,8 +204,9 @@ module _ {image : List ℕ} {s : State} {table : List ℕ} (r : Reached image s 
       rw (chain-fresh image (a .model) (a .end) (a .reads) r) (call-as-kept image s steps (a .model) (a .end) (a .reads))
 
   pub reached-answers : freshOf image s steps ≡ answerOf (runOf image s table steps)
-  unfolding freshOf runOf
-  reached-answers = alike-answers reached-as-kept
+  reached-answers =
+      let a = reached-accepted r in
+      rw (chain-fresh image (a .model) (a .end) (a .reads) r) (answers-as-kept image s steps (a .model) (a .end) (a .reads))
 
 -- ---- the transitions of the published semantics
 
@@ -238,24 +247,25 @@ module _ (m : Model) (d : Decoded m) where
   ends-by (one-step t c rest) (suc k) h = rw (goes-by t c) (ends-by rest k (shorter h))
 
 -- 0, 8 or 9
-ended-number : {m : Model} {asked made n : ℕ} {s : State} → Ended m asked made s n → (n ≡ 0) ⊎ ((n ≡ 8) ⊎ (n ≡ 9))
+pub ended-number : {m : Model} {asked made n : ℕ} {s : State} → Ended m asked made s n → (n ≡ 0) ⊎ ((n ≡ 8) ⊎ (n ≡ 9))
 ended-number (done e) = inl refl
 ended-number (full l p) = inr (inl refl)
 ended-number (over l p) = inr (inr refl)
 
 -- which numbers there are
 data Number : ℕ → Type 0 where
-  of-image : {n : ℕ} → 0 < n → n < 5 → Number n
+  of-image : {n : ℕ} → 0 < n → (n < 5) ⊎ ((10 < n) × (n < 14)) → Number n
   of-state : Number 6
   of-steps : {n : ℕ} → (n ≡ 0) ⊎ ((n ≡ 8) ⊎ (n ≡ 9)) → Number n
 
 -- 5, 7 and 10 are none of them
-none-other : (n : ℕ) → Number n → (n ≡ 5 → ⊥) × (n ≡ 7 → ⊥) × (n < 10)
-none-other n (of-image a b) = (λ e. omega arith, λ e. omega arith, omega arith)
-none-other n of-state = (λ e. omega arith, λ e. omega arith, omega arith)
-none-other n (of-steps (inl q)) = (λ e. omega arith, λ e. omega arith, omega arith)
-none-other n (of-steps (inr (inl q))) = (λ e. omega arith, λ e. omega arith, omega arith)
-none-other n (of-steps (inr (inr q))) = (λ e. omega arith, λ e. omega arith, omega arith)
+none-other : (n : ℕ) → Number n → (n ≡ 5 → ⊥) × (n ≡ 7 → ⊥) × (n ≡ 10 → ⊥) × (n < 14)
+none-other n (of-image a (inl b)) = (λ e. omega arith, λ e. omega arith, λ e. omega arith, omega arith)
+none-other n (of-image a (inr b)) = (λ e. omega (arith, b .0), λ e. omega (arith, b .0), λ e. omega (arith, b .0), b .1)
+none-other n of-state = (λ e. omega arith, λ e. omega arith, λ e. omega arith, omega arith)
+none-other n (of-steps (inl q)) = (λ e. omega arith, λ e. omega arith, λ e. omega arith, omega arith)
+none-other n (of-steps (inr (inl q))) = (λ e. omega arith, λ e. omega arith, λ e. omega arith, omega arith)
+none-other n (of-steps (inr (inr q))) = (λ e. omega arith, λ e. omega arith, λ e. omega arith, omega arith)
 
 module _ (image : List ℕ) (s : State) (asked : ℕ) where
   -- by whether the state is well formed
@@ -311,27 +321,27 @@ module _ (image : List ℕ) (s : State) (asked : ℕ) where
   given-number n (read h e (unsound w)) = of-state
   given-number n (read h e (moved w path by)) = of-steps (ended-number by)
 
-  pub number-never : let n : ℕ = freshOf image s asked .number in (n ≡ 5 → ⊥) × (n ≡ 7 → ⊥) × (n < 10)
+  pub number-never : let n : ℕ = freshOf image s asked .number in (n ≡ 5 → ⊥) × (n ≡ 7 → ⊥) × (n ≡ 10 → ⊥) × (n < 14)
   number-never = let n : ℕ = freshOf image s asked .number in none-other n (given-number n (number-exactly n .0 refl))
 
-  refused-left : (r : Read Model) → decode image ≡ r → let t : Run State = freshBy s asked r in 0 < t .number → t .number < 7 → t ≡ ends (t .number) s
-  refused-left (Refused n at) e a b = refl
-  refused-left (Got m end) e a b = by (wellFormed m s) a b
+  refused-left : (r : Read Model) → decode image ≡ r → let t : Run State = freshBy s asked r in Beforehand (t .number) → t ≡ ends (t .number) s
+  refused-left (Refused n at) e b = refl
+  refused-left (Got m end) e b = by (wellFormed m s) b
     where
-      late : (n : ℕ) → (n ≡ 0) ⊎ ((n ≡ 8) ⊎ (n ≡ 9)) → 0 < n → n < 7 → ⊥
-      late n (inl q) l h = omega arith
-      late n (inr (inl q)) l h = omega arith
-      late n (inr (inr q)) l h = omega arith
+      late : (n : ℕ) → (n ≡ 0) ⊎ ((n ≡ 8) ⊎ (n ≡ 9)) → Beforehand n → ⊥
+      late n (inl q) h = omega (arith, h .0)
+      late n (inr (inl q)) h = ⊎-elim (λ (l : n < 7). omega arith) (λ (l : 9 < n). omega arith) (h .1)
+      late n (inr (inr q)) h = ⊎-elim (λ (l : n < 7). omega arith) (λ (l : 9 < n). omega arith) (h .1)
 
-      by : (t : Bool) → 0 < runs m t .number → runs m t .number < 7 → runs m t ≡ ends (runs m t .number) s
-      by true l h = absurd (late (freshFrom m asked s .number) (ended-number (run-ended m (decoded image m end e) asked s)) l h)
-      by false l h = refl
+      by : (t : Bool) → Beforehand (runs m t .number) → runs m t ≡ ends (runs m t .number) s
+      by true h = absurd (late (freshFrom m asked s .number) (ended-number (run-ended m (decoded image m end e) asked s)) h)
+      by false h = refl
 
-  pub call-refused : 0 < freshOf image s asked .number → freshOf image s asked .number < 7
-      → freshOf image s asked ≡ record { number = freshOf image s asked .number; state = s; made = 0 }
+  pub call-refused : Beforehand (freshOf image s asked .number)
+      → freshOf image s asked ≡ record { number = freshOf image s asked .number; position = freshOf image s asked .position; state = s; made = 0 }
   unfolding freshOf freshTraceOf
-  call-refused a b = ap freshRanBy (refused-left (decode image) refl a b)
+  call-refused b = ap (freshRanBy (placeOf (decode image))) (refused-left (decode image) refl b)
 
-  pub call-untold : 0 < freshOf image s asked .number → freshOf image s asked .number < 7 → freshTraceOf image s asked .events ≡ []
+  pub call-untold : Beforehand (freshOf image s asked .number) → freshTraceOf image s asked .events ≡ []
   unfolding freshOf freshTraceOf
-  call-untold a b = ap (λ (r : Run State). r .events) (refused-left (decode image) refl a b)
+  call-untold b = ap (λ (r : Run State). r .events) (refused-left (decode image) refl b)

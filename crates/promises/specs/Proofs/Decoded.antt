@@ -8,7 +8,7 @@ use borrow.Author.Tests.{ltb-true, ltb-false, lt-ltb, le-leb, eqb-true, eq-eqb}
 use lib.Dec.{ltb, leb, eqb}
 use lib.ListN.{length}
 use Rattle.meaning.specs.Base.{if_then_else_, every, upFrom}
-use Rattle.meaning.specs.Numbers.{bad-variable, bad-buffer, bad-mask, bad-number}
+use Rattle.meaning.specs.Numbers.{finer, bad-variable, bad-buffer, bad-mask, bad-number}
 use Rattle.meaning.specs.Model.{Model, Sizes, Rule, Test, Action, Deed, Modify, Request, Clear, Named, Term, Symbol, Variable, Fact}
 use Rattle.meaning.specs.State.{slotCount, wellBuffer}
 use Rattle.meaning.specs.Read.{Got, Reader, field, require, rising, must}
@@ -102,14 +102,14 @@ module _ (ts : List Test) (variables : ℕ) (few : variables ≤ 8) (stood : eve
       ]) refl
 
   terms-good : (k : ℕ) (slots : List ℕ) (least : ℕ) → every (λ x. ltb x k) slots ≡ true → rises (λ x. x) least slots ≡ true
-      → (image : List ℕ) (at : ℕ) (ns : List Named) (end : ℕ) → terms variables slots image at ≡ Got ns end → (every (goodNamed ts k) ns ≡ true) × (rises (λ n. n .slot) least ns ≡ true)
+      → (image : List ℕ) (at : ℕ) (ns : List Named) (end : ℕ) → terms finer variables slots image at ≡ Got ns end → (every (goodNamed ts k) ns ≡ true) × (rises (λ n. n .slot) least ns ≡ true)
   unfolding terms
   terms-good k [] least low up image at ns end e = let q : [] ≡ ns = cc in rw (← q) (refl, refl)
   terms-good k (x ∷ xs) least low up image at ns end e =
       split (field 13 (must bad-variable (aTerm variables)) image at) _ e λ t n₁ e₁ k₁.
-      split (terms variables xs image n₁) _ k₁ λ rest n₂ e₂ k₂.
+      split (terms finer variables xs image n₁) _ k₁ λ rest n₂ e₂ k₂.
       let q : record { slot = x; term = termOf t } ∷ rest ≡ ns = cc in
-      let f : t < 4096 + variables = ltb-true t (4096 + variables) (must-kept 2 _ (field-got 13 (must bad-variable (aTerm variables)) image at t n₁ e₁ .kept)) in
+      let f : t < 4096 + variables = ltb-true t (4096 + variables) (must-kept 11 _ (field-got 13 (must bad-variable (aTerm variables)) image at t n₁ e₁ .kept)) in
       let ih : (every (goodNamed ts k) rest ≡ true) × (rises (λ n. n .slot) (x + 1) rest ≡ true) =
       terms-good k xs (x + 1) (and-right (ltb x k) (every (λ x. ltb x k) xs) low) (and-right (leb least x) (rises (λ x. x) (x + 1) xs) up) image n₁ rest n₂ e₂ in
       rw (← q) (
@@ -118,42 +118,43 @@ module _ (ts : List Test) (variables : ℕ) (few : variables ≤ 8) (stood : eve
         and-true (leb least x) (rises (λ n. n .slot) (x + 1) rest) (and-left (leb least x) (rises (λ x. x) (x + 1) xs) up) (ih .1),
       )
 
-  masked-good : (slots : ℕ) (image : List ℕ) (at : ℕ) (ns : List Named) (end : ℕ) → masked variables slots image at ≡ Got ns end → goodNames ts slots ns ≡ true
+  masked-good : (slots : ℕ) (image : List ℕ) (at : ℕ) (ns : List Named) (end : ℕ) → masked finer variables slots image at ≡ Got ns end → goodNames ts slots ns ≡ true
   unfolding masked
   masked-good slots image at ns end e =
       split (field 8 (must bad-mask (aMask slots)) image at) _ e λ mask n₁ e₁ k₁.
       let f : FieldRead 8 (must bad-mask (aMask slots)) image at mask n₁ = field-got 8 (must bad-mask (aMask slots)) image at mask n₁ e₁ in
-      let z : mask % 2 ^ (8 - slots) ≡ 0 = eqb-true (mask % 2 ^ (8 - slots)) 0 (must-kept 2 _ (f .kept)) in
+      let z : mask % 2 ^ (8 - slots) ≡ 0 = eqb-true (mask % 2 ^ (8 - slots)) 0 (must-kept 10 _ (f .kept)) in
       let s = mask-slots slots mask (omega (arith, f .is, fieldAt-lt image at 8)) z in
       let g : (every (goodNamed ts slots) ns ≡ true) × (rises (λ n. n .slot) 0 ns ≡ true) = terms-good slots (slotsIn mask) 0 (s .0) (s .1) image n₁ ns end k₁ in
       and-true (every (goodNamed ts slots) ns) (rises (λ n. n .slot) 0 ns) (g .0) (g .1)
 
   -- ---- an action
 
-  deed-good : (z : Sizes) (b kind : ℕ) → kindRule ts b kind ≡ 0 → (image : List ℕ) (at : ℕ) (d : Deed) (end : ℕ) → deed z variables ts b kind image at ≡ Got d end → goodDeed (z .types) ts b d ≡ true
+  deed-good : (z : Sizes) (b kind : ℕ) → kindRule finer ts b kind ≡ 0 → (image : List ℕ) (at : ℕ) (d : Deed) (end : ℕ) → deed finer z variables ts b kind image at ≡ Got d end
+      → goodDeed (z .types) ts b d ≡ true
   unfolding deed
   deed-good z b zero k image at d end e =
-      split (masked variables (slotCount (z .types) (testedType ts b)) image at) _ e λ ns n₁ e₁ k₁.
+      split (masked finer variables (slotCount (z .types) (testedType ts b)) image at) _ e λ ns n₁ e₁ k₁.
       let q : Modify ns ≡ d = cc in
       let g : goodNames ts (slotCount (z .types) (testedType ts b)) ns ≡ true = masked-good (slotCount (z .types) (testedType ts b)) image at ns n₁ e₁ in
-      rw (← q) (and-true (isTested ts b) (goodNames ts (slotCount (z .types) (testedType ts b)) ns) (must-kept 2 _ k) g)
+      rw (← q) (and-true (isTested ts b) (goodNames ts (slotCount (z .types) (testedType ts b)) ns) (must-kept 12 _ k) g)
   deed-good z b (suc zero) k image at d end e =
       split (field 6 (must bad-number (aType (z .types) 1)) image at) _ e λ isa n₁ e₁ k₁.
-      split (masked variables (slotCount (z .types) isa) image n₁) _ k₁ λ ns n₂ e₂ k₂.
+      split (masked finer variables (slotCount (z .types) isa) image n₁) _ k₁ λ ns n₂ e₂ k₂.
       let q : Request isa ns ≡ d = cc in
       rw (← q) (masked-good (slotCount (z .types) isa) image n₁ ns n₂ e₂)
   deed-good z b (suc (suc n)) k image at d end e = let q : Clear ≡ d = cc in rw (← q) refl
 
-  action-good : (z : Sizes) (least : ℕ) (image : List ℕ) (at : ℕ) (a : Action) (end : ℕ) → action z variables ts least image at ≡ Got a end
+  action-good : (z : Sizes) (least : ℕ) (image : List ℕ) (at : ℕ) (a : Action) (end : ℕ) → action finer z variables ts least image at ≡ Got a end
       → (leb least (a .buffer) && goodAction (z .buffers) (z .types) ts a) ≡ true
   unfolding action
   action-good z least image at a end e =
       split (field 3 (must bad-buffer (aBuffer (z .buffers) least)) image at) _ e λ b n₁ e₁ k₁.
-      split (field 2 (kindRule ts b) image n₁) _ k₁ λ kind n₂ e₂ k₂.
-      split (deed z variables ts b kind image n₂) _ k₂ λ d n₃ e₃ k₃.
+      split (field 2 (kindRule finer ts b) image n₁) _ k₁ λ kind n₂ e₂ k₂.
+      split (deed finer z variables ts b kind image n₂) _ k₂ λ d n₃ e₃ k₃.
       let q : record { buffer = b; deed = d } ≡ a = cc in
-      let f : (leb least b && ltb b (z .buffers)) ≡ true = must-kept 2 _ (field-got 3 (must bad-buffer (aBuffer (z .buffers) least)) image at b n₁ e₁ .kept) in
-      let g : goodDeed (z .types) ts b d ≡ true = deed-good z b kind (field-got 2 (kindRule ts b) image n₁ kind n₂ e₂ .kept) image n₂ d n₃ e₃ in
+      let f : (leb least b && ltb b (z .buffers)) ≡ true = must-kept 12 _ (field-got 3 (must bad-buffer (aBuffer (z .buffers) least)) image at b n₁ e₁ .kept) in
+      let g : goodDeed (z .types) ts b d ≡ true = deed-good z b kind (field-got 2 (kindRule finer ts b) image n₁ kind n₂ e₂ .kept) image n₂ d n₃ e₃ in
       rw (← q) (and-true (leb least b) (ltb b (z .buffers) && goodDeed (z .types) ts b d) (and-left (leb least b) (ltb b (z .buffers)) f)
       (and-true (ltb b (z .buffers)) (goodDeed (z .types) ts b d) (and-right (leb least b) (ltb b (z .buffers)) f) g))
 
@@ -178,25 +179,25 @@ required : (number : ℕ) (holds : Bool) (image : List ℕ) (at : ℕ) (u : Unit
 required number true image at u next e = refl
 required number false image at u next e = absurd (no-got number at u next e)
 
-rule-good : (z : Sizes) (image : List ℕ) (at : ℕ) (r : Rule) (end : ℕ) → rule z image at ≡ Got r end → goodRule (z .buffers) (z .types) r ≡ true
+rule-good : (z : Sizes) (image : List ℕ) (at : ℕ) (r : Rule) (end : ℕ) → rule finer z image at ≡ Got r end → goodRule (z .buffers) (z .types) r ≡ true
 unfolding rule body
 rule-good z image at r end e =
-    split (head (z .buffers) image at) _ e λ h n₁ e₁ k₁.
-    split (tests z (h .variables) (h .tests) image n₁) _ k₁ λ ts n₂ e₂ k₂.
+    split (head finer (z .buffers) image at) _ e λ h n₁ e₁ k₁.
+    split (tests finer z (h .variables) (h .tests) image n₁) _ k₁ λ ts n₂ e₂ k₂.
     split (require bad-variable (every (standsIn ts) (upFrom 0 (h .variables))) image n₂) _ k₂ λ u n₃ e₃ k₃.
-    split (actions z (h .variables) ts (h .actions) image n₃) _ k₃ λ as′ n₄ e₄ k₄.
+    split (actions finer z (h .variables) ts (h .actions) image n₃) _ k₃ λ as′ n₄ e₄ k₄.
     let q : record { utility = utilityOf (h .utility); tests = ts; actions = as′ } ≡ r = cc in
     let few : h .variables ≤ 8 = head-fits (z .buffers) image at h n₁ e₁ .variables-few in
     let stood : every (standsIn ts) (upFrom 0 (h .variables)) ≡ true = required bad-variable _ image n₂ u n₃ e₃ in
     let each = action-good ts (h .variables) few stood z in
-    rw (← q) (rising-good (action z (h .variables) ts) (λ a. a .buffer) (goodAction (z .buffers) (z .types) ts) each (h .actions) 0 image n₃ as′ n₄ e₄)
+    rw (← q) (rising-good (action finer z (h .variables) ts) (λ a. a .buffer) (goodAction (z .buffers) (z .types) ts) each (h .actions) 0 image n₃ as′ n₄ e₄)
 
 -- ---- a fact
 
-fact-well : (types : List ℕ) (image : List ℕ) (at : ℕ) (f : Fact) (end : ℕ) → fact types image at ≡ Got f end → wellBuffer types (opens (f .chunk)) ≡ true
+fact-well : (types : List ℕ) (image : List ℕ) (at : ℕ) (f : Fact) (end : ℕ) → fact finer types image at ≡ Got f end → wellBuffer types (opens (f .chunk)) ≡ true
 unfolding fact
 fact-well types image at f end e =
-    split (chunk types 1 image at) _ e λ c n₁ e₁ k₁.
+    split (chunk finer types 1 image at) _ e λ c n₁ e₁ k₁.
     split (field 16 anything image n₁) _ k₁ λ activation n₂ e₂ k₂.
     split (field 16 anything image n₂) _ k₂ λ latency n₃ e₃ k₃.
     let q : record { chunk = c; activation = activation; latency = latency } ≡ f = cc in
@@ -204,7 +205,7 @@ fact-well types image at f end e =
 
 -- ---- the header, and as many opening chunks as it says
 
-few-buffers : (image : List ℕ) (at : ℕ) (h : Header) (end : ℕ) → header image at ≡ Got h end → h .buffers ≤ 8
+few-buffers : (image : List ℕ) (at : ℕ) (h : Header) (end : ℕ) → header finer image at ≡ Got h end → h .buffers ≤ 8
 unfolding header
 few-buffers image at h end e =
     split (field 8 (must bad-number (between 1 1)) image at) _ e λ version n₁ e₁ k₁.
@@ -232,14 +233,14 @@ decoded image m at e =
     let z : Sizes = record { buffers = m .buffers; types = m .types } in
     let few : m .buffers ≤ 8 = rw (p .buffers-are) (few-buffers image 0 (p .head) (p .types-at) (p .head-read)) in
     let f : (every (λ f. wellBuffer (m .types) (opens (f .chunk))) (m .facts) ≡ true) × (length (m .facts) ≡ p .head .facts) =
-    times-all (fact (m .types)) (λ f. wellBuffer (m .types) (opens (f .chunk))) (fact-well (m .types)) (p .head .facts) image (p .facts-at) (m .facts) (p .rules-at) (p .facts-read) in
+    times-all (fact finer (m .types)) (λ f. wellBuffer (m .types) (opens (f .chunk))) (fact-well (m .types)) (p .head .facts) image (p .facts-at) (m .facts) (p .rules-at) (p .facts-read) in
     let r : (every (goodRule (m .buffers) (m .types)) (m .rules) ≡ true) × (length (m .rules) ≡ p .head .rules) =
-    times-all (rule z) (goodRule (m .buffers) (m .types)) (rule-good z) (p .head .rules) image (p .rules-at) (m .rules) (p .end) (p .rules-read) in
+    times-all (rule finer z) (goodRule (m .buffers) (m .types)) (rule-good z) (p .head .rules) image (p .rules-at) (m .rules) (p .end) (p .rules-read) in
     record {
       counts = p .counts;
       types-are = p .types-are;
       few = few;
-      opens-all = times-all (chunk (m .types) 0) (λ c. true) (λ i a c n k. refl) (m .buffers) image (p .opening-at) (m .opening) (p .facts-at) (p .opening-read) .1;
+      opens-all = times-all (chunk finer (m .types) 0) (λ c. true) (λ i a c n k. refl) (m .buffers) image (p .opening-at) (m .opening) (p .facts-at) (p .opening-read) .1;
       facts-well = f .0;
       rules-good = r .0;
     }

@@ -12,7 +12,7 @@ use lib.ListN.{length, getD, drop, replicate, set, length-append, length-replica
 use Rattle.meaning.specs.declared.Buffer.{Buffer}
 use Rattle.meaning.specs.declared.State.{State}
 use Rattle.meaning.specs.Base.{every, keep}
-use Rattle.meaning.specs.Numbers.{bad-number}
+use Rattle.meaning.specs.Numbers.{finer, bad-number}
 use Rattle.meaning.specs.Model.{Model, Rule, Named, Deed, Modify, Request, Clear, Chunk, Fact}
 use Rattle.meaning.specs.State.{nothing, nilAfter, slotCount, wellBuffer, isNil, wellFormed}
 use Rattle.meaning.specs.Read.{Got, must, field, times}
@@ -32,7 +32,7 @@ use Rattle.laws.specs.RetrievalLaws.{retrieve-best}
 use Rattle.laws.specs.CallsLaws.{open-well}
 use Rattle.promises.specs.Words.{isWord, isBuffer, Machine, Reached}
 use Rattle.promises.specs.Proofs.Decoded.{decoded, and-true, all-weaken}
-use Rattle.promises.specs.Proofs.Numbers.{decode-got}
+use Rattle.promises.specs.Proofs.Placed.{decode-got}
 use Rattle.promises.specs.Proofs.Steps.{FiredBy, WaitedBy, step-fired, step-waited}
 use Rattle.promises.specs.Proofs.Chains.{chain-keeps}
 use Rattle.promises.specs.Proofs.Eight.{open-eight, step-eight}
@@ -47,7 +47,7 @@ chunkFit c = eqb (length (c .slots)) 8 && isWord (c .isa)
 abbrev factFit : Fact → Bool
 factFit f = chunkFit (f .chunk) && isWord (f .latency)
 
-chunk-fit : (types : List ℕ) → every (λ n. leb n 8) types ≡ true → (least : ℕ) (image : List ℕ) (at : ℕ) (c : Chunk) (end : ℕ) → chunk types least image at ≡ Got c end → chunkFit c ≡ true
+chunk-fit : (types : List ℕ) → every (λ n. leb n 8) types ≡ true → (least : ℕ) (image : List ℕ) (at : ℕ) (c : Chunk) (end : ℕ) → chunk finer types least image at ≡ Got c end → chunkFit c ≡ true
 unfolding chunk
 chunk-fit types low least image at c end e =
     split (field 6 (must bad-number (aType types least)) image at) _ e λ k n₁ e₁ k₁.
@@ -65,16 +65,16 @@ word-of : (image : List ℕ) (at v next : ℕ) → field 16 anything image at �
 word-of image at v next e =
     let f : FieldRead 16 anything image at v next = field-got 16 anything image at v next e in le-leb v 65535 (omega (arith, f .is, fieldAt-lt image at 16))
 
-fact-fit : (types : List ℕ) → every (λ n. leb n 8) types ≡ true → (image : List ℕ) (at : ℕ) (f : Fact) (end : ℕ) → fact types image at ≡ Got f end → factFit f ≡ true
+fact-fit : (types : List ℕ) → every (λ n. leb n 8) types ≡ true → (image : List ℕ) (at : ℕ) (f : Fact) (end : ℕ) → fact finer types image at ≡ Got f end → factFit f ≡ true
 unfolding fact
 fact-fit types low image at f end e =
-    split (chunk types 1 image at) _ e λ c n₁ e₁ k₁.
+    split (chunk finer types 1 image at) _ e λ c n₁ e₁ k₁.
     split (field 16 anything image n₁) _ k₁ λ activation n₂ e₂ k₂.
     split (field 16 anything image n₂) _ k₂ λ latency n₃ e₃ k₃.
     let q : record { chunk = c; activation = activation; latency = latency } ≡ f = cc in
     rw (← q) (and-true (chunkFit c) (isWord latency) (chunk-fit types low 1 image at c n₁ e₁) (word-of image n₂ latency n₃ e₃))
 
-failure-fit : (image : List ℕ) (at : ℕ) (h : Header) (end : ℕ) → header image at ≡ Got h end → isWord (h .failure) ≡ true
+failure-fit : (image : List ℕ) (at : ℕ) (h : Header) (end : ℕ) → header finer image at ≡ Got h end → isWord (h .failure) ≡ true
 unfolding header
 failure-fit image at h end e =
     split (field 8 (must bad-number (between 1 1)) image at) _ e λ version n₁ e₁ k₁.
@@ -91,16 +91,16 @@ record Fit (m : Model) : Type 0 where
   opening-fits : every chunkFit (m .opening) ≡ true
   facts-fit : every factFit (m .facts) ≡ true
 
-fits-of : (image : List ℕ) (m : Model) (at : ℕ) → model image 0 ≡ Got m at → Fit m
+fits-of : (image : List ℕ) (m : Model) (at : ℕ) → model finer image 0 ≡ Got m at → Fit m
 unfolding model beginning contents
 fits-of image m at e =
-    split (beginning image 0) _ e λ b n₁ e₁ k₁.
-    split (contents (record { buffers = b .head .buffers; types = b .types }) (b .head .facts) (b .head .rules) image n₁) _ k₁ λ c n₂ e₂ k₂.
-    split (header image 0) _ e₁ λ h n₃ e₃ k₃.
-    split (slotCounts (h .declared) image n₃) _ k₃ λ counts n₄ e₄ k₄.
-    split (times (h .buffers) (chunk (0 ∷ counts) 0) image n₄) _ k₄ λ opening n₅ e₅ k₅.
-    split (times (b .head .facts) (fact (b .types)) image n₁) _ e₂ λ facts n₆ e₆ k₆.
-    split (times (b .head .rules) (rule (record { buffers = b .head .buffers; types = b .types })) image n₆) _ k₆ λ rules n₇ e₇ k₇.
+    split (beginning finer image 0) _ e λ b n₁ e₁ k₁.
+    split (contents finer (record { buffers = b .head .buffers; types = b .types }) (b .head .facts) (b .head .rules) image n₁) _ k₁ λ c n₂ e₂ k₂.
+    split (header finer image 0) _ e₁ λ h n₃ e₃ k₃.
+    split (slotCounts finer (h .declared) image n₃) _ k₃ λ counts n₄ e₄ k₄.
+    split (times (h .buffers) (chunk finer (0 ∷ counts) 0) image n₄) _ k₄ λ opening n₅ e₅ k₅.
+    split (times (b .head .facts) (fact finer (b .types)) image n₁) _ e₂ λ facts n₆ e₆ k₆.
+    split (times (b .head .rules) (rule finer (record { buffers = b .head .buffers; types = b .types })) image n₆) _ k₆ λ rules n₇ e₇ k₇.
     split (ending image n₇) _ k₇ λ u n₈ e₈ k₈.
     let c-is : record { facts = facts; rules = rules } ≡ c = cc in
     let b-is : record { head = h; types = 0 ∷ counts; opening = opening } ≡ b = cc in
@@ -110,8 +110,8 @@ fits-of image m at e =
     rw (← m-is, ← c-is, ← b-is)
     (record {
       failure-word = failure-fit image 0 h n₃ e₃;
-      opening-fits = times-all (chunk (0 ∷ counts) 0) chunkFit (chunk-fit (0 ∷ counts) low 0) (h .buffers) image n₄ opening n₅ e₅ .0;
-      facts-fit = times-all (fact (0 ∷ counts)) factFit (fact-fit (0 ∷ counts) low) (h .facts) image n₁ facts n₆ (rw (← b-is) at e₆) .0;
+      opening-fits = times-all (chunk finer (0 ∷ counts) 0) chunkFit (chunk-fit (0 ∷ counts) low 0) (h .buffers) image n₄ opening n₅ e₅ .0;
+      facts-fit = times-all (fact finer (0 ∷ counts)) factFit (fact-fit (0 ∷ counts) low) (h .facts) image n₁ facts n₆ (rw (← b-is) at e₆) .0;
     })
 
 -- ---- what a step makes of a buffer

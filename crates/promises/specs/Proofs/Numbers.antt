@@ -1,16 +1,16 @@
 -- The rows of document 01's table: which one an image and a table fall under, and what the calls answer there.
 use mathlib.Core.Path.{_≡_, refl, sym, ap, subst, _∙_}
-use mathlib.Core.Logic.{_↔_}
+use mathlib.Core.Logic.{_↔_, _⊎_, inl, inr, ⊎-elim}
 use mathlib.Core.Bool.{Bool, true, false, not}
-use mathlib.Core.List.{List, [], _++_}
+use mathlib.Core.List.{List, []}
 use Prim.Native.Nat.{ℕ, zero, suc, _*_, _^_, _≤_, _<_}
 use native.Mathlib.Omega.{arith}
-use borrow.Author.Tests.{lt-ltb, le-ltb, leb-true, leb-false, le-leb, lt-leb, eqb-true, eqb-false, eq-eqb, ne-eqb}
+use borrow.Author.Tests.{leb-true, leb-false, le-leb, lt-leb, eqb-true, eqb-false, eq-eqb, ne-eqb}
 use lib.Dec.{leb, eqb}
-use lib.ListN.{length, length-append}
+use lib.ListN.{length}
 use Rattle.meaning.specs.declared.State.{State}
 use Rattle.meaning.specs.Base.{if_then_else_}
-use Rattle.meaning.specs.Numbers.{all-done, too-long, not-there, bad-number, bad-end, wrong-table, ill-formed, bad-mark}
+use Rattle.meaning.specs.Numbers.{finer, all-done, too-long, wrong-table, ill-formed, bad-mark}
 use Rattle.meaning.specs.Model.{Model}
 use Rattle.meaning.specs.State.{zeroState, wellFormed}
 use Rattle.meaning.specs.Read.{Read, Refused, Got}
@@ -19,12 +19,14 @@ use Rattle.meaning.specs.Match.{freshTable}
 use Rattle.meaning.specs.Refresh.{refresh, refreshCount}
 use Rattle.meaning.specs.Step.{Step, Stopped, Made, stepOf}
 use Rattle.meaning.specs.Run.{Going, going, Timed, Run, ends, goOn, runFrom}
-use Rattle.meaning.specs.Calls.{accepted, tableLength, openState, openedBy, openOf, tracedBy, traceOf, ranBy, runOf, Refreshed, refreshedBy, refreshOf}
+use Rattle.meaning.specs.Calls.{accepted, placeOf, neededOf, openState, openedBy, openOf, tracedBy, traceOf, ranBy, runOf, Refreshed, refreshedBy, refreshOf}
 use Rattle.laws.specs.BaseLaws.{by-lt}
-use Rattle.laws.specs.ReadLaws.{no-got}
-use Rattle.promises.specs.Sentences.{Stops, missing, broken, unended, Unread, over, lacking, against, trailing, Taken, Given, unread, unfit, taken, GivenBare, refused, read}
-use Rattle.promises.specs.Sentences.{AfterOpen, AfterRefresh, ill, high, renewed, stale, late-fire, late-wait, quiet, Steps, none-made, then-made, EndsBy, enough, before-that, AfterRun, unwell, went, RanTo}
-use Rattle.promises.specs.Proofs.Reading.{Onward, wants, stuck, ended, model-whole}
+use Rattle.promises.specs.Sentences.{of-a-variable, Stops, missing, broken, unbound, unended, Beforehand, Unread, over, lacking, against, trailing, Taken}
+use Rattle.promises.specs.Sentences.{Given, unread, unfit, taken, GivenBare, refused, read}
+use Rattle.promises.specs.Sentences.{AfterOpen, AfterRefresh, ill, high, renewed, stale, late-fire, late-wait, quiet}
+use Rattle.promises.specs.Sentences.{Steps, none-made, then-made, EndsBy, enough, before-that, AfterRun, unwell, went, RanTo}
+use Rattle.promises.specs.Proofs.Reading.{above, rule-range}
+use Rattle.promises.specs.Proofs.Placed.{decode-long, decode-short, decode-got, model-stops}
 use Rattle.promises.specs.Proofs.Stopping.{stopped-why, why-stopped}
 
 -- ---- an image
@@ -33,69 +35,54 @@ same-refusal : (a x b y : ℕ) → _≡_ {A = Read Model} (Refused a x) (Refused
 same-refusal a x b y e = cc
 
 module _ (image : List ℕ) where
-  pub decode-long : 65536 < length image → decode image ≡ Refused too-long 0
-  unfolding decode
-  decode-long h = rw (lt-ltb 65536 (length image) h) refl
-
-  pub decode-short : length image ≤ 65536 → decode image ≡ model image 0
-  unfolding decode
-  decode-short h = rw (le-ltb 65536 (length image) h) refl
-
-  -- an image that is accepted is not too long, and its fields read so
-  pub decode-got : (m : Model) (end : ℕ) → decode image ≡ Got m end → (length image ≤ 65536) × (model image 0 ≡ Got m end)
-  decode-got m end d =
-      by-lt 65536 (length image) (λ h. absurd (no-got too-long 0 m end (sym (decode-long h) ∙ d))) (λ h. (h, sym (decode-short h) ∙ d))
-
-  pub reading-stops : (n at : ℕ) → model image 0 ≡ Refused n at → Stops image at n
-  reading-stops n at e = model-whole .stops image 0 n at (omega arith) e
-
   -- an image is refused exactly by its row
-  stopped-unread : (n at : ℕ) → length image ≤ 65536 → model image 0 ≡ Refused n at → Stops image at n → Unread image n
+  stopped-unread : (n at : ℕ) → length image ≤ 65536 → model finer image 0 ≡ Refused n at → Stops image at n → Unread image n
   stopped-unread n at h e (missing w a b c) = lacking h e
-  stopped-unread n at h e (broken w a b) = against h e
+  stopped-unread n at h e (broken w a b c k) = against h e k
+  stopped-unread n at h e (unbound a) = against h e of-a-variable
   stopped-unread n at h e (unended x a b) = trailing h e
 
   pub refused-unread : (n at : ℕ) → decode image ≡ Refused n at → Unread image n
   refused-unread n at d =
       by-lt 65536 (length image)
-      (λ h. let q : too-long ≡ n = same-refusal too-long 0 n at (sym (decode-long h) ∙ d) in subst (Unread image) q (over h))
-      (λ h. let e : model image 0 ≡ Refused n at = sym (decode-short h) ∙ d in stopped-unread n at h e (reading-stops n at e))
+      (λ h. let q : too-long ≡ n = same-refusal too-long 0 n at (sym (decode-long image h) ∙ d) in subst (Unread image) q (over h))
+      (λ h. let e : model finer image 0 ≡ Refused n at = sym (decode-short image h) ∙ d in stopped-unread n at h e (model-stops image n at e))
 
   pub unread-refused : {n : ℕ} → Unread image n → (at : ℕ) × (decode image ≡ Refused n at)
-  unread-refused (over h) = (0, decode-long h)
-  unread-refused (lacking {at} h e) = (at, decode-short h ∙ e)
-  unread-refused (against {at} h e) = (at, decode-short h ∙ e)
-  unread-refused (trailing {at} h e) = (at, decode-short h ∙ e)
+  unread-refused (over h) = (0, decode-long image h)
+  unread-refused (lacking {at} h e) = (at, decode-short image h ∙ e)
+  unread-refused (against {at} h e k) = (at, decode-short image h ∙ e)
+  unread-refused (trailing {at} h e) = (at, decode-short image h ∙ e)
 
-  -- by 1 to 4
-  pub unread-range : {n : ℕ} → Unread image n → (0 < n) × (n < 5)
-  unread-range (over h) = (omega arith, omega arith)
-  unread-range (lacking h e) = (omega arith, omega arith)
-  unread-range (against h e) = (omega arith, omega arith)
-  unread-range (trailing h e) = (omega arith, omega arith)
+  -- by 1 to 4, or 11 to 13
+  pub unread-range : {n : ℕ} → Unread image n → (0 < n) × ((n < 5) ⊎ ((10 < n) × (n < 14)))
+  unread-range (over h) = (omega arith, inl (omega arith))
+  unread-range (lacking h e) = (omega arith, inl (omega arith))
+  unread-range (against {at} {n} h e k) = (omega (arith, above k), ⊎-elim (λ (q : n ≡ 3). inl (omega arith)) (λ (q : (10 < n) × (n < 14)). inr q) (rule-range k))
+  unread-range (trailing h e) = (omega arith, inl (omega arith))
 
   -- a call without a table that refuses by the number of what was refused, and answers otherwise by `after`, answers by its rows
   module _ (answers : Read Model → ℕ) (after : Model → ℕ → Type 0) (refuses : (n at : ℕ) → answers (Refused n at) ≡ n)
       (goes : (m : Model) (end : ℕ) → decode image ≡ Got m end → (n : ℕ) → (answers (Got m end) ≡ n) ↔ after m n) where
     bare-by : (n : ℕ) (r : Read Model) → decode image ≡ r → answers r ≡ n → GivenBare image after n
     bare-by n (Refused k at) d e = subst (GivenBare image after) (sym (refuses k at) ∙ e) (refused (refused-unread k at d))
-    bare-by n (Got m end) d e = let g = decode-got m end d in read (g .0) (g .1) (goes m end d n .0 e)
+    bare-by n (Got m end) d e = let g = decode-got image m end d in read (g .0) (g .1) (goes m end d n .0 e)
 
     by-bare : (n : ℕ) → GivenBare image after n → answers (decode image) ≡ n
     by-bare n (refused u) = let d = unread-refused u in ap answers (d .1) ∙ refuses n (d .0)
-    by-bare n (read {m} {end} h e a) = let d : decode image ≡ Got m end = decode-short h ∙ e in ap answers d ∙ goes m end d n .1 a
+    by-bare n (read {m} {end} h e a) = let d : decode image ≡ Got m end = decode-short image h ∙ e in ap answers d ∙ goes m end d n .1 a
 
     pub exactly-bare : (n : ℕ) → (answers (decode image) ≡ n) ↔ GivenBare image after n
     exactly-bare n = (bare-by n (decode image) refl, by-bare n)
 
 -- ---- the words of a table
 
-pub length-accepted : (image : List ℕ) (m : Model) (end : ℕ) → decode image ≡ Got m end → tableLength image ≡ 9 * length (m .rules)
-unfolding tableLength
+pub length-accepted : (image : List ℕ) (m : Model) (end : ℕ) → decode image ≡ Got m end → neededOf image ≡ record { number = 0; position = 0; words = 9 * length (m .rules) }
+unfolding neededOf
 length-accepted image m end d = rw d refl
 
-pub length-refused : (image : List ℕ) (n at : ℕ) → decode image ≡ Refused n at → tableLength image ≡ 0
-unfolding tableLength
+pub length-refused : (image : List ℕ) (n at : ℕ) → decode image ≡ Refused n at → neededOf image ≡ record { number = n; position = at; words = 0 }
+unfolding neededOf
 length-refused image n at d = rw d refl
 
 pub accepted-taken : (image table : List ℕ) (m : Model) (end : ℕ) → decode image ≡ Got m end → length table ≡ 9 * length (m .rules) → Taken image table m
@@ -108,11 +95,11 @@ module _ (image table : List ℕ) where
   unfolding accepted
   taken-accepted {m} t = rw (decode-short image (t .short), t .reads, eq-eqb (length table) (9 * length (m .rules)) (t .fits)) refl
 
-  refused-accepted : (n at : ℕ) → decode image ≡ Refused n at → accepted image table ≡ Refused n at
+  pub refused-accepted : (n at : ℕ) → decode image ≡ Refused n at → accepted image table ≡ Refused n at
   unfolding accepted
   refused-accepted n at d = rw d refl
 
-  unfit-accepted : (m : Model) (end : ℕ) → length image ≤ 65536 → model image 0 ≡ Got m end → (length table ≡ 9 * length (m .rules) → ⊥) → accepted image table ≡ Refused wrong-table 0
+  pub unfit-accepted : (m : Model) (end : ℕ) → length image ≤ 65536 → model finer image 0 ≡ Got m end → (length table ≡ 9 * length (m .rules) → ⊥) → accepted image table ≡ Refused wrong-table 0
   unfolding accepted
   unfit-accepted m end h e l = rw (decode-short image h, e, ne-eqb (length table) (9 * length (m .rules)) l) refl
 
@@ -166,7 +153,7 @@ module _ (image table : List ℕ) where
   unfolding openOf
   open-number n = exactly (λ r. openedBy table r .number) AfterOpen (λ k at. refl) (λ m end k. (λ e. sym e, λ e. sym e)) n
 
-  pub open-taken : (m : Model) → Taken image table m → openOf image table ≡ record { number = 0; state = openState m; table = freshTable (m .rules) (openState m) }
+  pub open-taken : (m : Model) → Taken image table m → openOf image table ≡ record { number = 0; position = 0; state = openState m; table = freshTable (m .rules) (openState m) }
   unfolding openOf
   open-taken m t = rw (taken-accepted t) refl
 
@@ -176,9 +163,9 @@ module _ (image table : List ℕ) where
     -- by whether the state is well formed, and the mark too large
     abbrev refreshed : Model → Bool → Bool → Refreshed
     refreshed m t u =
-        if not t then record { number = ill-formed; count = 0; table = table }
-        else (if u then record { number = bad-mark; count = 0; table = table }
-        else record { number = all-done; count = refreshCount (m .rules) mark; table = refresh (m .rules) s mark table })
+        if not t then record { number = ill-formed; position = 0; count = 0; table = table }
+        else (if u then record { number = bad-mark; position = 0; count = 0; table = table }
+        else record { number = all-done; position = 0; count = refreshCount (m .rules) mark; table = refresh (m .rules) s mark table })
 
     refresh-row : (m : Model) (end n : ℕ) → (refreshedBy s mark table (Got m end) .number ≡ n) ↔ AfterRefresh s mark m n
     refresh-row m end n = (there (wellFormed m s) (leb (2 ^ m .buffers) mark) refl refl, back)
@@ -211,23 +198,23 @@ module _ (image table : List ℕ) where
     refresh-refused h = refused-by (accepted image table) h
 
     pub refresh-taken : (m : Model) → Taken image table m → wellFormed m s ≡ true → mark < 2 ^ m .buffers
-        → refreshOf image s mark table ≡ record { number = 0; count = refreshCount (m .rules) mark; table = refresh (m .rules) s mark table }
+        → refreshOf image s mark table ≡ record { number = 0; position = 0; count = refreshCount (m .rules) mark; table = refresh (m .rules) s mark table }
     unfolding refreshOf
     refresh-taken m t w l = rw (taken-accepted t, w, lt-leb (2 ^ m .buffers) mark l) refl
 
 -- ---- run
 
-run-left : (m : Model) (n : ℕ) (g : Going) → let r : Run Going = runFrom m n g in RanTo m (g .state) (g .table) n (r .events) (ranBy r)
+run-left : (m : Model) (n : ℕ) (g : Going) → let r : Run Going = runFrom m n g in RanTo m (g .state) (g .table) n (r .events) (ranBy 0 r)
 unfolding runFrom
-run-left m zero g = record { steps = none-made; counted = refl; ended = enough refl }
+run-left m zero g = record { steps = none-made; counted = refl; unplaced = refl; ended = enough refl }
 run-left m (suc n) g = by (λ g′. run-left m n g′) (stepOf m (g .state) (g .table)) refl
   where
-    by : ((g′ : Going) → RanTo m (g′ .state) (g′ .table) n (runFrom m n g′ .events) (ranBy (runFrom m n g′))) → (st : Step) → stepOf m (g .state) (g .table) ≡ st
-        → let r : Run Going = goOn m g (λ g′. runFrom m n g′) st in RanTo m (g .state) (g .table) (suc n) (r .events) (ranBy r)
-    by ih (Stopped k) q = record { steps = none-made; counted = refl; ended = before-that (omega arith) (stopped-why m (g .state) (g .table) k q) }
+    by : ((g′ : Going) → RanTo m (g′ .state) (g′ .table) n (runFrom m n g′ .events) (ranBy 0 (runFrom m n g′))) → (st : Step) → stepOf m (g .state) (g .table) ≡ st
+        → let r : Run Going = goOn m g (λ g′. runFrom m n g′) st in RanTo m (g .state) (g .table) (suc n) (r .events) (ranBy 0 r)
+    by ih (Stopped k) q = record { steps = none-made; counted = refl; unplaced = refl; ended = before-that (omega arith) (stopped-why m (g .state) (g .table) k q) }
     by ih (Made e s′ mark) q =
         let r = ih (going s′ (refresh (m .rules) s′ mark (g .table))) in
-        record { steps = then-made q (r .steps); counted = refl; ended = longer (r .ended) }
+        record { steps = then-made q (r .steps); counted = refl; unplaced = refl; ended = longer (r .ended) }
       where
         longer : {k number : ℕ} {x : State} {t : List ℕ} → EndsBy m n k x t number → EndsBy m (suc n) (suc k) x t number
         longer (enough p) = enough (ap suc p)
@@ -269,99 +256,57 @@ module _ (image table : List ℕ) (s : State) (asked : ℕ) where
   unfolding runOf traceOf
   run-taken m t w = rw (taken-accepted image table t, w) (run-left m asked (going s table))
 
-  -- a run that went does not end by 1 to 6
-  ends-late : (m : Model) {n made : ℕ} {x : State} {t : List ℕ} → EndsBy m asked made x t n → 0 < n → n < 7 → ⊥
-  ends-late m (enough e) a b = omega arith
-  ends-late m (before-that l (stale o d)) a b = omega arith
-  ends-late m (before-that l (late-fire o d e)) a b = omega arith
-  ends-late m (before-that l (late-wait o d e)) a b = omega arith
-  ends-late m (before-that l (quiet o d)) a b = omega arith
+  -- a run that went ends by 0, 7, 8 or 9
+  ends-late : (m : Model) {n made : ℕ} {x : State} {t : List ℕ} → EndsBy m asked made x t n → Beforehand n → ⊥
+  ends-late m (enough e) b = omega (arith, b .0)
+  ends-late m (before-that l (stale o d)) b = ⊎-elim (λ (h : 7 < 7). omega arith) (λ (h : 9 < 7). omega arith) (b .1)
+  ends-late m (before-that l (late-fire o d e)) b = ⊎-elim (λ (h : 8 < 7). omega arith) (λ (h : 9 < 8). omega arith) (b .1)
+  ends-late m (before-that l (late-wait o d e)) b = ⊎-elim (λ (h : 8 < 7). omega arith) (λ (h : 9 < 8). omega arith) (b .1)
+  ends-late m (before-that l (quiet o d)) b = ⊎-elim (λ (h : 9 < 7). omega arith) (λ (h : 9 < 9). omega arith) (b .1)
 
-  refused-left : (r : Read Model) → let t : Run Going = tracedBy (going s table) asked r in 0 < t .number → t .number < 7 → t ≡ ends (t .number) (going s table)
-  refused-left (Refused n at) a b = refl
-  refused-left (Got m at) a b = by (wellFormed m s) a b
+  refused-left : (r : Read Model) → let t : Run Going = tracedBy (going s table) asked r in Beforehand (t .number) → t ≡ ends (t .number) (going s table)
+  refused-left (Refused n at) b = refl
+  refused-left (Got m at) b = by (wellFormed m s) b
     where
-      by : (t : Bool) → 0 < traced m t .number → traced m t .number < 7 → traced m t ≡ ends (traced m t .number) (going s table)
-      by true a b = absurd (ends-late m (run-left m asked (going s table) .ended) a b)
-      by false a b = refl
+      by : (t : Bool) → Beforehand (traced m t .number) → traced m t ≡ ends (traced m t .number) (going s table)
+      by true b = absurd (ends-late m (run-left m asked (going s table) .ended) b)
+      by false b = refl
 
-  pub run-refused : 0 < runOf image s table asked .number → runOf image s table asked .number < 7
-      → runOf image s table asked ≡ record { number = runOf image s table asked .number; state = s; table = table; made = 0 }
+  pub run-refused : Beforehand (runOf image s table asked .number)
+      → runOf image s table asked ≡ record { number = runOf image s table asked .number; position = runOf image s table asked .position; state = s; table = table; made = 0 }
   unfolding runOf traceOf
-  run-refused a b = ap ranBy (refused-left (accepted image table) a b)
+  run-refused b = ap (ranBy (placeOf (accepted image table))) (refused-left (accepted image table) b)
 
-  pub trace-refused : 0 < runOf image s table asked .number → runOf image s table asked .number < 7 → traceOf image s table asked .events ≡ []
+  pub trace-refused : Beforehand (runOf image s table asked .number) → traceOf image s table asked .events ≡ []
   unfolding runOf traceOf
-  trace-refused a b = ap (λ (r : Run Going). r .events) (refused-left (accepted image table) a b)
+  trace-refused b = ap (λ (r : Run Going). r .events) (refused-left (accepted image table) b)
 
--- ---- no number is larger than 10
+-- ---- no number is larger than 13
 
-given-small : (image table : List ℕ) (after : Model → ℕ → Type 0) → ((m : Model) (n : ℕ) → after m n → n < 11) → (n : ℕ) → Given image table after n → n < 11
-given-small image table after h n (unread u) = omega (arith, unread-range image u .1)
+given-small : (image table : List ℕ) (after : Model → ℕ → Type 0) → ((m : Model) (n : ℕ) → after m n → n < 14) → (n : ℕ) → Given image table after n → n < 14
+given-small image table after h n (unread u) = ⊎-elim (λ (l : n < 5). omega arith) (λ (l : (10 < n) × (n < 14)). l .1) (unread-range image u .1)
 given-small image table after h n (unfit l e f) = omega arith
 given-small image table after h n (taken {m} t a) = h m n a
 
-pub open-small : (image table : List ℕ) → openOf image table .number < 11
+pub open-small : (image table : List ℕ) → openOf image table .number < 14
 open-small image table = given-small image table AfterOpen (λ m n e. omega arith) (openOf image table .number) (open-number image table (openOf image table .number) .0 refl)
 
-pub refresh-small : (image table : List ℕ) (s : State) (mark : ℕ) → refreshOf image s mark table .number < 11
+pub refresh-small : (image table : List ℕ) (s : State) (mark : ℕ) → refreshOf image s mark table .number < 14
 refresh-small image table s mark =
     given-small image table (AfterRefresh s mark) by (refreshOf image s mark table .number) (refresh-number image table s mark (refreshOf image s mark table .number) .0 refl)
   where
-    by : (m : Model) (n : ℕ) → AfterRefresh s mark m n → n < 11
+    by : (m : Model) (n : ℕ) → AfterRefresh s mark m n → n < 14
     by m n (ill w) = omega arith
     by m n (high w l) = omega arith
     by m n (renewed w l) = omega arith
 
-pub run-small : (image table : List ℕ) (s : State) (asked : ℕ) → runOf image s table asked .number < 11
+pub run-small : (image table : List ℕ) (s : State) (asked : ℕ) → runOf image s table asked .number < 14
 run-small image table s asked = given-small image table (AfterRun s table asked) by (runOf image s table asked .number) (run-number image table s asked (runOf image s table asked .number) .0 refl)
   where
-    by : (m : Model) (n : ℕ) → AfterRun s table asked m n → n < 11
+    by : (m : Model) (n : ℕ) → AfterRun s table asked m n → n < 14
     by m n (unwell w) = omega arith
     by m n (went w p (enough e)) = omega arith
     by m n (went w p (before-that l (stale o d))) = omega arith
     by m n (went w p (before-that l (late-fire o d e))) = omega arith
     by m n (went w p (before-that l (late-wait o d e))) = omega arith
     by m n (went w p (before-that l (quiet o d))) = omega arith
-
--- ---- what follows an image
-
--- a beginning of an accepted image lacks a field
-pub cut-short : (image rest : List ℕ) → 0 < length rest → (m : Model) (end : ℕ) → decode (image ++ rest) ≡ Got m end → (at : ℕ) × (decode image ≡ Refused not-there at)
-cut-short image rest something m end d = by (model-whole .onward image rest 0 (omega arith) something)
-  where
-    whole : (length (image ++ rest) ≤ 65536) × (model (image ++ rest) 0 ≡ Got m end)
-    whole = decode-got (image ++ rest) m end d
-
-    short : length image ≤ 65536
-    short = omega (arith, whole .0, length-append image rest)
-
-    by : Onward model image rest 0 → (at : ℕ) × (decode image ≡ Refused not-there at)
-    by (wants x t) = (x, decode-short image short ∙ t)
-    by (stuck x t u) = absurd (no-got bad-number x m end (sym u ∙ whole .1))
-    by (ended f t) = absurd (no-got bad-end 0 m end (sym t ∙ whole .1))
-
-module _ (image rest : List ℕ) (something : 0 < length rest) (short : length (image ++ rest) ≤ 65536) where
-  shorter : length image ≤ 65536
-  shorter = omega (arith, length-append image rest)
-
-  goes-on : Onward model image rest 0
-  goes-on = model-whole .onward image rest 0 (omega arith) something
-
-  -- an accepted image is refused by 4 if anything follows
-  pub accepted-longer : (m : Model) (end : ℕ) → decode image ≡ Got m end → decode (image ++ rest) ≡ Refused bad-end 0
-  accepted-longer m end d = by goes-on (sym (decode-short image shorter) ∙ d)
-    where
-      by : Onward model image rest 0 → model image 0 ≡ Got m end → decode (image ++ rest) ≡ Refused bad-end 0
-      by (wants x t) e = absurd (no-got not-there x m end (sym t ∙ e))
-      by (stuck x t u) e = absurd (no-got bad-number x m end (sym t ∙ e))
-      by (ended f t) e = decode-short (image ++ rest) short ∙ t
-
-  -- an image that is refused by 3 is refused by 3 there whatever follows
-  pub broken-longer : (at : ℕ) → decode image ≡ Refused bad-number at → decode (image ++ rest) ≡ Refused bad-number at
-  broken-longer at d = by goes-on (sym (decode-short image shorter) ∙ d)
-    where
-      by : Onward model image rest 0 → model image 0 ≡ Refused bad-number at → decode (image ++ rest) ≡ Refused bad-number at
-      by (wants x t) e = let z : _≡_ {A = ℕ} 2 3 = cc in absurd (omega arith)
-      by (stuck x t u) e = decode-short (image ++ rest) short ∙ u ∙ cc
-      by (ended f t) e = absurd (f at e)

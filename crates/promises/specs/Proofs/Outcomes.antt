@@ -103,7 +103,7 @@ freshly m s = going s (freshTable (m .rules) s)
 -- what is promised of a run: of its answer,
 -- and of its events in their order
 abbrev Goes : Model → State → ℕ → Run Going → Type 0
-Goes m s asked r = RanOn m s asked (r .events) (ranBy r)
+Goes m s asked r = RanOn m s asked (r .events) (ranBy 0 r)
 
 one-more : (m : Model) (s s′ : State) (e : Event) (n : ℕ) (r : Run Going) → Transition m s e s′ → s′ .clock ≤ largest → Goes m s′ n r
     → Goes m s (suc n) (before (record { clock = s′ .clock; event = e }) r)
@@ -150,7 +150,8 @@ pub fresh-runs : (image : List ℕ) (m : Model) (at : ℕ) → decode image ≡ 
     → RanOn m s steps (traceOf image s (freshTable (m .rules) s) steps .events) (runOf image s (freshTable (m .rules) s) steps)
 unfolding runOf
 fresh-runs image m at d s w steps =
-    subst (λ (r : Run Going). Goes m s steps r) (sym (fresh-traced image m at d s steps w)) (run-goes m (decoded image m at d) steps s)
+    let g = subst (λ (r : Run Going). Goes m s steps r) (sym (fresh-traced image m at d s steps w)) (run-goes m (decoded image m at d) steps s) in
+    record { path = g .path; counted = g .counted; ended = g .ended; fresh = g .fresh }
 
 pub chain-runs : (image : List ℕ) (m : Model) (at : ℕ) → decode image ≡ Got m at → {s : State} {table : List ℕ} → Reached image s table
     → (steps : ℕ) → RanOn m s steps (traceOf image s table steps .events) (runOf image s table steps)

@@ -1,390 +1,401 @@
--- How the reading of an image stops, and what bytes that follow change of it: for each reader, by the readers that it is made of.
+-- How the reading of an image goes and where it stops, whatever follows the bits that it has read: said of a field, kept by reading one thing after the other, and so
+-- of all fields of an image.
 use mathlib.Core.Path.{_≡_, refl, sym, ap, ap₂, _∙_}
 use mathlib.Core.Logic.{_⊎_, inl, inr, ⊎-elim}
-use mathlib.Core.Bool.{Bool, true, false, _&&_, _||_, not}
-use mathlib.Core.List.{List, [], _∷_, _++_}
-use Prim.Native.Nat.{ℕ, zero, suc, _+_, _-_, _*_, _/_, _%_, _^_, _≤_, _<_}
+use mathlib.Core.Bool.{Bool, true, false}
+use mathlib.Core.List.{List}
+use Prim.Native.Nat.{ℕ, zero, suc, _+_, _*_, _≤_, _<_}
 use native.Mathlib.Omega.{arith}
-use borrow.Author.Tests.{ltb-true, ltb-false, lt-ltb, le-ltb, eqb-false, ne-eqb}
-use lib.Dec.{ltb, leb, eqb}
-use lib.ListN.{length, length-append, List·getD-append}
+use lib.ListN.{length}
 use Rattle.meaning.specs.Base.{if_then_else_, every, upFrom}
-use Rattle.meaning.specs.Numbers.{not-there, bad-number, bad-mask, bad-variable, bad-buffer, bad-end}
-use Rattle.meaning.specs.Model.{Sizes, Test}
-use Rattle.meaning.specs.State.{slotCount}
-use Rattle.meaning.specs.Bits.{bitAt, fieldAt}
-use Rattle.meaning.specs.Read.{Read, Refused, Got, Reader, follow, andThen, next, give, Judgement, must, _also_, judged, field, require, times, rising}
-use Rattle.meaning.specs.Image.{between, aType, aBuffer, aMask, aTerm, anything, header, slotCounts, chunk, fact, slotsIn, terms, masked}
-use Rattle.meaning.specs.Image.{Head, head, test, tests, standsIn, isTested, testedType, kindRule, deed, action, actions, body, rule}
-use Rattle.meaning.specs.Image.{padding, ending, beginning, contents, model}
-use Rattle.laws.specs.BaseLaws.{by-lt}
-use Rattle.laws.specs.ReadLaws.{no-got, field-got, split}
-use Rattle.promises.specs.Sentences.{Stops, missing, broken, unended}
+use Rattle.meaning.specs.Numbers.{finer, not-there, bad-number, bad-end, bad-mask, bad-variable, bad-buffer}
+use Rattle.meaning.specs.Model.{Model, Sizes, Rule, Action, Test, Fact}
+use Rattle.meaning.specs.Bits.{fieldAt}
+use Rattle.meaning.specs.Read.{Read, Refused, Got, Reader, follow, andThen, give, Judgement, next, orElse, field, require, times}
+use Rattle.meaning.specs.Image.{utilityOf, Head, tests, standsIn, actions, body, fact, rule, ending, Beginning, Contents, contents, model}
+use Rattle.laws.specs.ReadLaws.{no-got, split, field-short, field-broken, field-kept, field-got, field-refused}
+use Rattle.laws.specs.FieldLaws.{FieldRule, free, of-number, of-mask, of-variable, of-buffer, both, judgement, allFields, all-each, times-each, fact-each, rule-each, beginning-each, EachField}
+use Rattle.laws.specs.PlaceLaws.{Within, give-within, then-within, field-within, body-within, endsWell, endedBy}
+use Rattle.promises.specs.Sentences.{BrokenRule, of-a-number, of-a-mask, of-a-variable, of-a-buffer}
+use Rattle.promises.specs.Places.{HasPlace, of-a-gap, of-a-rule, ComesTo, into, past, BeginsAs}
 
--- ---- a field of an image that goes on is the same field
+-- ---- which numbers have a place
 
-bit-more : (image rest : List ℕ) (at : ℕ) → at < 8 * length image → bitAt (image ++ rest) at ≡ bitAt image at
-bit-more image rest at h = ap (λ (byte : ℕ). byte / 2 ^ (7 - at % 8) % 2) (List·getD-append image rest 0 (at / 8) (omega arith))
+pub above : {n : ℕ} → BrokenRule n → 2 < n
+above of-a-number = omega arith
+above of-a-mask = omega arith
+above of-a-variable = omega arith
+above of-a-buffer = omega arith
 
-field-more : (image rest : List ℕ) (at width : ℕ) → at + width ≤ 8 * length image → fieldAt (image ++ rest) at width ≡ fieldAt image at width
+-- 3, or 11 to 13
+pub rule-range : {n : ℕ} → BrokenRule n → (n ≡ 3) ⊎ ((10 < n) × (n < 14))
+rule-range of-a-number = inl refl
+rule-range of-a-mask = inr (omega arith, omega arith)
+rule-range of-a-variable = inr (omega arith, omega arith)
+rule-range of-a-buffer = inr (omega arith, omega arith)
+
+-- none of 0, 1, and 4 to 10
+pub no-place : (n : ℕ) → (n < 2) ⊎ ((3 < n) × (n < 11)) → HasPlace n → ⊥
+no-place n h of-a-gap = by h
+  where
+    by : (_<_ 2 2) ⊎ ((_<_ 3 2) × (_<_ 2 11)) → ⊥
+    by (inl k) = omega arith
+    by (inr k) = omega (arith, k .0)
+no-place n h (of-a-rule r) = by h (rule-range r)
+  where
+    by : (n < 2) ⊎ ((3 < n) × (n < 11)) → (n ≡ 3) ⊎ ((10 < n) × (n < 14)) → ⊥
+    by (inl k) (inl e) = omega arith
+    by (inl k) (inr e) = omega (arith, e .0)
+    by (inr k) (inl e) = omega (arith, k .0)
+    by (inr k) (inr e) = omega (arith, k .1, e .0)
+
+-- ---- images that begin alike
+
+pub begins-less : {image image′ : List ℕ} {at : ℕ} → BeginsAs image at image′ → (less : ℕ) → less ≤ at → BeginsAs image less image′
+begins-less b less h = record { reaches = omega arith; same = λ p k. b .same p (omega arith) }
+
+-- a field within the bits that are the same is the same field
+pub field-same : (image image′ : List ℕ) (at width : ℕ) → BeginsAs image (at + width) image′ → fieldAt image′ at width ≡ fieldAt image at width
 unfolding fieldAt
-field-more image rest at zero h = refl
-field-more image rest at (suc width) h =
-    ap₂ (λ (x y : ℕ). x * 2 + y) (field-more image rest at width (omega arith)) (bit-more image rest (at + width) (omega arith))
-
-longer : (image rest : List ℕ) → length image ≤ length (image ++ rest)
-longer image rest = omega (arith, length-append image rest)
+field-same image image′ at zero b = refl
+field-same image image′ at (suc width) b =
+    ap₂ (λ (x y : ℕ). x * 2 + y) (field-same image image′ at width (begins-less b (at + width) (omega arith))) (b .same (at + width) (omega arith))
 
 -- ---- what is known of a reader
 
--- reading stops before it comes to the end
-abbrev Early : List ℕ → ℕ → ℕ → Type 0
-Early image x n = Stops image x n × (n < bad-end)
+-- nothing is refused for a field, nor does reading end, before a bit
+abbrev pub After : {A : Type 0} → ℕ → Read A → Type 0
+After y (Refused n x) = HasPlace n → y ≤ x
+After y (Got a next) = y ≤ next
 
-pub record Reads {A : Type 0} (p : Reader A) : Type 0 where
-  -- it stays within the image
-  pub within : (image : List ℕ) (at : ℕ) (a : A) (next : ℕ) → at ≤ 8 * length image → p image at ≡ Got a next → next ≤ 8 * length image
-  -- it stops for one of two reasons, before the end
-  pub stops : (image : List ℕ) (at n x : ℕ) → at ≤ 8 * length image → p image at ≡ Refused n x → Early image x n
-  -- unless a field is not wholly there, bytes that follow change nothing
-  pub more : (image rest : List ℕ) (at : ℕ) → ((x : ℕ) × (p image at ≡ Refused not-there x)) ⊎ (p (image ++ rest) at ≡ p image at)
+-- whatever follows the bits before x, a reader that begins at `from` comes to x and takes a field there
+pub record Takes (A : Type 0) (p : Reader A) (image : List ℕ) (from x width : ℕ) (rule : Judgement) : Type 0 where
+  pub short : (image′ : List ℕ) → BeginsAs image x image′ → 8 * length image′ < x + width → p image′ from ≡ Refused not-there x
+  pub broken : (image′ : List ℕ) → BeginsAs image x image′ → x + width ≤ 8 * length image′ → (n : ℕ) → rule (fieldAt image′ x width) ≡ suc n → p image′ from ≡ Refused (suc n) x
+  pub kept : (image′ : List ℕ) → BeginsAs image x image′ → x + width ≤ 8 * length image′ → rule (fieldAt image′ x width) ≡ 0 → After (x + width) (p image′ from)
 
-give-reads : {A : Type 0} (a : A) → Reads (give a)
-give-reads a =
+-- why a field is refused
+pub data Cause (image : List ℕ) (x width : ℕ) (rule : Judgement) : ℕ → Type 0 where
+  lacks : 8 * length image < x + width → Cause image x width rule not-there
+  breaks : {n : ℕ} → x + width ≤ 8 * length image → BrokenRule n → rule (fieldAt image x width) ≡ n → Cause image x width rule n
+
+-- a rule whose tests begin at b and end at x, and of which a variable stands in none of them
+pub record Unbound (image : List ℕ) (z : Sizes) (h : Head) (b x : ℕ) : Type 0 where
+  pub ts : List Test
+  pub read : tests finer z (h .variables) (h .tests) image b ≡ Got ts x
+  pub none : every (standsIn ts) (upFrom 0 (h .variables)) ≡ false
+
+-- where a reader stops, to which reading comes: at a field; or between two, where the tests of a rule end
+pub data Stop (A : Type 0) (p : Reader A) (image : List ℕ) (from : ℕ) : ℕ → ℕ → Type 1 where
+  at-field : {n x : ℕ} (width : ℕ) (rule : Judgement) → (ComesTo image A p from → ComesTo image ℕ (field width rule) x) → 0 < width → width ≤ 16
+      → Takes A p image from x width rule → Cause image x width rule n → Stop A p image from n x
+  at-tests : {x : ℕ} (z : Sizes) (h : Head) (b : ℕ) → (ComesTo image A p from → ComesTo image Rule (body finer z h) b) → Unbound image z h b x
+      → ((image′ : List ℕ) → BeginsAs image x image′ → p image′ from ≡ Refused bad-variable x) → Stop A p image from bad-variable x
+
+-- no reader goes back
+abbrev Forward : (A : Type 0) → Reader A → Type 0
+Forward A p = (image : List ℕ) (at : ℕ) → at ≤ 8 * length image → After at (p image at)
+
+-- what is known of every reader, one that comes to the image's end too
+pub record Ends (A : Type 0) (p : Reader A) : Type 1 where
+  pub forward : Forward A p
+  pub stops : (image : List ℕ) (at n x : ℕ) → at ≤ 8 * length image → p image at ≡ Refused n x → HasPlace n → Stop A p image at n x
+
+-- and of one that reads fields alone
+pub record Reads (A : Type 0) (p : Reader A) : Type 1 where
+  pub within : Within A p
+  -- what is read depends on the bits read alone
+  pub goes : (image : List ℕ) (at : ℕ) (a : A) (next : ℕ) → at ≤ 8 * length image → p image at ≡ Got a next → (image′ : List ℕ) → BeginsAs image next image′ → p image′ at ≡ Got a next
+  pub stops : (image : List ℕ) (at n x : ℕ) → at ≤ 8 * length image → p image at ≡ Refused n x → Stop A p image at n x
+
+reads-ends : (A : Type 0) (p : Reader A) → Reads A p → Ends A p
+reads-ends A p r =
     record {
-      within = λ image at b next h e. let q : at ≡ next = cc in omega arith;
+      forward = λ image at h. by image at h (p image at) refl;
+      stops = λ image at n x h e k. r .stops image at n x h e;
+    }
+  where
+    by : (image : List ℕ) (at : ℕ) → at ≤ 8 * length image → (v : Read A) → p image at ≡ v → After at v
+    by image at h (Refused n x) e = λ k. r .within .refused image at n x h e .0
+    by image at h (Got a next) e = r .within .got image at a next h e .0
+
+give-reads : (A : Type 0) (a : A) → Reads A (give a)
+give-reads A a =
+    record {
+      within = give-within A a;
+      goes = λ image at b next h e image′ same. e;
       stops = λ image at n x h e. absurd (no-got n x a at (sym e));
-      more = λ image rest at. inr refl;
     }
 
-module _ {A B : Type 0} (p : Reader A) (k : A → Reader B) (first : Reads p) (second : (a : A) → Reads (k a)) where
-  then-stops : (image : List ℕ) (at n x : ℕ) → at ≤ 8 * length image → (r : Read A) → p image at ≡ r → follow r (λ a after. k a image after) ≡ Refused n x → Early image x n
-  then-stops image at n x h (Refused n′ x′) q e = first .stops image at n x h (q ∙ cc)
-  then-stops image at n x h (Got a next) q e = second a .stops image next n x (first .within image at a next h q) e
+-- ---- one thing after the other
 
-  then-more : (image rest : List ℕ) (at : ℕ) → p (image ++ rest) at ≡ p image at → (r : Read A) → p image at ≡ r
-      → ((x : ℕ) × (andThen p k image at ≡ Refused not-there x)) ⊎ (andThen p k (image ++ rest) at ≡ andThen p k image at)
-  then-more image rest at e (Refused n x) q = inr (rw (e, q) refl)
-  then-more image rest at e (Got a next) q =
-      ⊎-elim (λ (t : (x : ℕ) × (k a image next ≡ Refused not-there x)). inl (t .0, rw q (t .1)))
-      (λ (t : k a (image ++ rest) next ≡ k a image next). inr (rw (e, q) t)) (second a .more image rest next)
+module _ (A B : Type 0) (p : Reader A) (k : A → Reader B) (first : Reads A p) (second : (a : A) → Forward B (k a)) where
+  -- what comes after a bit still does if more is read
+  then-after : (image : List ℕ) (at y : ℕ) → at ≤ 8 * length image → After y (p image at) → After y (andThen p k image at)
+  then-after image at y h l = by (p image at) refl l
+    where
+      on : (next : ℕ) → y ≤ next → (r : Read B) → After next r → After y r
+      on next m (Refused n x) g = λ k. omega (arith, g k)
+      on next m (Got b end) g = omega arith
 
-  then-reads : Reads (andThen p k)
+      by : (r : Read A) → p image at ≡ r → After y r → After y (follow r (λ a after. k a image after))
+      by (Refused n x) q m = m
+      by (Got a next) q m = on next m (k a image next) (second a image next (first .within .got image at a next h q .1))
+
+  -- where the first stops, both do
+  first-stop : (image : List ℕ) (at n x : ℕ) → at ≤ 8 * length image → at ≤ x → Stop A p image at n x → Stop B (andThen p k) image at n x
+  first-stop image at n x h l (at-field width rule comes some narrow takes cause) =
+      at-field width rule (λ c. comes (into p k c)) some narrow
+      (record {
+        short = λ image′ b g. rw (takes .short image′ b g) refl;
+        broken = λ image′ b g j e. rw (takes .broken image′ b g j e) refl;
+        kept = λ image′ b g e. then-after image′ at (x + width) (omega (arith, b .reaches)) (takes .kept image′ b g e);
+      }) cause
+  first-stop image at n x h l (at-tests z d b comes unbound stays) =
+      at-tests z d b (λ c. comes (into p k c)) unbound (λ image′ s. rw (stays image′ s) refl)
+
+  -- where the second stops after the first went well, both do
+  second-stop : (image : List ℕ) (at n x : ℕ) (a : A) (next : ℕ) → at ≤ 8 * length image → p image at ≡ Got a next → next ≤ x → Stop B (k a) image next n x → Stop B (andThen p k) image at n x
+  second-stop image at n x a next h e l (at-field width rule comes some narrow takes cause) =
+      at-field width rule (λ c. comes (past p k c e)) some narrow
+      (record {
+        short = λ image′ b g. rw (first .goes image at a next h e image′ (begins-less b next l)) (takes .short image′ b g);
+        broken = λ image′ b g j f. rw (first .goes image at a next h e image′ (begins-less b next l)) (takes .broken image′ b g j f);
+        kept = λ image′ b g f. rw (first .goes image at a next h e image′ (begins-less b next l)) (takes .kept image′ b g f);
+      }) cause
+  second-stop image at n x a next h e l (at-tests z d b comes unbound stays) =
+      at-tests z d b (λ c. comes (past p k c e)) unbound
+      (λ image′ s. rw (first .goes image at a next h e image′ (begins-less s next l)) (stays image′ s))
+
+module _ (A B : Type 0) (p : Reader A) (k : A → Reader B) (first : Reads A p) (second : (a : A) → Ends B (k a)) where
+  ahead : (a : A) → Forward B (k a)
+  ahead a = second a .forward
+
+  then-stops : (image : List ℕ) (at n x : ℕ) → at ≤ 8 * length image → (r : Read A) → p image at ≡ r → follow r (λ a after. k a image after) ≡ Refused n x → HasPlace n
+      → Stop B (andThen p k) image at n x
+  then-stops image at n x h (Refused n′ x′) q e placed =
+      let f : p image at ≡ Refused n x = q ∙ cc in
+      first-stop A B p k first ahead image at n x h (first .within .refused image at n x h f .0) (first .stops image at n x h f)
+  then-stops image at n x h (Got a next) q e placed =
+      let g = first .within .got image at a next h q .1 in
+      let l : next ≤ x = (rw e at (second a .forward image next g)) placed in
+      second-stop A B p k first ahead image at n x a next h q l (second a .stops image next n x g e placed)
+
+  then-forward : (image : List ℕ) (at : ℕ) → at ≤ 8 * length image → After at (andThen p k image at)
+  then-forward image at h = then-after A B p k first ahead image at at h (reads-ends A p first .forward image at h)
+
+  pub then-ends : Ends B (andThen p k)
+  then-ends = record { forward = then-forward; stops = λ image at n x h e placed. then-stops image at n x h (p image at) refl e placed }
+
+module _ (A B : Type 0) (p : Reader A) (k : A → Reader B) (first : Reads A p) (second : (a : A) → Reads B (k a)) where
+  ahead-of : (a : A) → Forward B (k a)
+  ahead-of a = reads-ends B (k a) (second a) .forward
+
+  both-stop : (image : List ℕ) (at n x : ℕ) → at ≤ 8 * length image → (r : Read A) → p image at ≡ r → follow r (λ a after. k a image after) ≡ Refused n x → Stop B (andThen p k) image at n x
+  both-stop image at n x h (Refused n′ x′) q e =
+      let f : p image at ≡ Refused n x = q ∙ cc in
+      first-stop A B p k first ahead-of image at n x h (first .within .refused image at n x h f .0) (first .stops image at n x h f)
+  both-stop image at n x h (Got a next) q e =
+      let g = first .within .got image at a next h q .1 in
+      second-stop A B p k first ahead-of image at n x a next h q (second a .within .refused image next n x g e .0) (second a .stops image next n x g e)
+
+  both-go : (image : List ℕ) (at : ℕ) (b : B) (end : ℕ) → at ≤ 8 * length image → andThen p k image at ≡ Got b end → (image′ : List ℕ) → BeginsAs image end image′ → andThen p k image′ at ≡ Got b end
+  both-go image at b end h e image′ same =
+      split (p image at) _ e λ a n₁ e₁ k₁.
+      let g = first .within .got image at a n₁ h e₁ .1 in
+      rw (first .goes image at a n₁ h e₁ image′ (begins-less same n₁ (second a .within .got image n₁ b end g k₁ .0)))
+      (second a .goes image n₁ b end g k₁ image′ same)
+
+  then-reads : Reads B (andThen p k)
   then-reads =
       record {
-        within = λ image at b next h e. split (p image at) _ e λ a n₁ e₁ k₁. second a .within image n₁ b next (first .within image at a n₁ h e₁) k₁;
-        stops = λ image at n x h e. then-stops image at n x h (p image at) refl e;
-        more = λ image rest at.
-            ⊎-elim (λ (t : (x : ℕ) × (p image at ≡ Refused not-there x)). inl (t .0, rw (t .1) refl))
-            (λ (t : p (image ++ rest) at ≡ p image at). then-more image rest at t (p image at) refl) (first .more image rest at);
+        within = then-within A B p k (first .within) (λ a. second a .within);
+        goes = both-go;
+        stops = λ image at n x h e. both-stop image at n x h (p image at) refl e;
       }
 
--- ---- a field, whose rule refuses by 3 alone
+-- ---- a field
 
-abbrev Threes : Judgement → Type 0
-Threes rule = (v : ℕ) → (rule v ≡ 0) ⊎ (rule v ≡ 3)
+-- a rule says 0 or one of its numbers
+abbrev Says : ℕ → Type 0
+Says j = (j ≡ 0) ⊎ BrokenRule j
 
-any-threes : Threes anything
-any-threes v = inl refl
+says-else : (j k : ℕ) → Says j → Says k → Says (orElse j k)
+says-else zero k h g = g
+says-else (suc j) k h g = h
 
-must-threes : (holds : ℕ → Bool) → Threes (must bad-number holds)
-must-threes holds v = by (holds v)
-  where
-    by : (t : Bool) → (_≡_ {A = ℕ} (if t then 0 else 3) 0) ⊎ (_≡_ {A = ℕ} (if t then 0 else 3) 3)
-    by true = inl refl
-    by false = inr refl
+says : (r : FieldRule) (v : ℕ) → Says (judgement finer r v)
+says free v = inl refl
+says (of-number holds) v = elim (holds v) as (λ t. Says (if t then 0 else bad-number)) [ true ↦ inl refl | false ↦ inr of-a-number ]
+says (of-mask holds) v = elim (holds v) as (λ t. Says (if t then 0 else bad-mask)) [ true ↦ inl refl | false ↦ inr of-a-mask ]
+says (of-variable holds) v = elim (holds v) as (λ t. Says (if t then 0 else bad-variable)) [ true ↦ inl refl | false ↦ inr of-a-variable ]
+says (of-buffer holds) v = elim (holds v) as (λ t. Says (if t then 0 else bad-buffer)) [ true ↦ inl refl | false ↦ inr of-a-buffer ]
+says (both a b) v = says-else (judgement finer a v) (judgement finer b v) (says a v) (says b v)
 
-also-threes : (a b : Judgement) → Threes a → Threes b → Threes (a also b)
-also-threes a b p q v =
-    ⊎-elim (λ (t : a v ≡ 0). rw t (q v)) (λ (t : a v ≡ 3). inr (rw t refl)) (p v)
+module _ (width : ℕ) (some : 0 < width) (narrow : width ≤ 16) (r : FieldRule) where
+  abbrev judge : Judgement
+  judge = judgement finer r
 
-module _ (width : ℕ) (narrow : width ≤ 16) (rule : Judgement) (threes : Threes rule) where
-  judged-stops : (image : List ℕ) (at n x : ℕ) → at + width ≤ 8 * length image → (j : ℕ) → (j ≡ 0) ⊎ (j ≡ 3) → judged j (fieldAt image at width) at (at + width) ≡ Refused n x → Early image x n
-  judged-stops image at n x h zero t e = absurd (no-got n x (fieldAt image at width) (at + width) (sym e))
-  judged-stops image at n x h (suc j) t e =
-      ⊎-elim (λ (z : suc j ≡ 0). absurd (omega arith))
-      (λ (z : suc j ≡ 3). let a : at ≡ x = cc in let b : 3 ≡ n = cc in rw (← a, ← b) (broken width narrow h, omega arith)) t
+  field-takes : (image : List ℕ) (at : ℕ) → Takes ℕ (field width judge) image at at width judge
+  field-takes image at =
+      record {
+        short = λ image′ b h. field-short width judge image′ at h;
+        broken = λ image′ b h n e. field-broken width judge image′ at n h e;
+        kept = λ image′ b h e. rw (field-kept width judge image′ at h e) (omega arith);
+      }
 
-  field-stops : (image : List ℕ) (at n x : ℕ) → at ≤ 8 * length image → field width rule image at ≡ Refused n x → Early image x n
-  unfolding field
-  field-stops image at n x h e =
-      (elim (ltb (8 * length image) (at + width)) as
-      (λ t. ltb (8 * length image) (at + width) ≡ t
-      → (if t then Refused 2 at else (judged (rule (fieldAt image at width)) (fieldAt image at width) at (at + width))) ≡ Refused n x → Early image x n) [
-        | true ↦ λ t k. let a : at ≡ x = cc in let b : 2 ≡ n = cc in rw (← a, ← b) (missing width narrow h (ltb-true (8 * length image) (at + width) t), omega arith)
-        | false ↦ λ t k. judged-stops image at n x (ltb-false (8 * length image) (at + width) t) (rule (fieldAt image at width)) (threes (fieldAt image at width)) k
-      ]) refl e
+  field-stops : (image : List ℕ) (at n x : ℕ) → field width judge image at ≡ Refused n x → Stop ℕ (field width judge) image at n x
+  field-stops image at n x e = let f = field-refused width judge image at n x e in rw (f .first) (at-field width judge (λ c. c) some narrow (field-takes image at) (cause (f .cause)))
+    where
+      cause : ((8 * length image < at + width) × (n ≡ not-there)) ⊎ ((at + width ≤ 8 * length image) × (0 < n) × (judge (fieldAt image at width) ≡ n)) → Cause image at width judge n
+      cause (inl c) = rw (c .1) (lacks (c .0))
+      cause (inr c) =
+          ⊎-elim (λ (z : judge (fieldAt image at width) ≡ 0). absurd (omega (arith, c .1, c .2)))
+          (λ (z : BrokenRule (judge (fieldAt image at width))). breaks (c .0) (rw (c .2) at z) (c .2)) (says r (fieldAt image at width))
 
-  field-same : (image rest : List ℕ) (at : ℕ) → ((x : ℕ) × (field width rule image at ≡ Refused not-there x)) ⊎ (field width rule (image ++ rest) at ≡ field width rule image at)
-  unfolding field
-  field-same image rest at =
-      by-lt (8 * length image) (at + width)
-      (λ h. inl (at, rw (lt-ltb (8 * length image) (at + width) h) refl))
-      (λ h. inr (rw (le-ltb (8 * length image) (at + width) h, le-ltb (8 * length (image ++ rest)) (at + width) (omega (arith, longer image rest)), field-more image rest at width h) refl))
+  field-goes : (image : List ℕ) (at v next : ℕ) → field width judge image at ≡ Got v next → (image′ : List ℕ) → BeginsAs image next image′ → field width judge image′ at ≡ Got v next
+  field-goes image at v next e image′ b =
+      let f = field-got width judge image at v next e in
+      let s : fieldAt image′ at width ≡ v = field-same image image′ at width (rw (f .after) at b) ∙ sym (f .is) in
+      field-kept width judge image′ at (omega (arith, f .after, b .reaches)) (ap judge s ∙ f .kept) ∙ ap₂ (λ (x y : ℕ). Got x y) s (sym (f .after))
 
-  field-reads : Reads (field width rule)
+  field-reads : Reads ℕ (field width judge)
   field-reads =
       record {
-        within = λ image at v next h e. field-got width rule image at v next e .there;
-        stops = field-stops;
-        more = field-same;
+        within = field-within width judge;
+        goes = λ image at v next h e image′ b. field-goes image at v next e image′ b;
+        stops = λ image at n x h e. field-stops image at n x e;
       }
 
-require-reads : (holds : Bool) → Reads (require bad-variable holds)
-require-reads true = give-reads tt
-require-reads false =
+-- ---- a rule's tests, the check on its variables, and its actions
+
+module _ (z : Sizes) (h : Head) (tested : Reads (List Test) (tests finer z (h .variables) (h .tests)))
+    (acted : (ts : List Test) → Reads (List Action) (actions finer z (h .variables) ts (h .actions))) where
+  abbrev acts : List Test → Reader Rule
+  acts ts = andThen (actions finer z (h .variables) ts (h .actions)) (λ as′. give (record { utility = utilityOf (h .utility); tests = ts; actions = as′ }))
+
+  -- what follows the tests, by whether every variable stood in one
+  abbrev checked : List Test → Bool → Reader Rule
+  checked ts t = next (require bad-variable t) (acts ts)
+
+  abbrev stood : List Test → Bool
+  stood ts = every (standsIn ts) (upFrom 0 (h .variables))
+
+  acts-reads : (ts : List Test) → Reads Rule (acts ts)
+  acts-reads ts = then-reads (List Action) Rule _ _ (acted ts) (λ as′. give-reads Rule _)
+
+  checked-ahead : (ts : List Test) (t : Bool) → Forward Rule (checked ts t)
+  checked-ahead ts true = reads-ends Rule (acts ts) (acts-reads ts) .forward
+  checked-ahead ts false = λ image at l. λ k. omega arith
+
+  checked-goes : (ts : List Test) (t : Bool) (image : List ℕ) (at : ℕ) (r : Rule) (end : ℕ) → at ≤ 8 * length image → checked ts t image at ≡ Got r end
+      → (image′ : List ℕ) → BeginsAs image end image′ → checked ts t image′ at ≡ Got r end
+  checked-goes ts true image at r end l e = acts-reads ts .goes image at r end l e
+  checked-goes ts false image at r end l e = absurd (no-got bad-variable at r end e)
+
+  body-goes : (image : List ℕ) (at : ℕ) (r : Rule) (end : ℕ) → at ≤ 8 * length image → body finer z h image at ≡ Got r end → (image′ : List ℕ) → BeginsAs image end image′
+      → body finer z h image′ at ≡ Got r end
+  unfolding body
+  body-goes image at r end l e image′ same =
+      split (tests finer z (h .variables) (h .tests) image at) _ e λ ts n₁ e₁ k₁.
+      let w = tested .within .got image at ts n₁ l e₁ .1 in
+      let f : n₁ ≤ end = rw k₁ at (checked-ahead ts (stood ts) image n₁ w) in
+      rw (tested .goes image at ts n₁ l e₁ image′ (begins-less same n₁ f)) (checked-goes ts (stood ts) image n₁ r end w k₁ image′ same)
+
+  -- it stops at a test, where the tests end, or at an action
+  body-stops : (image : List ℕ) (at n x : ℕ) → at ≤ 8 * length image → body finer z h image at ≡ Refused n x → Stop Rule (body finer z h) image at n x
+  unfolding body
+  body-stops image at n x l e = by (tests finer z (h .variables) (h .tests) image at) refl e
+    where
+      ahead-of-tests : (ts : List Test) → Forward Rule (checked ts (stood ts))
+      ahead-of-tests ts = checked-ahead ts (stood ts)
+
+      after : (ts : List Test) (mid : ℕ) → tests finer z (h .variables) (h .tests) image at ≡ Got ts mid → (t : Bool) → stood ts ≡ t → checked ts t image mid ≡ Refused n x
+          → Stop Rule (body finer z h) image at n x
+      after ts mid q true u k =
+          let w = tested .within .got image at ts mid l q .1 in
+          let acting : Stop Rule (checked ts (stood ts)) image mid n x = rw u (acts-reads ts .stops image mid n x w k) in
+          second-stop (List Test) Rule _ (λ ts. checked ts (stood ts)) tested ahead-of-tests image at n x ts mid l q (acts-reads ts .within .refused image mid n x w k .0) acting
+      after ts mid q false u k =
+          let a : mid ≡ x = cc in
+          let b : bad-variable ≡ n = cc in
+          rw (← a, ← b) (at-tests z h at (λ c. c) (record { ts = ts; read = q; none = u }) (λ image′ s. rw (tested .goes image at ts mid l q image′ s, u) refl))
+
+      by : (r : Read (List Test)) → tests finer z (h .variables) (h .tests) image at ≡ r → follow r (λ ts mid. checked ts (stood ts) image mid) ≡ Refused n x → Stop Rule (body finer z h) image at n x
+      by (Refused n′ x′) q k =
+          let f : tests finer z (h .variables) (h .tests) image at ≡ Refused n x = q ∙ cc in
+          first-stop (List Test) Rule _ (λ ts. checked ts (stood ts)) tested ahead-of-tests image at n x l (tested .within .refused image at n x l f .0) (tested .stops image at n x l f)
+      by (Got ts mid) q k = after ts mid q (stood ts) refl k
+
+  body-reads : Reads Rule (body finer z h)
+  body-reads = record { within = body-within finer z h (tested .within) (λ ts. acted ts .within); goes = body-goes; stops = body-stops }
+
+-- ---- all fields of an image
+
+reads-each : EachField finer finer (λ A p p′. Reads A p)
+reads-each = record { gives = give-reads; follows = λ A B p p′ k k′ h g. then-reads A B p k h g; fields = field-reads; bodies = body-reads }
+
+pub all-reads : Reads Model (allFields finer)
+all-reads = all-each finer finer (λ A p p′. Reads A p) reads-each
+
+-- ---- and the image's end, which refuses no field
+
+end-ends : (A : Type 0) (a : A) → Ends A (next ending (give a))
+unfolding ending
+end-ends A a =
     record {
-      within = λ image at u next h e. absurd (no-got bad-variable at u next e);
-      stops = λ image at n x h e. let a : at ≡ x = cc in let b : 3 ≡ n = cc in rw (← a, ← b) (broken 0 (omega arith) (omega arith), omega arith);
-      more = λ image rest at. inr refl;
-    }
-
--- ---- the readers of the image
-
-plain : (width : ℕ) → width ≤ 16 → Reads (field width anything)
-plain width h = field-reads width h anything any-threes
-
-ruled : (width : ℕ) → width ≤ 16 → (holds : ℕ → Bool) → Reads (field width (must bad-number holds))
-ruled width h holds = field-reads width h (must bad-number holds) (must-threes holds)
-
-times-reads : {A : Type 0} (p : Reader A) → Reads p → (n : ℕ) → Reads (times n p)
-unfolding times
-times-reads p h zero = give-reads []
-times-reads p h (suc n) =
-    then-reads p _ h λ x. then-reads (times n p) _ (times-reads p h n) λ xs. give-reads (x ∷ xs)
-
-rising-reads : {A : Type 0} (p : ℕ → Reader A) (buffer : A → ℕ) → ((least : ℕ) → Reads (p least)) → (n least : ℕ) → Reads (rising p buffer n least)
-unfolding rising
-rising-reads p buffer h zero least = give-reads []
-rising-reads p buffer h (suc n) least =
-    then-reads (p least) _ (h least) λ x. then-reads (rising p buffer n (buffer x + 1)) _ (rising-reads p buffer h n (buffer x + 1)) λ xs. give-reads (x ∷ xs)
-
-header-reads : Reads header
-unfolding header
-header-reads =
-    then-reads (field 8 (must bad-number (between 1 1))) _ (ruled 8 (omega arith) (between 1 1)) λ version.
-    then-reads (field 4 (must bad-number (between 1 8))) _ (ruled 4 (omega arith) (between 1 8)) λ buffers.
-    then-reads (field 6 (must bad-number (between 0 63))) _ (ruled 6 (omega arith) (between 0 63)) λ declared.
-    then-reads (field 9 (must bad-number (between 0 256))) _ (ruled 9 (omega arith) (between 0 256)) λ rules.
-    then-reads (field 10 (must bad-number (between 0 512))) _ (ruled 10 (omega arith) (between 0 512)) λ facts.
-    then-reads (field 16 anything) _ (plain 16 (omega arith)) λ failure.
-    give-reads _
-
-chunk-reads : (types : List ℕ) (least : ℕ) → Reads (chunk types least)
-unfolding chunk
-chunk-reads types least =
-    then-reads (field 6 (must bad-number (aType types least))) _ (ruled 6 (omega arith) (aType types least)) λ k.
-    then-reads (times (slotCount types k) (field 12 anything)) _ (times-reads (field 12 anything) (plain 12 (omega arith)) (slotCount types k)) λ values.
-    give-reads _
-
-fact-reads : (types : List ℕ) → Reads (fact types)
-unfolding fact
-fact-reads types =
-    then-reads (chunk types 1) _ (chunk-reads types 1) λ c.
-    then-reads (field 16 anything) _ (plain 16 (omega arith)) λ activation.
-    then-reads (field 16 anything) _ (plain 16 (omega arith)) λ latency.
-    give-reads _
-
-terms-reads : (variables : ℕ) (slots : List ℕ) → Reads (terms variables slots)
-unfolding terms
-terms-reads variables [] = give-reads []
-terms-reads variables (slot ∷ slots) =
-    then-reads (field 13 (must bad-variable (aTerm variables))) _ (ruled 13 (omega arith) (aTerm variables)) λ t.
-    then-reads (terms variables slots) _ (terms-reads variables slots) λ rest.
-    give-reads _
-
-masked-reads : (variables slots : ℕ) → Reads (masked variables slots)
-unfolding masked
-masked-reads variables slots =
-    then-reads (field 8 (must bad-mask (aMask slots))) _ (ruled 8 (omega arith) (aMask slots)) λ mask. terms-reads variables (slotsIn mask)
-
-test-reads : (z : Sizes) (variables least : ℕ) → Reads (test z variables least)
-unfolding test
-test-reads z variables least =
-    then-reads (field 3 (must bad-buffer (aBuffer (z .buffers) least))) _ (ruled 3 (omega arith) (aBuffer (z .buffers) least)) λ b.
-    then-reads (field 6 (must bad-number (aType (z .types) 0))) _ (ruled 6 (omega arith) (aType (z .types) 0)) λ k.
-    then-reads (masked variables (slotCount (z .types) k)) _ (masked-reads variables (slotCount (z .types) k)) λ ns.
-    give-reads _
-
-deed-reads : (z : Sizes) (variables : ℕ) (ts : List Test) (b kind : ℕ) → Reads (deed z variables ts b kind)
-unfolding deed
-deed-reads z variables ts b zero =
-    then-reads (masked variables (slotCount (z .types) (testedType ts b))) _ (masked-reads variables (slotCount (z .types) (testedType ts b))) λ ns. give-reads _
-deed-reads z variables ts b (suc zero) =
-    then-reads (field 6 (must bad-number (aType (z .types) 1))) _ (ruled 6 (omega arith) (aType (z .types) 1)) λ k.
-    then-reads (masked variables (slotCount (z .types) k)) _ (masked-reads variables (slotCount (z .types) k)) λ ns.
-    give-reads _
-deed-reads z variables ts b (suc (suc n)) = give-reads _
-
-kind-threes : (ts : List Test) (b : ℕ) → Threes (kindRule ts b)
-kind-threes ts b =
-    also-threes (must bad-number (λ kind. leb kind 2)) (must bad-buffer (λ kind. not (eqb kind 0) || isTested ts b))
-    (must-threes (λ kind. leb kind 2)) (must-threes (λ kind. not (eqb kind 0) || isTested ts b))
-
-action-reads : (z : Sizes) (variables : ℕ) (ts : List Test) (least : ℕ) → Reads (action z variables ts least)
-unfolding action
-action-reads z variables ts least =
-    then-reads (field 3 (must bad-buffer (aBuffer (z .buffers) least))) _ (ruled 3 (omega arith) (aBuffer (z .buffers) least)) λ b.
-    then-reads (field 2 (kindRule ts b)) _ (field-reads 2 (omega arith) (kindRule ts b) (kind-threes ts b)) λ kind.
-    then-reads (deed z variables ts b kind) _ (deed-reads z variables ts b kind) λ d.
-    give-reads _
-
-tests-reads : (z : Sizes) (variables n : ℕ) → Reads (tests z variables n)
-tests-reads z variables n = rising-reads (test z variables) (λ t. t .buffer) (test-reads z variables) n 0
-
-actions-reads : (z : Sizes) (variables : ℕ) (ts : List Test) (n : ℕ) → Reads (actions z variables ts n)
-actions-reads z variables ts n = rising-reads (action z variables ts) (λ a. a .buffer) (action-reads z variables ts) n 0
-
-head-reads : (buffers : ℕ) → Reads (head buffers)
-unfolding head
-head-reads buffers =
-    then-reads (field 16 anything) _ (plain 16 (omega arith)) λ utility.
-    then-reads (field 4 (must bad-number (between 1 buffers))) _ (ruled 4 (omega arith) (between 1 buffers)) λ n.
-    then-reads (field 4 (must bad-number (between 0 buffers))) _ (ruled 4 (omega arith) (between 0 buffers)) λ m.
-    then-reads (field 4 (must bad-number (between 0 8))) _ (ruled 4 (omega arith) (between 0 8)) λ variables.
-    give-reads _
-
-body-reads : (z : Sizes) (h : Head) → Reads (body z h)
-unfolding body
-body-reads z h =
-    then-reads (tests z (h .variables) (h .tests)) _ (tests-reads z (h .variables) (h .tests)) λ ts.
-    then-reads (require bad-variable (every (standsIn ts) (upFrom 0 (h .variables)))) _ (require-reads (every (standsIn ts) (upFrom 0 (h .variables)))) λ u.
-    then-reads (actions z (h .variables) ts (h .actions)) _ (actions-reads z (h .variables) ts (h .actions)) λ as′.
-    give-reads _
-
-rule-reads : (z : Sizes) → Reads (rule z)
-unfolding rule
-rule-reads z = then-reads (head (z .buffers)) _ (head-reads (z .buffers)) λ h. body-reads z h
-
-beginning-reads : Reads beginning
-unfolding beginning
-beginning-reads =
-    then-reads header _ header-reads λ h.
-    then-reads (slotCounts (h .declared)) _ (times-reads (field 4 (must bad-number (between 0 8))) (ruled 4 (omega arith) (between 0 8)) (h .declared)) λ counts.
-    then-reads (times (h .buffers) (chunk (0 ∷ counts) 0)) _ (times-reads (chunk (0 ∷ counts) 0) (chunk-reads (0 ∷ counts) 0) (h .buffers)) λ opening.
-    give-reads _
-
--- ---- a reader that goes to the image's end
-
--- what something that follows makes of a reading
-pub data Onward {A : Type 0} (p : Reader A) (image rest : List ℕ) (at : ℕ) : Type 0 where
-  wants : (x : ℕ) → p image at ≡ Refused not-there x → Onward p image rest at
-  stuck : (x : ℕ) → p image at ≡ Refused bad-number x → p (image ++ rest) at ≡ Refused bad-number x → Onward p image rest at
-  ended : ((x : ℕ) → p image at ≡ Refused bad-number x → ⊥) → p (image ++ rest) at ≡ Refused bad-end 0 → Onward p image rest at
-
-pub record Whole {A : Type 0} (p : Reader A) : Type 0 where
-  pub stops : (image : List ℕ) (at n x : ℕ) → at ≤ 8 * length image → p image at ≡ Refused n x → Stops image x n
-  pub onward : (image rest : List ℕ) (at : ℕ) → at ≤ 8 * length image → 0 < length rest → Onward p image rest at
-
-abbrev endedBy : ℕ → Bool → Read (Unit {0})
-endedBy at t = if t then Got tt at else Refused bad-end 0
-
-module _ (image : List ℕ) (at : ℕ) (h : at ≤ 8 * length image) where
-  ending-stops : (n x : ℕ) → ending image at ≡ Refused n x → Stops image x n
-  unfolding ending
-  ending-stops n x e =
-      by (eqb (fieldAt image at (padding at)) 0) (eqb (at + padding at) (8 * length image)) refl refl e
-    where
-      by : (t u : Bool) → eqb (fieldAt image at (padding at)) 0 ≡ t → eqb (at + padding at) (8 * length image) ≡ u → endedBy at (t && u) ≡ Refused n x → Stops image x n
-      by true true t u k = absurd (no-got n x tt at (sym k))
-      by true false t u k =
-          let a : 0 ≡ x = cc in
-          let b : 4 ≡ n = cc in
-          rw (← a, ← b) (unended at h (inr (omega (arith, eqb-false (at + padding at) (8 * length image) u))))
-      by false u t v k =
-          let a : 0 ≡ x = cc in
-          let b : 4 ≡ n = cc in
-          rw (← a, ← b) (unended at h (inl (eqb-false (fieldAt image at (padding at)) 0 t)))
-
-  ending-four : (n x : ℕ) → ending image at ≡ Refused n x → n ≡ bad-end
-  unfolding ending
-  ending-four n x e = by (eqb (fieldAt image at (padding at)) 0 && eqb (at + padding at) (8 * length image)) e
-    where
-      by : (t : Bool) → endedBy at t ≡ Refused n x → n ≡ bad-end
-      by true k = absurd (no-got n x tt at (sym k))
-      by false k = cc
-
-  ending-on : (rest : List ℕ) → 0 < length rest → ending (image ++ rest) at ≡ Refused bad-end 0
-  unfolding ending
-  ending-on rest l =
-      rw (ne-eqb (at + padding at) (8 * length (image ++ rest)) (λ (e : at + padding at ≡ 8 * length (image ++ rest)). omega (arith, length-append image rest)))
-      (by (eqb (fieldAt (image ++ rest) at (padding at)) 0))
-    where
-      by : (t : Bool) → endedBy at (t && false) ≡ Refused bad-end 0
-      by true = refl
-      by false = refl
-
-end-whole : {A : Type 0} (a : A) → Whole (next ending (give a))
-end-whole a =
-    record {
-      stops = λ image at n x h e. by image at n x h (ending image at) refl e;
-      onward = λ image rest at h l. ended (λ x e. four image at x h (ending image at) refl e) (rw (ending-on image at h rest l) refl);
+      forward = λ image at h. forward (endsWell image at) at;
+      stops = λ image at n x h e placed. absurd (stops (endsWell image at) at n x e placed);
     }
   where
-    by : (image : List ℕ) (at n x : ℕ) → at ≤ 8 * length image → (r : Read (Unit {0})) → ending image at ≡ r → follow r (λ u after. give a image after) ≡ Refused n x → Stops image x n
-    by image at n x h (Refused n′ x′) q e = ending-stops image at h n x (q ∙ cc)
-    by image at n x h (Got u after) q e = absurd (no-got n x a after (sym e))
+    forward : (t : Bool) (at : ℕ) → After at (follow (endedBy at t) (λ u end. Got a end))
+    forward true at = omega arith
+    forward false at = λ placed. absurd (no-place bad-end (inr (omega arith, omega arith)) placed)
 
-    four : (image : List ℕ) (at x : ℕ) → at ≤ 8 * length image → (r : Read (Unit {0})) → ending image at ≡ r → follow r (λ u after. give a image after) ≡ Refused bad-number x → ⊥
-    four image at x h (Refused n′ x′) q e = let z : _≡_ {A = ℕ} 3 4 = ending-four image at h 3 x (q ∙ cc) in omega arith
-    four image at x h (Got u after) q e = no-got bad-number x a after (sym e)
+    stops : (t : Bool) (at n x : ℕ) → follow (endedBy at t) (λ u end. Got a end) ≡ Refused n x → HasPlace n → ⊥
+    stops true at n x e placed = no-got n x a at (sym e)
+    stops false at n x e placed = let four : bad-end ≡ n = cc in no-place n (inr (omega arith, omega arith)) placed
 
-module _ {A B : Type 0} (p : Reader A) (k : A → Reader B) (first : Reads p) (second : (a : A) → Whole (k a)) where
-  whole-stops : (image : List ℕ) (at n x : ℕ) → at ≤ 8 * length image → (r : Read A) → p image at ≡ r → follow r (λ a after. k a image after) ≡ Refused n x → Stops image x n
-  whole-stops image at n x h (Refused n′ x′) q e = first .stops image at n x h (q ∙ cc) .0
-  whole-stops image at n x h (Got a next) q e = second a .stops image next n x (first .within image at a next h q) e
+-- what is made of all that was read
+module _ (A B : Type 0) (p : Reader A) (f : A → B) (ends : Ends A p) where
+  made-after : (y : ℕ) (image : List ℕ) (r : Read A) → After y r → After y (follow r (λ a end. give (f a) image end))
+  made-after y image (Refused n x) h = h
+  made-after y image (Got a next) h = h
 
-  whole-on : (image rest : List ℕ) (at : ℕ) → at ≤ 8 * length image → 0 < length rest → p (image ++ rest) at ≡ p image at → (r : Read A) → p image at ≡ r → Onward (andThen p k) image rest at
-  whole-on image rest at h l e (Refused n x) q = by (first .stops image at n x h q .0) (first .stops image at n x h q .1) q
-    where
-      by : {n : ℕ} → Stops image x n → n < bad-end → p image at ≡ Refused n x → Onward (andThen p k) image rest at
-      by (missing w a b c) g q = wants x (rw q refl)
-      by (broken w a b) g q = stuck x (rw q refl) (rw (e, q) refl)
-      by (unended a b c) g q = absurd (omega arith)
-  whole-on image rest at h l e (Got a next) q = by (second a .onward image rest next (first .within image at a next h q) l)
-    where
-      by : Onward (k a) image rest next → Onward (andThen p k) image rest at
-      by (wants x t) = wants x (rw q t)
-      by (stuck x t u) = stuck x (rw q t) (rw (e, q) u)
-      by (ended f t) = ended (λ x z. f x (rw q at z)) (rw (e, q) t)
+  made-refused : (image : List ℕ) (n x : ℕ) (r : Read A) → follow r (λ a end. give (f a) image end) ≡ Refused n x → r ≡ Refused n x
+  made-refused image n x (Refused n′ x′) e = cc
+  made-refused image n x (Got a end) e = absurd (no-got n x (f a) end (sym e))
 
-  pub then-whole : Whole (andThen p k)
-  then-whole =
+  made-stop : (image : List ℕ) (at n x : ℕ) → Stop A p image at n x → Stop B (andThen p (λ a. give (f a))) image at n x
+  made-stop image at n x (at-field width rule comes some narrow takes cause) =
+      at-field width rule (λ c. comes (into p (λ a. give (f a)) c)) some narrow
+      (record {
+        short = λ image′ b g. rw (takes .short image′ b g) refl;
+        broken = λ image′ b g j e. rw (takes .broken image′ b g j e) refl;
+        kept = λ image′ b g e. made-after (x + width) image′ (p image′ at) (takes .kept image′ b g e);
+      }) cause
+  made-stop image at n x (at-tests z d b comes unbound stays) =
+      at-tests z d b (λ c. comes (into p (λ a. give (f a)) c)) unbound (λ image′ s. rw (stays image′ s) refl)
+
+  made-ends : Ends B (andThen p (λ a. give (f a)))
+  made-ends =
       record {
-        stops = λ image at n x h e. whole-stops image at n x h (p image at) refl e;
-        onward = λ image rest at h l.
-            ⊎-elim (λ (t : (x : ℕ) × (p image at ≡ Refused not-there x)). wants (t .0) (rw (t .1) refl))
-            (λ (t : p (image ++ rest) at ≡ p image at). whole-on image rest at h l t (p image at) refl) (first .more image rest at);
+        forward = λ image at h. made-after at image (p image at) (ends .forward image at h);
+        stops = λ image at n x h e placed. made-stop image at n x (ends .stops image at n x h (made-refused image n x (p image at) e) placed);
       }
 
--- what is made of all that was read, at the end
-module _ {A B : Type 0} (p : Reader A) (f : A → B) (whole : Whole p) where
-  abbrev made : List ℕ → ℕ → Read A → Read B
-  made image at r = follow r (λ a after. give (f a) image after)
+times-read : (A : Type 0) (p : Reader A) → Reads A p → (n : ℕ) → Reads (List A) (times n p)
+times-read A p = times-each finer finer (λ A p p′. Reads A p) reads-each A p p
 
-  made-refused : (image : List ℕ) (at n x : ℕ) (r : Read A) → made image at r ≡ Refused n x → r ≡ Refused n x
-  made-refused image at n x (Refused n′ x′) e = cc
-  made-refused image at n x (Got a after) e = absurd (no-got n x (f a) after (sym e))
-
-  give-onward : (image rest : List ℕ) (at : ℕ) → Onward p image rest at → Onward (andThen p (λ a. give (f a))) image rest at
-  give-onward image rest at (wants x t) = wants x (rw t refl)
-  give-onward image rest at (stuck x t u) = stuck x (rw t refl) (rw u refl)
-  give-onward image rest at (ended g t) = ended (λ x e. g x (made-refused image at bad-number x (p image at) e)) (rw t refl)
-
-  give-whole : Whole (andThen p (λ a. give (f a)))
-  give-whole =
-      record {
-        stops = λ image at n x h e. whole .stops image at n x h (made-refused image at n x (p image at) e);
-        onward = λ image rest at h l. give-onward image rest at (whole .onward image rest at h l);
-      }
-
-contents-whole : (z : Sizes) (n m : ℕ) → Whole (contents z n m)
+contents-ends : (z : Sizes) (n m : ℕ) → Ends Contents (contents finer z n m)
 unfolding contents
-contents-whole z n m =
-    then-whole (times n (fact (z .types))) _ (times-reads (fact (z .types)) (fact-reads (z .types)) n) λ facts.
-    then-whole (times m (rule z)) _ (times-reads (rule z) (rule-reads z) m) λ rules.
-    end-whole _
+contents-ends z n m =
+    then-ends (List Fact) Contents _ _ (times-read Fact (fact finer (z .types)) (fact-each finer finer (λ A p p′. Reads A p) reads-each (z .types)) n) λ facts.
+    then-ends (List Rule) Contents _ _ (times-read Rule (rule finer z) (rule-each finer finer (λ A p p′. Reads A p) reads-each z) m) λ rules.
+    end-ends Contents _
 
-pub model-whole : Whole model
+pub model-ends : Ends Model (model finer)
 unfolding model
-model-whole = then-whole beginning _ beginning-reads λ b. give-whole _ _ (contents-whole _ _ _)
+model-ends =
+    then-ends Beginning Model _ _ (beginning-each finer finer (λ A p p′. Reads A p) reads-each) λ b.
+    made-ends Contents Model _ _ (contents-ends (record { buffers = b .head .buffers; types = b .types }) (b .head .facts) (b .head .rules))
