@@ -20,10 +20,11 @@ use Rattle.call_run.specs.Answers.{ranBack}
 use Rattle.fresh_call.specs.declared.FreshDone.{FreshDone}
 use Rattle.fresh_call.specs.Answers.{freshBack}
 use Rattle.jirvuntsag.specs.Words.{stateOf, fits}
-use Rattle.jirvuntsag.specs.Told.{told, runIn}
+use Rattle.jirvuntsag.specs.Told.{answer, told, runIn}
 use Rattle.jirvuntsag.specs.Fresh.{FreshTold, freshIn, freshEventsIn}
 use Rattle.promises.specs.Words.{Reached}
 use Rattle.promises.specs.Published.{Follows}
+use Rattle.promises.specs.Sentences.{Beforehand}
 use Rattle.promises_c.specs.Handing.{numberIn, countIn, freshRanIn, Held, FreshLeaves, layEvents, SameDone, SameTold}
 use Rattle.promises_c.specs.Proofs.Alike as alike
 use Rattle.promises_c.specs.Proofs.Alone as alone
@@ -33,19 +34,20 @@ use Rattle.promises_c.specs.Proofs.Alone as alone
 module _ (image : List ℕ) (s : State) (table : List ℕ) (steps : ℕ) where
   -- Whatever `calls::run` and `calls::run_fresh` give back (or `trace` and `trace_fresh`), as long as each keeps its contract:
   module _ (r : RunDone) (left : List ℕ) (r′ : FreshDone) (kept : ranBack r left ≡ runOf image s table steps) (fresh : freshBack r′ ≡ freshOf image s steps) where
-    -- for an accepted image and the fresh table, the same number, state and count;
+    -- for an accepted image and the fresh table, the same number, position, state and count;
     pub done-alike : (m : Model) (end : ℕ) → decode image ≡ Got m end → table ≡ freshTable (m .rules) s → SameDone r r′
     done-alike m end accepted e = alike.done-alike image s table steps r left r′ kept fresh m end accepted e
 
-    -- for an accepted image and a state that is not well formed, 6 from both, whatever table of the right length;
-    pub done-unwell : (m : Model) (end : ℕ) → decode image ≡ Got m end → wellFormed m s ≡ false → length table ≡ 9 * length (m .rules) → (r .number ≡ ill-formed) × SameDone r r′
+    -- for an accepted image and a state that is not well formed, 6 from both, with no position, whatever table of the right length;
+    pub done-unwell : (m : Model) (end : ℕ) → decode image ≡ Got m end → wellFormed m s ≡ false → length table ≡ 9 * length (m .rules)
+        → (r .number ≡ ill-formed) × (r .position ≡ 0) × SameDone r r′
     done-unwell m end accepted ill long = alike.done-unwell image s table steps r left r′ kept fresh m end accepted ill long
 
-    -- for a refused image its number from both, whatever table;
-    pub done-refused : (n at : ℕ) → decode image ≡ Refused n at → (r .number ≡ n) × SameDone r r′
+    -- for a refused image its number and its position from both, whatever table;
+    pub done-refused : (n at : ℕ) → decode image ≡ Refused n at → (r .number ≡ n) × (r .position ≡ at) × SameDone r r′
     done-refused n at unread = alike.done-refused image s table steps r left r′ kept fresh n at unread
 
-    -- and after a chain of kept runs and refreshes, whatever table is held then, the same number, state and count.
+    -- and after a chain of kept runs and refreshes, whatever table is held then, the same number, position, state and count.
     pub done-reached : Reached image s table → SameDone r r′
     done-reached reached = alike.done-reached image s table steps r left r′ kept fresh reached
 
@@ -73,13 +75,13 @@ module _ (image w : List ℕ) (steps : ℕ) where
   pub told-alike : (m : Model) (end : ℕ) → decode image ≡ Got m end → SameTold image w (freshTable (m .rules) (stateOf w)) steps
   told-alike m end accepted = alike.told-alike image w steps m end accepted
 
-  -- Where a word does not fit, or the state is not well formed, any table of the right length does: 6 from both, and the words of state and table stay.
+  -- Where a word does not fit, or the state is not well formed, any table of the right length does: 6 from both, with no position, and the words of state and table stay.
   pub told-unwell : (m : Model) (end : ℕ) → decode image ≡ Got m end → length w ≡ 81 → (fits w && wellFormed m (stateOf w)) ≡ false
-      → (table : List ℕ) → length table ≡ 9 * length (m .rules) → (runIn image w table steps ≡ told ill-formed w table) × SameTold image w table steps
+      → (table : List ℕ) → length table ≡ 9 * length (m .rules) → (runIn image w table steps ≡ told (answer ill-formed 0 0) w table) × SameTold image w table steps
   told-unwell m end accepted l ill table long = alike.told-unwell image w steps m end accepted l ill table long
 
-  -- A refused image gets its number from both, whatever table, and the words of state and table stay.
-  pub told-refused : (n at : ℕ) → decode image ≡ Refused n at → length w ≡ 81 → (table : List ℕ) → (runIn image w table steps ≡ told n w table) × SameTold image w table steps
+  -- A refused image gets its number and its position from both, whatever table, and the words of state and table stay.
+  pub told-refused : (n at : ℕ) → decode image ≡ Refused n at → length w ≡ 81 → (table : List ℕ) → (runIn image w table steps ≡ told (answer n 0 at) w table) × SameTold image w table steps
   told-refused n at unread l table = alike.told-refused image w steps n at unread l table
 
   -- After an accepted opening, and any kept runs, refreshes, and changes of the words that are refreshed with their mark: the same as with whatever table is held, word for word.
@@ -88,30 +90,29 @@ module _ (image w : List ℕ) (steps : ℕ) where
 
   -- ---- its answer by itself
 
-  -- The number read off the answer is never 5 or 7, which "have no meaning here", nor 10 or larger;
-  pub fresh-numbers : let n : ℕ = numberIn (freshIn image w steps .answered) in (n ≡ 5 → ⊥) × (n ≡ 7 → ⊥) × (n < 10)
+  -- The number read off the answer is never 5 or 7, which "have no meaning here", nor 10, nor larger than 13;
+  pub fresh-numbers : let n : ℕ = numberIn (freshIn image w steps .answered) in (n ≡ 5 → ⊥) × (n ≡ 7 → ⊥) × (n ≡ 10 → ⊥) × (n < 14)
   fresh-numbers = alone.numbers image w steps
 
-  -- and the count is no more than the steps asked, so that the answer has room for it.
+  -- and the count is no more than the steps asked.
   pub fresh-most : countIn (freshIn image w steps .answered) ≤ steps
   fresh-most = alone.most image w steps
 
-  -- Refused by 1 to 4 or 6, too large words among it: the words as they were, and nothing counted;
-  pub run-fresh-leaves : length w ≡ 81 → let a : FreshTold = freshIn image w steps in 0 < numberIn (a .answered) → numberIn (a .answered) < 7 → FreshLeaves w a
-  run-fresh-leaves l a b = alone.run-leaves image w steps l a b
+  -- Refused by 1 to 4, 6 or 11 to 13, too large words among it: the words as they were, and nothing counted;
+  pub run-fresh-leaves : length w ≡ 81 → let a : FreshTold = freshIn image w steps in Beforehand (numberIn (a .answered)) → FreshLeaves w a
+  run-fresh-leaves l b = alone.run-leaves image w steps l b
 
   -- and nothing is noted: every lent word stays as it was.
-  pub trace-fresh-leaves : (lent : List ℕ) → let a : FreshTold = freshIn image w steps in 0 < numberIn (a .answered) → numberIn (a .answered) < 7
-      → layEvents lent (freshEventsIn image w steps) ≡ lent
-  trace-fresh-leaves lent a b = alone.trace-leaves image w steps lent a b
+  pub trace-fresh-leaves : (lent : List ℕ) → Beforehand (numberIn (freshIn image w steps .answered)) → layEvents lent (freshEventsIn image w steps) ≡ lent
+  trace-fresh-leaves lent b = alone.trace-leaves image w steps lent b
 
-  -- If each word fits (a clock has 32 bits), number, state and count are read back off the answer and the words,
-  module _ (fit : fits w ≡ true) (clock : getD w 0 0 ≤ largest) where
+  -- If each word fits (a clock has 32 bits, the steps asked have 16), number, position, state and count are read back off the answer and the words,
+  module _ (fit : fits w ≡ true) (clock : getD w 0 0 ≤ largest) (few : steps ≤ 65535) where
     pub fresh-back : freshRanIn (freshIn image w steps) ≡ freshOf image (stateOf w) steps
-    fresh-back = alone.back image w steps fit clock
+    fresh-back = alone.back image w steps fit clock few
 
     -- and demand 2 holds of them, from any well-formed state of an accepted image: the events are what the transitions from the state in the words handed in to the
     -- state in the words given back did, as many as counted; there are no others; and the number says why there are no more.
     pub fresh-follows : (m : Model) (end : ℕ) → decode image ≡ Got m end → wellFormed m (stateOf w) ≡ true
         → let a : FreshRan = freshRanIn (freshIn image w steps) in Follows m (stateOf w) steps (freshEventsIn image w steps) (a .state) (a .made) (a .number)
-    fresh-follows m end accepted well = alone.follows image w steps fit clock m end accepted well
+    fresh-follows m end accepted well = alone.follows image w steps fit clock few m end accepted well

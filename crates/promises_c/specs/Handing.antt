@@ -16,20 +16,29 @@ use Rattle.jirvuntsag.specs.Words.{stateOf}
 use Rattle.jirvuntsag.specs.Told.{Told, openIn, runIn, refreshIn, eventsIn}
 use Rattle.jirvuntsag.specs.Fresh.{FreshTold, freshIn, freshEventsIn}
 
--- an answer is the number and 65,536 times a count (JIRVUNTSAG_NUMBER and JIRVUNTSAG_COUNT of the header)
+-- an answer is the number, 65,536 times a count and 4,294,967,296 times a position (JIRVUNTSAG_NUMBER, JIRVUNTSAG_COUNT and JIRVUNTSAG_POSITION of the header)
 abbrev pub numberIn : ℕ → ℕ
 numberIn answer = answer % 65536
 
 abbrev pub countIn : ℕ → ℕ
-countIn answer = answer / 65536
+countIn answer = answer / 65536 % 65536
+
+abbrev pub positionIn : ℕ → ℕ
+positionIn answer = answer / 4294967296
+
+-- what is read off an answer
+pub record Reads (answer number count position : ℕ) : Type 0 where
+  pub number-read : numberIn answer ≡ number
+  pub count-read : countIn answer ≡ count
+  pub position-read : positionIn answer ≡ position
 
 -- what a run answered and left over words, read as an answer over states
 abbrev pub ranIn : Told → Ran
-ranIn a = record { number = numberIn (a .answered); state = stateOf (a .words); table = a .table; made = countIn (a .answered) }
+ranIn a = record { number = numberIn (a .answered); position = positionIn (a .answered); state = stateOf (a .words); table = a .table; made = countIn (a .answered) }
 
 -- the same of a run without a table
 abbrev pub freshRanIn : FreshTold → FreshRan
-freshRanIn a = record { number = numberIn (a .answered); state = stateOf (a .words); made = countIn (a .answered) }
+freshRanIn a = record { number = numberIn (a .answered); position = positionIn (a .answered); state = stateOf (a .words); made = countIn (a .answered) }
 
 -- two states have the same ten words for buffer b
 abbrev pub SameBuffer : List ℕ → List ℕ → ℕ → Type 0
@@ -66,10 +75,11 @@ layEvents (a ∷ b ∷ c ∷ rest) (e ∷ es) = eventWords (e .clock) (e .event)
 -- a kept run and a run without a table gave back the same
 pub record SameDone (kept : RunDone) (fresh : FreshDone) : Type 0 where
   pub same-number : fresh .number ≡ kept .number
+  pub same-position : fresh .position ≡ kept .position
   pub same-state : fresh .state ≡ kept .state
   pub same-count : fresh .made ≡ kept .made
 
--- the same for C, where the number and the count are the answer: the answer, every word of the state, and every word of those lent for the events
+-- the same for C, where the number, the count and the position are the answer: the answer, every word of the state, and every word of those lent for the events
 pub record SameTold (image w table : List ℕ) (steps : ℕ) : Type 0 where
   pub same-answer : freshIn image w steps .answered ≡ runIn image w table steps .answered
   pub same-words : freshIn image w steps .words ≡ runIn image w table steps .words

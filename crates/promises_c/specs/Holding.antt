@@ -3,7 +3,7 @@
 use mathlib.Core.Path.{_≡_}
 use mathlib.Core.Bool.{true, false}
 use mathlib.Core.List.{List}
-use Prim.Native.Nat.{ℕ, _≤_, _<_}
+use Prim.Native.Nat.{ℕ, _≤_}
 use lib.ListN.{length, getD, replicate}
 use Rattle.meaning.specs.declared.State.{State}
 use Rattle.meaning.specs.Numbers.{ill-formed}
@@ -14,9 +14,9 @@ use Rattle.meaning.specs.Image.{decode}
 use Rattle.meaning.specs.Match.{freshTable}
 use Rattle.meaning.specs.Step.{largest}
 use Rattle.jirvuntsag.specs.Words.{stateOf, wordsOf, fits}
-use Rattle.jirvuntsag.specs.Told.{Told, told, openIn, runIn, refreshIn}
+use Rattle.jirvuntsag.specs.Told.{answer, Told, told, openIn, runIn, refreshIn}
 use Rattle.promises.specs.Words.{Machine, Reached}
-use Rattle.promises.specs.Sentences.{Taken}
+use Rattle.promises.specs.Sentences.{Beforehand, Taken}
 use Rattle.promises.specs.Keeping.{reached-fresh, reached-well}
 use Rattle.promises_c.specs.Handing.{numberIn, Leaves, Held}
 use Rattle.promises_c.specs.Proofs.Back as back
@@ -41,20 +41,19 @@ fitting-state w f c = back.state-fits w f c
 pub open-leaves : (image table : List ℕ) → (numberIn (openIn image table .answered) ≡ 0 → ⊥) → Leaves (replicate 81 0) table (openIn image table)
 open-leaves image table h = calling.open-leaves image table h
 
--- Run, refused by 1 to 6, too large words among it: the words and the table as they were.
-pub run-leaves : (image w table : List ℕ) (steps : ℕ) → length w ≡ 81
-    → let a : Told = runIn image w table steps in 0 < numberIn (a .answered) → numberIn (a .answered) < 7 → Leaves w table a
-run-leaves image w table steps l a b = calling.run-leaves image w table steps l a b
+-- Run, refused by 1 to 6 or 11 to 13, too large words among it: the words and the table as they were.
+pub run-leaves : (image w table : List ℕ) (steps : ℕ) → length w ≡ 81 → let a : Told = runIn image w table steps in Beforehand (numberIn (a .answered)) → Leaves w table a
+run-leaves image w table steps l b = calling.run-leaves image w table steps l b
 
 -- Refresh never writes the words; refused, it leaves the table as it was.
 pub refresh-leaves : (image w table : List ℕ) (mark : ℕ) → let a : Told = refreshIn image w mark table in (numberIn (a .answered) ≡ 0 → ⊥) → Leaves w table a
 refresh-leaves image w table mark h = calling.refresh-leaves image w table mark h
 
--- A word too large for its field is 6, once the image and the table are taken, and all is left as it was.
-pub run-too-large : (image w table : List ℕ) (steps : ℕ) (m : Model) → Taken image table m → fits w ≡ false → runIn image w table steps ≡ told ill-formed w table
+-- A word too large for its field is 6, with no position, once the image and the table are taken, and all is left as it was.
+pub run-too-large : (image w table : List ℕ) (steps : ℕ) (m : Model) → Taken image table m → fits w ≡ false → runIn image w table steps ≡ told (answer ill-formed 0 0) w table
 run-too-large image w table steps m t f = calling.run-six image w table steps m t f
 
-pub refresh-too-large : (image w table : List ℕ) (mark : ℕ) (m : Model) → Taken image table m → fits w ≡ false → refreshIn image w mark table ≡ told ill-formed w table
+pub refresh-too-large : (image w table : List ℕ) (mark : ℕ) (m : Model) → Taken image table m → fits w ≡ false → refreshIn image w mark table ≡ told (answer ill-formed 0 0) w table
 refresh-too-large image w table mark m t f = calling.refresh-six image w table mark m t f
 
 -- ---- demand 3 over words

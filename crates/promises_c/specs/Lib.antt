@@ -1,7 +1,8 @@
--- What is promised of the calls for C, and of the run without a table in Rattle too: the words of the statements in Handing, the statements in Holding, Noting and
--- Alike; their proofs stand apart, in Proofs.
+-- What is promised of the calls for C, and of the run without a table in Rattle too: the words of the statements in Handing, the statements in Holding, Placing,
+-- Noting and Alike; their proofs stand apart, in Proofs.
 pub mod Handing
 pub mod Holding
+pub mod Placing
 pub mod Noting
 pub mod Alike
 pub mod Proofs

@@ -4,3 +4,4 @@ pub mod Calling
 pub mod Noted
 pub mod Alike
 pub mod Alone
+pub mod Placed
