@@ -41,16 +41,16 @@ stateWords s = s .clock ∷ bufferWords (s .buffers)
 -- ---- answers as words: every part of them
 
 abbrev opened : Opened → List ℕ
-opened o = o .number ∷ stateWords (o .state) ++ o .table
+opened o = o .number ∷ o .position ∷ stateWords (o .state) ++ o .table
 
 abbrev ran : Ran → List ℕ
-ran r = r .number ∷ stateWords (r .state) ++ r .table ++ (r .made ∷ [])
+ran r = r .number ∷ r .position ∷ stateWords (r .state) ++ r .table ++ (r .made ∷ [])
 
 abbrev ranFresh : FreshRan → List ℕ
-ranFresh r = r .number ∷ stateWords (r .state) ++ (r .made ∷ [])
+ranFresh r = r .number ∷ r .position ∷ stateWords (r .state) ++ (r .made ∷ [])
 
 abbrev refreshed : Refreshed → List ℕ
-refreshed r = r .number ∷ r .count ∷ r .table
+refreshed r = r .number ∷ r .position ∷ r .count ∷ r .table
 
 -- of a line: 1, the clock and the rule of a firing; 2, the clock and the ms of a wait; 3, the number and the steps made at the end
 abbrev output : List Line → List ℕ
