@@ -19,8 +19,8 @@ const STEPS: u16 = 300;
 
 /// An image from its opening.
 fn opening(image: Vec<u8>) -> Case {
-    let mut table = vec![0; table_len(&image)];
-    let (_, state) = open(&image, &mut table);
+    let mut table = vec![0; table_len(&image).2];
+    let (_, _, state) = open(&image, &mut table);
     Case { image, state, table, mark: 1, steps: STEPS }
 }
 

@@ -1,6 +1,6 @@
 //! Damaged images.
 
-use jirvuntsag_packing::Packed;
+use jirvuntsag_packing::{Packed, Role};
 
 use crate::rng::Rng;
 
@@ -39,21 +39,31 @@ pub fn damage(rng: &mut Rng, packed: &Packed) -> (Damage, Vec<u8>) {
     (damage, image)
 }
 
-/// A field and a value for it: any, one more or one less, or all ones.
+/// A field and a value for it: any, one more or one less, none, or all ones.
 fn field_damage(rng: &mut Rng, packed: &Packed) -> Damage {
-    // Small fields are counts, types, buffers, kinds and masks, which have rules; slots have none.
-    let mut number = rng.below(packed.fields.len());
-    if packed.fields[number].width == 12 || packed.fields[number].width == 16 {
-        number = rng.below(packed.fields.len());
-    }
+    let number = any_field(rng, packed);
     let field = &packed.fields[number];
     let all = ((1_u32 << field.width) - 1) as u16;
     let old = field.get(&packed.bytes);
-    let value = match rng.below(5) {
+    let value = match rng.below(6) {
         0 => old.wrapping_add(1) & all,
         1 => old.wrapping_sub(1) & all,
-        2 => all,
+        2 => 0,
+        3 => all,
         _ => rng.word() as u16 & all,
     };
     Damage::Field(number, value)
+}
+
+/// The number of a field, its role drawn first: so the few fields of a header come up as often as the many terms.
+fn any_field(rng: &mut Rng, packed: &Packed) -> usize {
+    let mut roles: Vec<Role> = Vec::new();
+    for field in &packed.fields {
+        if !roles.contains(&field.role) {
+            roles.push(field.role);
+        }
+    }
+    let role = rng.pick(&roles);
+    let numbers: Vec<usize> = (0..packed.fields.len()).filter(|&number| packed.fields[number].role == role).collect();
+    rng.pick(&numbers)
 }

@@ -5,7 +5,9 @@ use std::collections::{BTreeMap, BTreeSet};
 
 use jirvuntsag_generate::{broken_state, case, damage, each_seed, model, state, Damage};
 use jirvuntsag_packing::{pack, pack_with_fields};
-use jirvuntsag_reference::{open, refresh, run, run_fresh, trace, Deed, Event, Kind, Model, Rule, State, Term};
+use jirvuntsag_reference::{
+    open, refresh, run, run_fresh, table_len, trace, Deed, Event, Kind, Model, Rule, State, Term,
+};
 
 #[test]
 fn equal_seeds_give_equal_cases() {
@@ -28,9 +30,12 @@ fn cuts_and_appended_bytes_are_refused() {
     each_seed(5_000, 1_000, |_, mut rng| {
         let packed = pack_with_fields(&model(&mut rng));
         let (damage, image) = damage(&mut rng, &packed);
-        let number = Model::decode(&image).map_or_else(|refusal| refusal.number, |_| 0);
+        let (number, at, _) = table_len(&image);
         match damage {
-            Damage::Cut(_) => assert!(number == 2 || number == 3, "{number}"),
+            Damage::Cut(bytes) => {
+                let missing = packed.first_missing(bytes).expect("a missing field");
+                assert_eq!((number, at as usize), (2, missing.at));
+            }
             Damage::Append(_) => assert!(number == 4 || number == 1, "{number}"),
             Damage::Oversize => assert_eq!(number, 1),
             Damage::Flip(_) | Damage::Field(..) => assert_ne!(number, 1),
@@ -44,29 +49,27 @@ fn every_answer_comes_up() {
     let (mut fired, mut waited, mut long) = (0, 0, 0);
     each_seed(10_000, 6_000, |seed, _| {
         let case = case(seed);
-        let (number, _) = open(&case.image, &mut case.table.clone());
-        *answers.entry(("open", number)).or_default() += 1;
-        let (number, _) = refresh(&case.image, &case.state, case.mark, &mut case.table.clone());
-        *answers.entry(("refresh", number)).or_default() += 1;
-        let (number, _, made) = run(&case.image, case.state, &mut case.table.clone(), case.steps);
-        *answers.entry(("run", number)).or_default() += 1;
-        let (number, _, _) = run_fresh(&case.image, case.state, case.steps);
-        *answers.entry(("fresh", number)).or_default() += 1;
+        let mut note = |call, number| *answers.entry((call, number)).or_default() += 1;
+        note("open", open(&case.image, &mut case.table.clone()).0);
+        note("refresh", refresh(&case.image, &case.state, case.mark, &mut case.table.clone()).0);
+        let (number, _, _, made) = run(&case.image, case.state, &mut case.table.clone(), case.steps);
+        note("run", number);
+        note("fresh", run_fresh(&case.image, case.state, case.steps).0);
+        note("table_len", table_len(&case.image).0);
         long += u32::from(made > 5);
-        let (_, _, events) = trace(&case.image, case.state, &mut case.table.clone(), case.steps.min(20));
+        let (.., events) = trace(&case.image, case.state, &mut case.table.clone(), case.steps.min(20));
         fired += events.iter().filter(|event| matches!(event.kind, Kind::Fire(_))).count();
         waited += events.iter().filter(|event| matches!(event.kind, Kind::Wait(_))).count();
     });
     println!("{answers:?} fired {fired} waited {waited} long {long}");
-    for number in 0..=5 {
-        assert!(answers.contains_key(&("open", number)), "open {number}");
-    }
-    for number in (0..=6).chain([10]) {
-        assert!(answers.contains_key(&("refresh", number)), "refresh {number}");
-    }
-    for number in 0..=9 {
-        assert!(answers.contains_key(&("run", number)), "run {number}");
-        assert_eq!(answers.contains_key(&("fresh", number)), number != 5 && number != 7, "fresh {number}");
+    for number in 0..=13 {
+        let given = |call| answers.contains_key(&(call, number));
+        let of_image = matches!(number, 0..=4 | 11..=13);
+        assert_eq!(given("table_len"), of_image, "table_len {number}");
+        assert_eq!(given("open"), of_image || number == 5, "open {number}");
+        assert_eq!(given("refresh"), of_image || matches!(number, 5 | 6 | 10), "refresh {number}");
+        assert_eq!(given("run"), of_image || matches!(number, 5..=9), "run {number}");
+        assert_eq!(given("fresh"), of_image || matches!(number, 6 | 8 | 9), "fresh {number}");
     }
     assert!(fired > 1_000 && waited > 500 && long > 200, "{fired} {waited} {long}");
 }

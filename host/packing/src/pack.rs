@@ -12,6 +12,30 @@ pub struct Packed {
     pub fields: Vec<Field>,
 }
 
+impl Packed {
+    /// The field that begins at a bit.
+    pub fn field_at(&self, bit: usize) -> Option<&Field> {
+        self.fields.iter().find(|field| field.at == bit)
+    }
+
+    /// A field of a role, by which of them it is, from 0.
+    pub fn nth(&self, role: Role, which: usize) -> Option<&Field> {
+        self.fields.iter().filter(|field| field.role == role).nth(which)
+    }
+
+    /// The image with one of its fields set to another value.
+    pub fn with(&self, field: &Field, value: u16) -> Vec<u8> {
+        let mut image = self.bytes.clone();
+        field.set(&mut image, value);
+        image
+    }
+
+    /// The first field that is not wholly there if the image is cut to so many bytes.
+    pub fn first_missing(&self, bytes: usize) -> Option<&Field> {
+        self.fields.iter().find(|field| field.at + field.width > 8 * bytes)
+    }
+}
+
 /// The image of a model.
 pub fn pack(spec: &ModelSpec) -> Vec<u8> {
     pack_with_fields(spec).bytes

@@ -32,6 +32,22 @@ pub enum Role {
     ActionTerm,
 }
 
+impl Role {
+    /// Whether all other fields stay where they are if such a field gets another value: it says neither how much follows, nor what.
+    pub fn keeps_places(self) -> bool {
+        let of_image = matches!(self, Role::Buffers | Role::Types | Role::Rules | Role::Facts | Role::SlotCount);
+        let of_chunk = matches!(self, Role::OpeningType | Role::FactType);
+        let of_rule =
+            matches!(self, Role::Tests | Role::Actions | Role::TestMask | Role::ActionKind | Role::ActionMask);
+        !(of_image || of_chunk || of_rule)
+    }
+
+    /// Whether it is a term of a test or of an action.
+    pub fn is_term(self) -> bool {
+        matches!(self, Role::TestTerm | Role::ActionTerm)
+    }
+}
+
 /// A field that was written.
 #[derive(Clone, Copy, PartialEq, Eq, Debug)]
 pub struct Field {

@@ -45,6 +45,45 @@ fn model_a_has_every_field_once() {
 }
 
 #[test]
+fn fields_are_found_by_their_first_bit_and_by_a_cut() {
+    let packed = pack_with_fields(&model_a());
+    let role_at = |bit| packed.field_at(bit).map(|field| field.role);
+    assert_eq!([role_at(0), role_at(258), role_at(259)], [Some(Role::Version), Some(Role::TestMask), None]);
+    let missing = |bytes| packed.first_missing(bytes).map(|field| (field.role, field.at));
+    assert_eq!(
+        [missing(0), missing(70), missing(71)],
+        [Some((Role::Version, 0)), Some((Role::ActionBuffer, 558)), None]
+    );
+}
+
+#[test]
+fn fields_are_found_by_their_role_and_set_in_a_copy() {
+    let packed = pack_with_fields(&model_a());
+    let at = |role, which| packed.nth(role, which).map(|field| field.at);
+    assert_eq!([at(Role::TestMask, 0), at(Role::TestMask, 4), at(Role::TestMask, 5)], [Some(258), Some(524), None]);
+    let mask = packed.nth(Role::TestMask, 0).expect("a mask");
+    let image = packed.with(mask, 0x40);
+    assert_eq!((mask.get(&image), mask.get(&packed.bytes)), (0x40, 0x80));
+    assert_eq!(packed.with(mask, 0x80), packed.bytes);
+}
+
+/// A field of two models that differ in one value alone, and whether the others stay.
+#[test]
+fn some_fields_say_where_others_are() {
+    let places = |spec: &ModelSpec| pack_with_fields(spec).fields.iter().map(|field| field.at).collect::<Vec<_>>();
+    let (one, mut other) = (model_a(), model_a());
+    other.rules[0].variables = 7;
+    other.rules[1].tests[0].buffer = 3;
+    other.rules[1].tests[0].isa = 1;
+    other.rules[2].tests[0].pattern.terms[0] = Term::Symbol(9);
+    assert_eq!(places(&one), places(&other));
+    assert!([Role::Variables, Role::TestBuffer, Role::TestType, Role::TestTerm].iter().all(|role| role.keeps_places()));
+    other.rules[0].tests[1].pattern = PatternSpec::new(&[(0, Term::Symbol(1))]);
+    assert_ne!(places(&one), places(&other));
+    assert!(!Role::TestMask.keeps_places());
+}
+
+#[test]
 fn patterns_name_their_slots_in_order() {
     let named = [(0, Term::Variable(1)), (3, Term::Symbol(1)), (7, Term::Variable(0))];
     let pattern = PatternSpec::new(&named);

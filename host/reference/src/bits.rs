@@ -1,13 +1,6 @@
 //! Fields of an image, most significant bit first, and why one is refused.
 
-/// Why an image is refused: the number of document 01 and where.
-#[derive(Clone, Copy, PartialEq, Eq, Debug)]
-pub struct Refusal {
-    /// 1, 2, 3 or 4.
-    pub number: u8,
-    /// First bit of the offending field for 2 and 3 (the end of the tests for a variable in no test), else 0.
-    pub at: u32,
-}
+use crate::refusal::{Refusal, FOLLOWS, MISSING};
 
 /// Reads fields one after the other; after a `None` it knows the refusal.
 pub(crate) struct Reader<'a> {
@@ -33,7 +26,7 @@ impl<'a> Reader<'a> {
     pub fn take(&mut self, width: usize) -> Option<u16> {
         let (start, end) = (self.at, self.at + width);
         if end > self.image.len() * 8 {
-            return self.refuse(2, start);
+            return self.refuse(MISSING, start);
         }
         self.at = end;
         // A field of 16 bits touches three bytes at most, so a window of four holds it.
@@ -41,26 +34,22 @@ impl<'a> Reader<'a> {
         Some((window >> (32 - width)) as u16)
     }
 
-    /// The next field if `fits` holds of it; 3 at its first bit if not.
+    /// The next field if `fits` holds of it; if not, `number` at its first bit.
     #[inline(always)]
-    pub fn judged(&mut self, width: usize, fits: impl Fn(u16) -> bool) -> Option<u16> {
+    pub fn judged(&mut self, width: usize, number: u8, fits: impl Fn(u16) -> bool) -> Option<u16> {
         let start = self.at;
         let value = self.take(width)?;
         if fits(value) {
             Some(value)
         } else {
-            self.refuse(3, start)
+            self.refuse(number, start)
         }
     }
 
-    /// A rule that must hold between two fields.
+    /// The first bit of the next field.
     #[inline]
-    pub fn require(&mut self, holds: bool) -> Option<()> {
-        if holds {
-            Some(())
-        } else {
-            self.refuse(3, self.at)
-        }
+    pub fn at(&self) -> usize {
+        self.at
     }
 
     /// Zero bits up to the byte's end and no byte after it, or 4.
@@ -73,7 +62,7 @@ impl<'a> Reader<'a> {
         if pad == 0 && used == self.image.len() {
             Some(())
         } else {
-            self.refuse(4, 0)
+            self.refuse(FOLLOWS, 0)
         }
     }
 
@@ -87,8 +76,9 @@ impl<'a> Reader<'a> {
         }
     }
 
+    /// Notes why the image is refused, and where.
     #[cold]
-    fn refuse<T>(&mut self, number: u8, at: usize) -> Option<T> {
+    pub fn refuse<T>(&mut self, number: u8, at: usize) -> Option<T> {
         self.refusal = Refusal { number, at: at as u32 };
         None
     }

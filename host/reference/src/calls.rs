@@ -4,6 +4,7 @@ use crate::board::Board;
 use crate::decode::decode_parts;
 use crate::matching::Known;
 use crate::model::Model;
+use crate::refusal::Refusal;
 use crate::state::{Buffer, State};
 use crate::step::{Runner, Step};
 use crate::WORDS;
@@ -26,40 +27,55 @@ pub enum Kind {
     Wait(u16),
 }
 
-/// Words of the table of an accepted image, 9 for each rule; 0 for any other.
-pub fn table_len(image: &[u8]) -> usize {
-    decode_parts(image).map_or(0, |parts| WORDS * parts.rules.len())
-}
-
-/// Opens an image: the number, the opening state, and the fresh table if accepted.
-pub fn open(image: &[u8], table: &mut [u16]) -> (u8, State) {
-    match Model::decode(image) {
-        Ok(model) => model.open(table),
-        Err(refusal) => (refusal.number, State::default()),
+/// The words that the table of an image needs, 9 for each rule: the number, the position and the words, none if refused.
+pub fn table_len(image: &[u8]) -> (u8, u32, usize) {
+    match decode_parts(image) {
+        Ok(parts) => (0, 0, WORDS * parts.rules.len()),
+        Err(Refusal { number, at }) => (number, at, 0),
     }
 }
 
-/// Runs up to `steps` steps: the number, the state and the steps made.
-pub fn run(image: &[u8], state: State, table: &mut [u16], steps: u16) -> (u8, State, u16) {
+/// Opens an image: the number, the position, the opening state, and the fresh table if accepted.
+pub fn open(image: &[u8], table: &mut [u16]) -> (u8, u32, State) {
     match Model::decode(image) {
-        Ok(model) => model.run(state, table, steps),
-        Err(refusal) => (refusal.number, state, 0),
+        Ok(model) => {
+            let (number, state) = model.open(table);
+            (number, 0, state)
+        }
+        Err(Refusal { number, at }) => (number, at, State::default()),
     }
 }
 
-/// Refreshes the entries of rules that test a marked buffer: the number and how many these are.
-pub fn refresh(image: &[u8], state: &State, mark: u16, table: &mut [u16]) -> (u8, u16) {
+/// Runs up to `steps` steps: the number, the position, the state and the steps made.
+pub fn run(image: &[u8], state: State, table: &mut [u16], steps: u16) -> (u8, u32, State, u16) {
     match Model::decode(image) {
-        Ok(model) => model.refresh(state, mark, table),
-        Err(refusal) => (refusal.number, 0),
+        Ok(model) => {
+            let (number, after, made) = model.run(state, table, steps);
+            (number, 0, after, made)
+        }
+        Err(Refusal { number, at }) => (number, at, state, 0),
+    }
+}
+
+/// Refreshes the entries of rules that test a marked buffer: the number, the position and how many these are.
+pub fn refresh(image: &[u8], state: &State, mark: u16, table: &mut [u16]) -> (u8, u32, u16) {
+    match Model::decode(image) {
+        Ok(model) => {
+            let (number, count) = model.refresh(state, mark, table);
+            (number, 0, count)
+        }
+        Err(Refusal { number, at }) => (number, at, 0),
     }
 }
 
 /// A run that also tells each step.
-pub fn trace(image: &[u8], state: State, table: &mut [u16], steps: u16) -> (u8, State, Vec<Event>) {
+pub fn trace(image: &[u8], state: State, table: &mut [u16], steps: u16) -> (u8, u32, State, Vec<Event>) {
     match Model::decode(image) {
-        Ok(model) => model.trace(state, table, steps),
-        Err(refusal) => (refusal.number, state, Vec::new()),
+        Ok(model) => {
+            let (number, after, events) = model.trace(state, table, steps);
+            (number, 0, after, events)
+        }
+        Err(Refusal { number, at }) => (number, at, state, Vec::new()),
     }
 }
 

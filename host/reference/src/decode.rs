@@ -1,10 +1,11 @@
 //! From the image's bytes to a model; every field is judged before the next is fetched.
 
-use crate::bits::{Reader, Refusal};
+use crate::bits::Reader;
 use crate::memory::Memory;
 use crate::model::Model;
 use crate::parts::{Action, Chunk, Deed, Fact, PackedTerm, Parts, Pattern, RuleHead, Test, Types};
 use crate::plan::Plan;
+use crate::refusal::{Refusal, BROKEN, BUFFER, MASK, TOO_LONG, VARIABLE};
 use crate::{BUFFERS, IMAGE_LIMIT};
 
 impl Model {
@@ -29,7 +30,7 @@ struct Scope {
 /// The fields alone, without the tables that speed up a run.
 pub(crate) fn decode_parts(image: &[u8]) -> Result<Parts, Refusal> {
     if image.len() > IMAGE_LIMIT {
-        return Err(Refusal { number: 1, at: 0 });
+        return Err(Refusal { number: TOO_LONG, at: 0 });
     }
     let mut reader = Reader::new(image);
     let mut parts = Parts::default();
@@ -43,7 +44,7 @@ pub(crate) fn decode_parts(image: &[u8]) -> Result<Parts, Refusal> {
 fn read_all(reader: &mut Reader, parts: &mut Parts) -> Option<()> {
     let (rules, facts) = header(reader, parts)?;
     for isa in 1..=usize::from(parts.types.count) {
-        parts.types.slots[isa] = reader.judged(4, |count| count <= 8)? as u8;
+        parts.types.slots[isa] = reader.judged(4, BROKEN, |count| count <= 8)? as u8;
     }
     for chunk in parts.opening.iter_mut().take(usize::from(parts.buffers)) {
         read_chunk(reader, &parts.types, 0, chunk)?;
@@ -66,11 +67,11 @@ fn read_all(reader: &mut Reader, parts: &mut Parts) -> Option<()> {
 
 /// Version, counts and failure latency; gives the number of rules and of facts.
 fn header(reader: &mut Reader, parts: &mut Parts) -> Option<(usize, usize)> {
-    reader.judged(8, |version| version == 1)?;
-    parts.buffers = reader.judged(4, |count| (1..=8).contains(&count))? as u8;
+    reader.judged(8, BROKEN, |version| version == 1)?;
+    parts.buffers = reader.judged(4, BROKEN, |count| (1..=8).contains(&count))? as u8;
     parts.types.count = reader.take(6)? as u8;
-    let rules = reader.judged(9, |count| count <= 256)?;
-    let facts = reader.judged(10, |count| count <= 512)?;
+    let rules = reader.judged(9, BROKEN, |count| count <= 256)?;
+    let facts = reader.judged(10, BROKEN, |count| count <= 512)?;
     parts.failure = reader.take(16)?;
     Some((usize::from(rules), usize::from(facts)))
 }
@@ -79,7 +80,7 @@ fn header(reader: &mut Reader, parts: &mut Parts) -> Option<(usize, usize)> {
 #[inline]
 fn read_type(reader: &mut Reader, types: &Types, lowest: u16) -> Option<u8> {
     let highest = u16::from(types.count);
-    Some(reader.judged(6, |isa| (lowest..=highest).contains(&isa))? as u8)
+    Some(reader.judged(6, BROKEN, |isa| (lowest..=highest).contains(&isa))? as u8)
 }
 
 /// A type from `lowest` to T and its slots.
@@ -96,9 +97,9 @@ fn read_chunk(reader: &mut Reader, types: &Types, lowest: u16, chunk: &mut Chunk
 fn read_rule(reader: &mut Reader, parts: &mut Parts) -> Option<()> {
     let buffers = u16::from(parts.buffers);
     let utility = reader.take(16)? as i16;
-    let tests = reader.judged(4, |count| (1..=buffers).contains(&count))?;
-    let actions = reader.judged(4, |count| count <= buffers)?;
-    let variables = reader.judged(4, |count| count <= 8)? as u8;
+    let tests = reader.judged(4, BROKEN, |count| (1..=buffers).contains(&count))?;
+    let actions = reader.judged(4, BROKEN, |count| count <= buffers)?;
+    let variables = reader.judged(4, BROKEN, |count| count <= 8)? as u8;
     let mut scope = Scope { variables, bound: 0, tested: [None; BUFFERS] };
     let (first_test, first_action) = (parts.tests.len(), parts.actions.len());
 
@@ -109,7 +110,9 @@ fn read_rule(reader: &mut Reader, parts: &mut Parts) -> Option<()> {
         read_test(reader, &parts.types, &mut scope, &mut open_buffers, test)?;
     }
     // A variable that stood in no test has no value; this comes before any action field.
-    reader.require(scope.bound == (1 << variables) - 1)?;
+    if scope.bound != (1 << variables) - 1 {
+        return reader.refuse(VARIABLE, reader.at());
+    }
     let mut open_buffers = 0..buffers;
     for _ in 0..actions {
         parts.actions.push(Action::EMPTY);
@@ -128,7 +131,7 @@ fn read_rule(reader: &mut Reader, parts: &mut Parts) -> Option<()> {
 /// A buffer that is still open: below the count and above the one before it.
 #[inline]
 fn read_buffer(reader: &mut Reader, open: &mut std::ops::Range<u16>) -> Option<u8> {
-    let buffer = reader.judged(3, |buffer| open.contains(&buffer))?;
+    let buffer = reader.judged(3, BUFFER, |buffer| open.contains(&buffer))?;
     open.start = buffer + 1;
     Some(buffer as u8)
 }
@@ -157,13 +160,15 @@ fn read_action(
 ) -> Option<()> {
     action.buffer = read_buffer(reader, open)?;
     let tested = scope.tested[usize::from(action.buffer)];
-    // Kind 0 on an untested buffer breaks the rule of the kind field, as kind 3 does.
-    let kind = reader.judged(2, |kind| kind < 3 && (kind != 0 || tested.is_some()))?;
+    let at = reader.at();
+    let kind = reader.judged(2, BROKEN, |kind| kind < 3)?;
     let isa = match (kind, tested) {
         (0, Some(isa)) => {
             action.deed = Deed::Modify;
             isa
         }
+        // What is wrong is the buffer, and it is the kind field that breaks its rule.
+        (0, None) => return reader.refuse(BUFFER, at),
         (1, _) => {
             let isa = read_type(reader, types, 1)?;
             action.deed = Deed::Request(isa);
@@ -178,7 +183,7 @@ fn read_action(
 /// A mask within the type's slots and a term for each of its ones.
 fn read_pattern(reader: &mut Reader, types: &Types, scope: &mut Scope, isa: u8, pattern: &mut Pattern) -> Option<()> {
     let past = 0xff_u16 >> types.slots(isa);
-    let mask = reader.judged(8, |mask| mask & past == 0)? as u8;
+    let mask = reader.judged(8, MASK, |mask| mask & past == 0)? as u8;
     pattern.slots = mask.reverse_bits();
     let mut left = pattern.slots;
     while left != 0 {
@@ -192,7 +197,7 @@ fn read_pattern(reader: &mut Reader, types: &Types, scope: &mut Scope, isa: u8, 
 #[inline]
 fn read_term(reader: &mut Reader, scope: &mut Scope) -> Option<PackedTerm> {
     let limit = PackedTerm::VARIABLE | u16::from(scope.variables);
-    let term = PackedTerm(reader.judged(13, |field| field < limit)?);
+    let term = PackedTerm(reader.judged(13, VARIABLE, |field| field < limit)?);
     scope.bound |= term.variable().map_or(0, |number| 1 << number);
     Some(term)
 }

@@ -1,9 +1,11 @@
-//! An independent engine for document 01 with change requests 2026-01 and 2026-02.
+//! An independent engine for document 01 with change requests 2026-01 to 2026-03.
 //!
 //! An image is decoded once into ordinary structs ([`Model`]); a run keeps the
 //! matches from step to step and matches again only the rules that test a marked
 //! buffer. A fresh run ([`run_fresh`]) keeps nothing, and is written by itself.
-//! Every call is total: any bytes, state, table, mark and step count.
+//! Every call is total: any bytes, state, table, mark and step count. A call on an
+//! image answers its number and the position that goes with it: the first bit of the
+//! field for which the image is refused, 0 with every number that is about no field.
 
 mod bits;
 mod board;
@@ -17,17 +19,18 @@ mod parts;
 mod place;
 mod plan;
 mod print;
+mod refusal;
 mod set;
 mod state;
 mod step;
 mod well_formed;
 
-pub use bits::Refusal;
 pub use calls::{open, refresh, run, table_len, trace, Event, Kind};
 pub use fresh::{run_fresh, trace_fresh};
 pub use model::Model;
 pub use parts::{Action, Chunk, Deed, Fact, Pattern, Rule, Term, Test};
 pub use print::{print, PRINTED_STEPS};
+pub use refusal::Refusal;
 pub use state::{Buffer, State};
 
 /// Most buffers of an image, and the buffers of every state.

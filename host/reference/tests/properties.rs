@@ -5,7 +5,7 @@ mod common;
 use common::{entry_by_definition, spec_of};
 use jirvuntsag_generate::{case, each_seed, mark, model, state, steps, table, Rng};
 use jirvuntsag_packing::{pack, ModelSpec};
-use jirvuntsag_reference::{open, refresh, run, trace, Kind, Model, State};
+use jirvuntsag_reference::{open, refresh, run, table_len, trace, Kind, Model, State};
 
 /// A valid model with its specification.
 fn valid(rng: &mut Rng) -> (ModelSpec, Model) {
@@ -143,8 +143,8 @@ fn a_trace_tells_the_run() {
     each_seed(160_000, 3_000, |seed, _| {
         let case = case(seed);
         let (mut told, mut silent) = (case.table.clone(), case.table.clone());
-        let (number, state, events) = trace(&case.image, case.state, &mut told, case.steps);
-        assert_eq!((number, state, events.len() as u16), run(&case.image, case.state, &mut silent, case.steps));
+        let (number, at, state, events) = trace(&case.image, case.state, &mut told, case.steps);
+        assert_eq!((number, at, state, events.len() as u16), run(&case.image, case.state, &mut silent, case.steps));
         assert_eq!(told, silent);
         let mut clock = case.state.clock;
         for event in &events {
@@ -159,31 +159,59 @@ fn a_trace_tells_the_run() {
     });
 }
 
+/// Whether the image is refused by this number.
+fn is_of_image(number: u8) -> bool {
+    matches!(number, 1..=4 | 11..=13)
+}
+
+/// Holds a position to its number: it lies within the image where there is one, and is 0 where there is none.
+fn assert_placed(image: &[u8], number: u8, at: u32) {
+    let bits = 8 * image.len();
+    match number {
+        // A field that is wholly missing begins at the image's end, and a rule's last test may end there.
+        2 | 12 => assert!(at as usize <= bits, "{at} of {bits}"),
+        3 | 11 | 13 => assert!((at as usize) < bits, "{at} of {bits}"),
+        _ => assert_eq!(at, 0, "{number}"),
+    }
+}
+
 #[test]
-fn refused_calls_change_nothing() {
+fn refused_calls_change_nothing_and_all_tell_one_position() {
     each_seed(170_000, 6_000, |seed, _| {
         let case = case(seed);
+        let refused = Model::decode(&case.image).err().map(|refusal| (refusal.number, refusal.at));
+        let hold = |number, at| {
+            assert_placed(&case.image, number, at);
+            assert_eq!(refused, is_of_image(number).then_some((number, at)));
+        };
         let mut table = case.table.clone();
-        let (number, state) = open(&case.image, &mut table);
-        assert!(number <= 5);
+        let (number, at, state) = open(&case.image, &mut table);
+        hold(number, at);
+        assert!(is_of_image(number) || matches!(number, 0 | 5));
         if number != 0 {
             assert_eq!((state, &table), (State::default(), &case.table));
         }
         let mut table = case.table.clone();
-        let (number, state, made) = run(&case.image, case.state, &mut table, case.steps);
-        if (1..=6).contains(&number) {
-            assert_eq!((state, made, &table), (case.state, 0, &case.table));
-        } else if number == 0 {
-            assert_eq!(made, case.steps);
-        } else {
-            assert!((7..=9).contains(&number) && made < case.steps);
+        let (number, at, state, made) = run(&case.image, case.state, &mut table, case.steps);
+        hold(number, at);
+        match number {
+            0 => assert_eq!(made, case.steps),
+            7..=9 => assert!(made < case.steps),
+            _ => {
+                assert!(is_of_image(number) || matches!(number, 5 | 6));
+                assert_eq!((state, made, &table), (case.state, 0, &case.table));
+            }
         }
         let mut table = case.table.clone();
-        let (number, count) = refresh(&case.image, &case.state, case.mark, &mut table);
+        let (number, at, count) = refresh(&case.image, &case.state, case.mark, &mut table);
+        hold(number, at);
         if number != 0 {
-            assert!((1..=6).contains(&number) || number == 10);
+            assert!(is_of_image(number) || matches!(number, 5 | 6 | 10));
             assert_eq!((count, &table), (0, &case.table));
         }
+        let (number, at, _) = table_len(&case.image);
+        hold(number, at);
+        assert!(is_of_image(number) || number == 0);
     });
 }
 
@@ -193,14 +221,16 @@ fn the_calls_on_a_decoded_model_are_those_on_its_image() {
         let case = case(seed);
         let Ok(model) = Model::decode(&case.image) else { return };
         let (mut one, mut other) = (case.table.clone(), case.table.clone());
-        assert_eq!(open(&case.image, &mut one), model.open(&mut other));
+        let (number, state) = model.open(&mut other);
+        assert_eq!(open(&case.image, &mut one), (number, 0, state));
         assert_eq!(one, other);
         let (mut one, mut other) = (case.table.clone(), case.table.clone());
-        let answer = run(&case.image, case.state, &mut one, case.steps);
-        assert_eq!(answer, model.run(case.state, &mut other, case.steps));
+        let (number, state, made) = model.run(case.state, &mut other, case.steps);
+        assert_eq!(run(&case.image, case.state, &mut one, case.steps), (number, 0, state, made));
         assert_eq!(one, other);
-        let answer = refresh(&case.image, &case.state, case.mark, &mut one);
-        assert_eq!(answer, model.refresh(&case.state, case.mark, &mut other));
+        let (number, count) = model.refresh(&case.state, case.mark, &mut other);
+        assert_eq!(refresh(&case.image, &case.state, case.mark, &mut one), (number, 0, count));
         assert_eq!(one, other);
+        assert_eq!(table_len(&case.image), (0, 0, model.table_len()));
     });
 }

@@ -10,6 +10,7 @@ use crate::calls::{Event, Kind};
 use crate::decode::decode_parts;
 use crate::model::Model;
 use crate::parts::Parts;
+use crate::refusal::Refusal;
 use crate::state::State;
 use crate::FIRING;
 
@@ -20,19 +21,25 @@ const CLOCK_FULL: u8 = 8;
 /// No rule matches, and nothing is pending.
 const HALTED: u8 = 9;
 
-/// Runs up to `steps` steps without a table: the number, the state and the steps made.
-pub fn run_fresh(image: &[u8], state: State, steps: u16) -> (u8, State, u16) {
+/// Runs up to `steps` steps without a table: the number, the position, the state and the steps made.
+pub fn run_fresh(image: &[u8], state: State, steps: u16) -> (u8, u32, State, u16) {
     match decode_parts(image) {
-        Ok(parts) => run_telling(&parts, state, steps, |_| ()),
-        Err(refusal) => (refusal.number, state, 0),
+        Ok(parts) => {
+            let (number, after, made) = run_telling(&parts, state, steps, |_| ());
+            (number, 0, after, made)
+        }
+        Err(Refusal { number, at }) => (number, at, state, 0),
     }
 }
 
 /// A run without a table that also tells each step.
-pub fn trace_fresh(image: &[u8], state: State, steps: u16) -> (u8, State, Vec<Event>) {
+pub fn trace_fresh(image: &[u8], state: State, steps: u16) -> (u8, u32, State, Vec<Event>) {
     match decode_parts(image) {
-        Ok(parts) => trace_parts(&parts, state, steps),
-        Err(refusal) => (refusal.number, state, Vec::new()),
+        Ok(parts) => {
+            let (number, after, events) = trace_parts(&parts, state, steps);
+            (number, 0, after, events)
+        }
+        Err(Refusal { number, at }) => (number, at, state, Vec::new()),
     }
 }
 
