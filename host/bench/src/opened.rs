@@ -28,13 +28,14 @@ impl<'a> Opened<'a> {
     pub fn new(model: &'a Measured) -> Opened<'a> {
         let decoded = reference::Model::decode(&model.image).expect("a valid model");
         let mut fresh = vec![0; decoded.table_len()];
-        let (_, state) = reference::open(&model.image, &mut fresh);
+        let (_, _, state) = reference::open(&model.image, &mut fresh);
         let mut tables = [fresh.clone(), fresh.clone()];
         let (_, proved) = proved::calls::open(&model.image, &mut tables[0]);
         let kept = proved::calls::run(&model.image, &proved, &mut tables[0], model.steps);
         let there = reference::run(&model.image, state, &mut tables[1], model.steps);
         let (number, after, made) = kept;
-        assert_eq!((number.number(), after.clock, made), (there.0, there.1.clock, there.2), "{}", model.name);
+        let here = (number.number(), number.position(), after.clock, made);
+        assert_eq!(here, (there.0, there.1, there.2.clock, there.3), "{}", model.name);
         assert!(tables[0] == tables[1] && made == model.steps, "{}", model.name);
         assert_eq!(proved::calls::run_fresh(&model.image, &proved, model.steps), kept, "{}", model.name);
         assert_eq!(reference::run_fresh(&model.image, state, model.steps), there, "{}", model.name);

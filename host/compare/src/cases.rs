@@ -1,10 +1,10 @@
-//! The cases of `vectors/02.txt`, which have requests 2026-01 and 2026-02 in: a call and its answer on two lines.
+//! The cases of `vectors/03.txt`, which have requests 2026-01 to 2026-03 in: a call and its answer on two lines.
 
 use jirvuntsag_reference::{Buffer, State};
 
-use crate::Engine;
+use crate::{Engine, Numbered};
 
-const PATH: &str = concat!(env!("CARGO_MANIFEST_DIR"), "/../../vectors/02.txt");
+const PATH: &str = concat!(env!("CARGO_MANIFEST_DIR"), "/../../vectors/03.txt");
 
 /// A call and the answer that it must have, as they are written.
 pub struct Case {
@@ -16,20 +16,38 @@ pub struct Case {
 
 /// All cases.
 pub fn cases() -> Vec<Case> {
-    let text = std::fs::read_to_string(PATH).expect("vectors/02.txt");
+    let text = std::fs::read_to_string(PATH).expect("vectors/03.txt");
     let lines: Vec<&str> = text.lines().collect();
     assert_eq!(lines.len() % 2, 0, "a call without an answer");
     lines.chunks_exact(2).map(|pair| Case { call: pair[0].into(), answer: pair[1].into() }).collect()
 }
 
 impl Case {
-    /// The image of an opening that is accepted, and the words of the table handed in.
-    pub fn accepted_opening(&self) -> Option<(Vec<u8>, usize)> {
+    /// The number and the position with which the answer begins; printed lines have neither.
+    pub fn numbered(&self) -> Numbered {
+        let mut parts = self.answer.split(' ');
+        let mut part = || parts.next().expect("a number and a position");
+        (part().parse().expect("a number"), part().parse().expect("a position"))
+    }
+
+    /// The image of an opening, and the words of the table handed in.
+    fn opening(&self) -> Option<(Vec<u8>, usize)> {
         let parts: Vec<&str> = self.call.split(' ').collect();
         match parts[..] {
-            ["open", image, table] if self.answer.starts_with("0 ") => Some((bytes(image), words(table).len())),
+            ["open", image, table] => Some((bytes(image), words(table).len())),
             _ => None,
         }
+    }
+
+    /// The image of an opening that is accepted, and the words of the table handed in.
+    pub fn accepted_opening(&self) -> Option<(Vec<u8>, usize)> {
+        self.opening().filter(|_| self.numbered().0 == 0)
+    }
+
+    /// The image of an opening that is refused for its image, with number and position.
+    pub fn refused_opening(&self) -> Option<(Vec<u8>, Numbered)> {
+        let (image, _) = self.opening()?;
+        Some((image, self.numbered())).filter(|(_, (number, _))| !matches!(number, 0 | 5))
     }
 
     /// What an engine answers, written as the answer is.
@@ -38,25 +56,25 @@ impl Case {
         match parts[..] {
             ["open", image, table] => {
                 let mut table = words(table);
-                let (number, state) = (engine.open)(&bytes(image), &mut table);
-                format!("{number} {} {}", show_state(&state), show_words(&table))
+                let (number, at, state) = (engine.open)(&bytes(image), &mut table);
+                format!("{number} {at} {} {}", show_state(&state), show_words(&table))
             }
             ["run", image, from, table, steps] => {
                 let mut table = words(table);
                 let steps = steps.parse().expect("steps");
-                let (number, after, made) = (engine.run)(&bytes(image), state(from), &mut table, steps);
-                format!("{number} {} {} {made}", show_state(&after), show_words(&table))
+                let (number, at, after, made) = (engine.run)(&bytes(image), state(from), &mut table, steps);
+                format!("{number} {at} {} {} {made}", show_state(&after), show_words(&table))
             }
             ["fresh", image, from, steps] => {
                 let steps = steps.parse().expect("steps");
-                let (number, after, made) = (engine.run_fresh)(&bytes(image), state(from), steps);
-                format!("{number} {} {made}", show_state(&after))
+                let (number, at, after, made) = (engine.run_fresh)(&bytes(image), state(from), steps);
+                format!("{number} {at} {} {made}", show_state(&after))
             }
             ["refresh", image, from, mark, table] => {
                 let mut table = words(table);
                 let mark = mark.parse().expect("mark");
-                let (number, count) = (engine.refresh)(&bytes(image), &state(from), mark, &mut table);
-                format!("{number} {count} {}", show_words(&table))
+                let (number, at, count) = (engine.refresh)(&bytes(image), &state(from), mark, &mut table);
+                format!("{number} {at} {count} {}", show_words(&table))
             }
             ["print", image] => (engine.print)(&bytes(image)).bytes().map(|byte| format!("{byte:02x}")).collect(),
             _ => panic!("unknown call {}", self.call),

@@ -6,7 +6,7 @@ use crate::{Engine, Told, BOTH, PROVED};
 
 /// The fresh table of a state, as an engine's refresh of all rules makes it; words of 0 if image or state is refused.
 pub fn fresh_table(engine: &Engine, image: &[u8], state: &State) -> Vec<u16> {
-    let mut table = vec![0; (engine.table_len)(image)];
+    let mut table = engine.zeros(image);
     let buffers = Model::decode(image).map_or(0, |model| model.buffers());
     (engine.refresh)(image, state, (1 << buffers) - 1, &mut table);
     table
@@ -14,14 +14,14 @@ pub fn fresh_table(engine: &Engine, image: &[u8], state: &State) -> Vec<u16> {
 
 /// Holds the fresh run of an engine, told and not told, to what is wanted.
 pub fn hold_fresh_to(engine: &Engine, image: &[u8], state: State, steps: u16, wanted: &Told) {
-    let ran = (wanted.0, wanted.1, wanted.2.len() as u16);
+    let ran = (wanted.0, wanted.1, wanted.2, wanted.3.len() as u16);
     assert_eq!((engine.run_fresh)(image, state, steps), ran, "{} run_fresh", engine.name);
     assert_eq!((engine.trace_fresh)(image, state, steps), *wanted, "{} trace_fresh", engine.name);
 }
 
 /// Holds the kept run of an engine, told and not told, handed this table, to what is wanted.
 fn hold_kept_to(engine: &Engine, image: &[u8], state: State, table: &[u16], steps: u16, wanted: &Told) {
-    let ran = (wanted.0, wanted.1, wanted.2.len() as u16);
+    let ran = (wanted.0, wanted.1, wanted.2, wanted.3.len() as u16);
     assert_eq!((engine.run)(image, state, &mut table.to_vec(), steps), ran, "{} run", engine.name);
     assert_eq!((engine.trace)(image, state, &mut table.to_vec(), steps), *wanted, "{} trace", engine.name);
 }
@@ -33,11 +33,13 @@ pub fn hold_fresh(image: &[u8], state: State, steps: u16) -> Told {
         hold_fresh_to(engine, image, state, steps, &told);
         hold_kept_to(engine, image, state, &fresh_table(engine, image, &state), steps, &told);
     }
-    match told.0 {
-        0 => assert_eq!(told.2.len(), usize::from(steps)),
-        1..=4 | 6 => assert_eq!((told.1, told.2.len()), (state, 0), "refused by {}", told.0),
-        8 | 9 => assert!(told.2.len() < usize::from(steps)),
-        number => panic!("a fresh run answered {number}"),
+    let (number, position, after, events) = &told;
+    match number {
+        0 => assert_eq!((*position, events.len()), (0, usize::from(steps))),
+        1 | 4 | 6 => assert_eq!((*position, *after, events.len()), (0, state, 0), "refused by {number}"),
+        2 | 3 | 11..=13 => assert_eq!((*after, events.len()), (state, 0), "refused by {number}"),
+        8 | 9 => assert!(*position == 0 && events.len() < usize::from(steps)),
+        _ => panic!("a fresh run answered {number}"),
     }
     told
 }

@@ -5,48 +5,62 @@ mod cases;
 mod fresh;
 mod printing;
 mod proved;
+mod same;
 
 pub use by_hand::{always_fires, P1};
 pub use cases::{cases, Case};
 pub use fresh::{hold_fresh, hold_fresh_to};
+pub use same::{hold_same, opening, Numbered};
 
-use jirvuntsag_proved::calls;
 use jirvuntsag_reference as reference;
 use jirvuntsag_reference::{Event, State};
 
-/// Number, state and steps made.
-pub type Ran = (u8, State, u16);
-/// Number, state and each step.
-pub type Told = (u8, State, Vec<Event>);
+/// Number, position and the words that a table needs.
+pub type Needed = (u8, u32, usize);
+/// Number, position and opening state.
+pub type Opened = (u8, u32, State);
+/// Number, position, state and steps made.
+pub type Ran = (u8, u32, State, u16);
+/// Number, position, state and each step.
+pub type Told = (u8, u32, State, Vec<Event>);
+/// Number, position and count of refreshed rules.
+pub type Refreshed = (u8, u32, u16);
 /// An opening.
-type Opens = fn(&[u8], &mut [u16]) -> (u8, State);
+type Opens = fn(&[u8], &mut [u16]) -> Opened;
 /// A run that is lent a table, by what it answers.
 type Runs<Answer> = fn(&[u8], State, &mut [u16], u16) -> Answer;
 /// A run without a table, by what it answers.
 type RunsFresh<Answer> = fn(&[u8], State, u16) -> Answer;
 /// A refresh with a mark.
-type Refreshes = fn(&[u8], &State, u16, &mut [u16]) -> (u8, u16);
+type Refreshes = fn(&[u8], &State, u16, &mut [u16]) -> Refreshed;
 
-/// The calls of an engine.
+/// The calls of an engine. Each answers a number and the position of the refused field, 0 if it is about no field.
 pub struct Engine {
     /// What a failing test calls it.
     pub name: &'static str,
-    /// Words of an image's table.
-    pub table_len: fn(&[u8]) -> usize,
-    /// Number and opening state; the table is written.
+    /// Words of an image's table, 0 if the image is refused.
+    pub table_len: fn(&[u8]) -> Needed,
+    /// The opening state; the table is written.
     pub open: Opens,
-    /// Number, state and steps made; the table is written.
+    /// The state and the steps made; the table is written.
     pub run: Runs<Ran>,
-    /// Number, state and each step; the table is written.
+    /// The state and each step; the table is written.
     pub trace: Runs<Told>,
-    /// Number, state and steps made, without a table.
+    /// The state and the steps made, without a table.
     pub run_fresh: RunsFresh<Ran>,
-    /// Number, state and each step, without a table.
+    /// The state and each step, without a table.
     pub trace_fresh: RunsFresh<Told>,
-    /// Number and count of refreshed rules; the table is written.
+    /// The count of refreshed rules; the table is written.
     pub refresh: Refreshes,
     /// The lines of the printing program.
     pub print: fn(&[u8]) -> String,
+}
+
+impl Engine {
+    /// A table of zeros, as long as an image needs it; of no words if the image is refused.
+    pub fn zeros(&self, image: &[u8]) -> Vec<u16> {
+        vec![0; (self.table_len)(image).2]
+    }
 }
 
 /// The reference engine.
@@ -65,7 +79,7 @@ pub const REFERENCE: Engine = Engine {
 /// The proved library.
 pub const PROVED: Engine = Engine {
     name: "proved",
-    table_len: calls::table_length,
+    table_len: proved::table_len,
     open: proved::open,
     run: proved::run,
     trace: proved::trace,

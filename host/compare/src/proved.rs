@@ -4,7 +4,7 @@ use jirvuntsag_proved as proved;
 use jirvuntsag_proved::{calls, Number};
 use jirvuntsag_reference::{Buffer, Event, Kind, State};
 
-use crate::{Ran, Told};
+use crate::{Needed, Opened, Ran, Refreshed, Told};
 
 /// A state for the proved library.
 fn to_proved(state: &State) -> proved::State {
@@ -27,44 +27,49 @@ fn event(event: &proved::Event) -> Event {
     Event { clock: event.clock, kind }
 }
 
-/// The number and the opening state.
-pub fn open(image: &[u8], table: &mut [u16]) -> (u8, State) {
+/// The number, the position and the words of an image's table.
+pub fn table_len(image: &[u8]) -> Needed {
+    calls::table_length(image).map_or_else(|refusal| (refusal.number(), refusal.position(), 0), |words| (0, 0, words))
+}
+
+/// The number, the position and the opening state.
+pub fn open(image: &[u8], table: &mut [u16]) -> Opened {
     let (number, state) = calls::open(image, table);
-    (number.number(), from_proved(&state))
+    (number.number(), number.position(), from_proved(&state))
 }
 
 /// A run that the proved library answered.
 fn ran((number, state, made): (Number, proved::State, u16)) -> Ran {
-    (number.number(), from_proved(&state), made)
+    (number.number(), number.position(), from_proved(&state), made)
 }
 
 /// A traced run that the proved library answered.
 fn traced((number, state, events): (Number, proved::State, Vec<proved::Event>)) -> Told {
-    (number.number(), from_proved(&state), events.iter().map(event).collect())
+    (number.number(), number.position(), from_proved(&state), events.iter().map(event).collect())
 }
 
-/// The number, the state and the steps made.
+/// The number, the position, the state and the steps made.
 pub fn run(image: &[u8], state: State, table: &mut [u16], steps: u16) -> Ran {
     ran(calls::run(image, &to_proved(&state), table, steps))
 }
 
-/// The number, the state and each step.
+/// The number, the position, the state and each step.
 pub fn trace(image: &[u8], state: State, table: &mut [u16], steps: u16) -> Told {
     traced(calls::trace(image, &to_proved(&state), table, steps))
 }
 
-/// The number, the state and the steps made, without a table.
+/// The number, the position, the state and the steps made, without a table.
 pub fn run_fresh(image: &[u8], state: State, steps: u16) -> Ran {
     ran(calls::run_fresh(image, &to_proved(&state), steps))
 }
 
-/// The number, the state and each step, without a table.
+/// The number, the position, the state and each step, without a table.
 pub fn trace_fresh(image: &[u8], state: State, steps: u16) -> Told {
     traced(calls::trace_fresh(image, &to_proved(&state), steps))
 }
 
-/// The number and the count.
-pub fn refresh(image: &[u8], state: &State, mark: u16, table: &mut [u16]) -> (u8, u16) {
+/// The number, the position and the count.
+pub fn refresh(image: &[u8], state: &State, mark: u16, table: &mut [u16]) -> Refreshed {
     let (number, count) = calls::refresh(image, &to_proved(state), mark, table);
-    (number.number(), count)
+    (number.number(), number.position(), count)
 }

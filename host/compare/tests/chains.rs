@@ -2,7 +2,7 @@
 
 use std::collections::BTreeMap;
 
-use jirvuntsag_compare::{hold_fresh_to, Engine, BOTH, PROVED, REFERENCE};
+use jirvuntsag_compare::{hold_fresh_to, Engine, Numbered, Ran, BOTH, PROVED, REFERENCE};
 use jirvuntsag_generate::{broken_state, clock, damage, each_seed, mark, model, steps, Rng};
 use jirvuntsag_packing::{pack_with_fields, ModelSpec, Packed};
 use jirvuntsag_reference::{Event, Model, State};
@@ -35,25 +35,25 @@ struct Hand {
     table: Vec<u16>,
 }
 
-/// What the calls of a link answer: numbers, counts and steps.
+/// What the calls of a link answer: numbers with their positions, counts and steps.
 #[derive(PartialEq, Debug, Default)]
 struct Said {
-    numbers: Vec<u8>,
+    numbers: Vec<Numbered>,
     counts: Vec<u16>,
     events: Vec<Event>,
     /// What a fresh run beside them answers, which takes no part in the chain.
-    fresh: Option<(u8, State, u16)>,
+    fresh: Option<Ran>,
 }
 
 impl Said {
-    fn note(&mut self, number: u8, count: u16) {
-        self.numbers.push(number);
+    fn note(&mut self, number: u8, position: u32, count: u16) {
+        self.numbers.push((number, position));
         self.counts.push(count);
     }
 
     /// Whether each call was refused, so that nothing may have changed.
     fn refused(&self) -> bool {
-        self.numbers.iter().all(|number| matches!(number, 1..=6 | 10))
+        self.numbers.iter().all(|(number, _)| matches!(number, 1..=6 | 10..=13))
     }
 }
 
@@ -73,10 +73,10 @@ fn link(rng: &mut Rng, spec: &ModelSpec, packed: &Packed) -> Link {
 
 /// A run of three steps and a refresh by this state, where both may be refused.
 fn run_and_refresh(engine: &Engine, image: &[u8], state: State, table: &mut [u16], said: &mut Said) -> State {
-    let (number, after, made) = (engine.run)(image, state, table, 3);
-    said.note(number, made);
-    let (number, count) = (engine.refresh)(image, &after, 1, table);
-    said.note(number, count);
+    let (number, position, after, made) = (engine.run)(image, state, table, 3);
+    said.note(number, position, made);
+    let (number, position, count) = (engine.refresh)(image, &after, 1, table);
+    said.note(number, position, count);
     after
 }
 
@@ -89,7 +89,7 @@ fn misuse(engine: &Engine, image: &[u8], link: &Link, hand: &mut Hand) -> Said {
             hand.state = run_and_refresh(engine, damaged, hand.state, &mut hand.table, &mut said);
         }
         Link::BrokenState(broken) => {
-            assert_eq!((engine.run_fresh)(image, **broken, 3), (6, **broken, 0), "a broken state is refused afresh");
+            assert_eq!((engine.run_fresh)(image, **broken, 3), (6, 0, **broken, 0), "a broken state is refused afresh");
             let after = run_and_refresh(engine, image, **broken, &mut hand.table, &mut said);
             assert_eq!(after, **broken, "a broken state comes back as it was");
         }
@@ -108,19 +108,19 @@ fn make(engine: &Engine, image: &[u8], link: &Link, hand: &mut Hand) -> Said {
     let mut said = Said::default();
     match link {
         Link::Run(steps) => {
-            let (number, state, made) = (engine.run)(image, hand.state, &mut hand.table, *steps);
+            let (number, position, state, made) = (engine.run)(image, hand.state, &mut hand.table, *steps);
             hand.state = state;
-            said.note(number, made);
+            said.note(number, position, made);
         }
         Link::Trace(steps) => {
-            let (number, state, events) = (engine.trace)(image, hand.state, &mut hand.table, *steps);
+            let (number, position, state, events) = (engine.trace)(image, hand.state, &mut hand.table, *steps);
             hand.state = state;
-            said.note(number, events.len() as u16);
+            said.note(number, position, events.len() as u16);
             said.events = events;
         }
         Link::Refresh(mark) => {
-            let (number, count) = (engine.refresh)(image, &hand.state, *mark, &mut hand.table);
-            said.note(number, count);
+            let (number, position, count) = (engine.refresh)(image, &hand.state, *mark, &mut hand.table);
+            said.note(number, position, count);
         }
         Link::SetClock(clock) => hand.state.clock = *clock,
         Link::SetWord(at, value) => {
@@ -158,8 +158,8 @@ impl Chain {
     fn open(image: &[u8]) -> Chain {
         let decoded = Model::decode(image).expect("a valid model");
         let [proved, reference] = BOTH.map(|engine| {
-            let mut table = vec![0; (engine.table_len)(image)];
-            let (_, state) = (engine.open)(image, &mut table);
+            let mut table = engine.zeros(image);
+            let (_, _, state) = (engine.open)(image, &mut table);
             Hand { state, table }
         });
         Chain { image: image.to_vec(), decoded, proved, reference, kept: true }
@@ -187,10 +187,12 @@ impl Chain {
         let Hand { state, table } = &self.proved;
         for engine in BOTH {
             if let Link::Trace(steps) = *link {
-                hold_fresh_to(engine, &self.image, before, steps, &(said.numbers[0], *state, said.events.clone()));
+                let (number, position) = said.numbers[0];
+                hold_fresh_to(engine, &self.image, before, steps, &(number, position, *state, said.events.clone()));
             }
             if let Link::Run(steps) = *link {
-                let ran = (said.numbers[0], *state, said.counts[0]);
+                let (number, position) = said.numbers[0];
+                let ran = (number, position, *state, said.counts[0]);
                 assert_eq!((engine.run_fresh)(&self.image, before, steps), ran, "{} {link:?}", engine.name);
             }
             let kept = (engine.trace)(&self.image, *state, &mut table.clone(), BESIDE);
@@ -206,7 +208,7 @@ fn chain(rng: &mut Rng, numbers: &mut BTreeMap<u8, u32>) {
     let mut chain = Chain::open(&packed.bytes);
     for _ in 0..LINKS {
         let said = chain.add(&link(rng, &spec, &packed));
-        said.numbers.iter().for_each(|number| *numbers.entry(*number).or_default() += 1);
+        said.numbers.iter().for_each(|(number, _)| *numbers.entry(*number).or_default() += 1);
         if !chain.decoded.is_well_formed(&chain.proved.state) {
             // A damaged image that is accepted may leave a state that this one refuses from here on.
             break;
@@ -219,7 +221,7 @@ fn chains_of_calls_with_refused_ones_between() {
     let mut numbers = BTreeMap::new();
     each_seed(50_000, 6_000, |_, mut rng| chain(&mut rng, &mut numbers));
     println!("{numbers:?}");
-    for number in 0..=10 {
+    for number in 0..=13 {
         assert!(numbers.contains_key(&number), "no chain met {number}: {numbers:?}");
     }
 }

@@ -12,9 +12,9 @@ fn image(rest: &str) -> Vec<u8> {
 
 /// Opens an image: state and table.
 fn opened(engine: &Engine, image: &[u8]) -> (State, Vec<u16>) {
-    let mut table = vec![7; (engine.table_len)(image)];
-    let (number, state) = (engine.open)(image, &mut table);
-    assert_eq!(number, 0, "{}", engine.name);
+    let mut table = engine.zeros(image);
+    let (number, at, state) = (engine.open)(image, &mut table);
+    assert_eq!((number, at), (0, 0), "{}", engine.name);
     (state, table)
 }
 
@@ -23,7 +23,7 @@ fn steps(engine: &Engine, image: &[u8], asked: u16) -> (Vec<Kind>, State) {
     let (state, mut table) = opened(engine, image);
     let told = (engine.trace)(image, state, &mut table, asked);
     hold_fresh_to(engine, image, state, asked, &told);
-    let (_, after, events) = told;
+    let (_, _, after, events) = told;
     (events.iter().map(|event| event.kind).collect(), after)
 }
 
@@ -111,7 +111,7 @@ fn a_kept_match_follows_a_slot_that_is_filled_and_emptied() {
             let entries = if step % 2 == 0 { [[0, 0, 0], [1, 1, 0]] } else { [[1, 1, 1], [0, 0, 0]] };
             let kept = [&entries[0][..], &[0; 6], &entries[1], &[0; 6]].concat();
             assert_eq!(table, kept, "{} before step {step}", engine.name);
-            state = (engine.run)(&image, state, &mut table, 1).1;
+            state = (engine.run)(&image, state, &mut table, 1).2;
         }
         assert_eq!(steps(engine, &image, 4).0, [1, 0, 1, 0].map(Kind::Fire), "{}", engine.name);
     }
@@ -124,7 +124,7 @@ fn a_kept_nil_is_stale_where_it_is_chosen() {
         let (state, mut table) = opened(engine, &image);
         table[..3].copy_from_slice(&[1, 1, 0]);
         let before = table.clone();
-        assert_eq!((engine.run)(&image, state, &mut table, 3), (7, state, 0), "{}", engine.name);
+        assert_eq!((engine.run)(&image, state, &mut table, 3), (7, 0, state, 0), "{}", engine.name);
         assert_eq!(table, before, "{}", engine.name);
     }
 }
@@ -137,7 +137,7 @@ fn a_kept_nil_stays_where_another_is_chosen() {
         let (state, mut table) = opened(engine, &image);
         table[..3].copy_from_slice(&[1, 1, 0]);
         let before = table.clone();
-        let (number, after, made) = (engine.run)(&image, state, &mut table, 3);
+        let (number, _, after, made) = (engine.run)(&image, state, &mut table, 3);
         assert_eq!((number, after.buffers, made), (0, state.buffers, 3), "{}", engine.name);
         assert_eq!(table, before, "{}", engine.name);
     }

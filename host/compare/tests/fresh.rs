@@ -26,14 +26,14 @@ fn with(mut state: State, number: usize, buffer: Buffer) -> State {
 /// The opening state of model A with its image.
 fn opened_a() -> (Vec<u8>, State) {
     let image = pack(&model_a());
-    let (_, state) = (REFERENCE.open)(&image, &mut [0; 27]);
+    let (_, _, state) = (REFERENCE.open)(&image, &mut [0; 27]);
     (image, state)
 }
 
-/// Holds both engines, kept and fresh, to a number and so many steps.
+/// Holds both engines, kept and fresh, to a number that has no position, and so many steps.
 fn assert_ends(image: &[u8], state: State, steps: u16, number: u8, made: usize) -> Told {
     let told = hold_fresh(image, state, steps);
-    assert_eq!((told.0, told.2.len()), (number, made), "{steps} steps from clock {}", state.clock);
+    assert_eq!((told.0, told.1, told.3.len()), (number, 0, made), "{steps} steps from clock {}", state.clock);
     told
 }
 
@@ -44,7 +44,7 @@ fn random_models_and_states() {
         let case = case(seed);
         numbers.insert(hold_fresh(&case.image, case.state, case.steps).0);
     });
-    assert_eq!(numbers, BTreeSet::from([0, 1, 2, 3, 4, 6, 8, 9]));
+    assert_eq!(numbers, BTreeSet::from([0, 1, 2, 3, 4, 6, 8, 9, 11, 12, 13]));
 }
 
 #[test]
@@ -53,21 +53,24 @@ fn an_image_is_refused_by_its_number_whatever_the_state() {
     let padded = [&P1[..7], &[0x10]].concat();
     let too_long = vec![0; 65_537];
     let version_and_too_long = [&[2][..], &[0; 65_536]].concat();
-    let refused: [(&[u8], u8); 8] = [
-        (&too_long, 1),
-        (&version_and_too_long, 1),
-        (&[], 2),
-        (&P1[..7], 2),
-        (&[2], 3),
-        (&[1, 0], 3),
-        (&follows, 4),
-        (&padded, 4),
+    let mut masked = pack(&model_a());
+    masked[33] |= 0x40;
+    let refused: [(&[u8], u8, u32); 9] = [
+        (&too_long, 1, 0),
+        (&version_and_too_long, 1, 0),
+        (&[], 2, 0),
+        (&P1[..7], 2, 53),
+        (&[2], 3, 0),
+        (&[1, 0], 3, 8),
+        (&follows, 4, 0),
+        (&padded, 4, 0),
+        (&masked, 11, 258),
     ];
     let late = chunk(0, [0; 3], 1);
-    for (image, number) in refused {
+    for (image, number, position) in refused {
         for state in [at(0), with(at(0), 7, late), with(at(u32::MAX), 7, late)] {
             for steps in [0, 1, 65_535] {
-                assert_ends(image, state, steps, number, 0);
+                assert_eq!(hold_fresh(image, state, steps), (number, position, state, vec![]));
             }
         }
     }
@@ -123,7 +126,7 @@ fn model_a_is_told_step_by_step() {
     let kinds = [fire(0), wait(100), fire(1), wait(100), fire(1), fire(2), wait(150)];
     let clocks = [50, 150, 200, 300, 350, 400, 550];
     let events = clocks.into_iter().zip(kinds).map(|(clock, kind)| Event { clock, kind });
-    let told = (9, at(550), events.collect());
+    let told = (9, 0, at(550), events.collect());
     for engine in BOTH {
         hold_fresh_to(engine, &image, opening, 1_000, &told);
     }
@@ -131,14 +134,14 @@ fn model_a_is_told_step_by_step() {
 
 #[test]
 fn the_most_steps_that_can_be_asked() {
-    let (_, after, _) = assert_ends(&always_fires(), at(0), 65_535, 0, 65_535);
+    let (_, _, after, _) = assert_ends(&always_fires(), at(0), 65_535, 0, 65_535);
     assert_eq!(after, at(50 * 65_535));
 }
 
 #[test]
 fn the_largest_image_and_one_without_rules() {
     let image = pack(&largest());
-    let (_, state) = (REFERENCE.open)(&image, &mut vec![0; (REFERENCE.table_len)(&image)]);
+    let (_, _, state) = (REFERENCE.open)(&image, &mut REFERENCE.zeros(&image));
     assert_ends(&image, state, 1, 0, 1);
     let empty = pack(&ModelSpec { opening: vec![ChunkSpec::nil(); 8], ..ModelSpec::default() });
     let mut pending = at(0);

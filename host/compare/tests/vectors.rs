@@ -2,7 +2,7 @@
 
 use std::collections::BTreeSet;
 
-use jirvuntsag_compare::{cases, Case, Engine, BOTH, PROVED, REFERENCE};
+use jirvuntsag_compare::{cases, Engine, BOTH, PROVED, REFERENCE};
 
 /// Holds an engine to every case, and tells all that differ.
 fn hold(engine: &Engine) {
@@ -29,12 +29,31 @@ fn the_proved_library_answers_every_case() {
 }
 
 #[test]
-fn every_number_of_a_fresh_run_comes_up_but_1() {
+fn every_number_of_a_fresh_run_comes_up_but_1_and_12() {
     let fresh = cases().into_iter().filter(|case| case.call.starts_with("fresh "));
-    let number = |case: Case| case.answer.split(' ').next().expect("a number").parse().expect("a number");
-    let numbers: Vec<u8> = fresh.map(number).collect();
-    assert_eq!(numbers.len(), 69);
-    assert_eq!(BTreeSet::from_iter(numbers), BTreeSet::from([0, 2, 3, 4, 6, 8, 9]));
+    let numbers: Vec<u8> = fresh.map(|case| case.numbered().0).collect();
+    assert_eq!(numbers.len(), 64);
+    assert_eq!(BTreeSet::from_iter(numbers), BTreeSet::from([0, 2, 3, 4, 6, 8, 9, 11, 13]));
+}
+
+#[test]
+fn every_number_about_a_field_comes_up_with_a_position_and_no_other_has_one() {
+    let called = cases().into_iter().filter(|case| !case.call.starts_with("print "));
+    let placed: BTreeSet<u8> =
+        called.map(|case| case.numbered()).filter(|said| said.1 != 0).map(|said| said.0).collect();
+    assert_eq!(placed, BTreeSet::from([2, 3, 11, 12, 13]));
+}
+
+#[test]
+fn a_refused_opening_is_told_by_the_table_length_too() {
+    let cases = cases();
+    let refused: Vec<_> = cases.iter().filter_map(|case| case.refused_opening()).collect();
+    assert!(!refused.is_empty());
+    for (image, (number, position)) in &refused {
+        for engine in BOTH {
+            assert_eq!((engine.table_len)(image), (*number, *position, 0), "{}", engine.name);
+        }
+    }
 }
 
 #[test]
@@ -43,7 +62,7 @@ fn an_accepted_table_has_the_length_that_is_told() {
     assert!(!openings.is_empty());
     for (image, words) in &openings {
         for engine in BOTH {
-            assert_eq!((engine.table_len)(image), *words, "{}", engine.name);
+            assert_eq!((engine.table_len)(image), (0, 0, *words), "{}", engine.name);
         }
     }
 }

@@ -1,13 +1,14 @@
 //! The seven calls as they are: on an image's bytes and a table's words, with all that they give back, refused or not.
 
 use crate::linked;
-use crate::number::Number;
+use crate::number::{Number, Refusal};
 use crate::state::{Event, State};
 use crate::words::{self, events, number_and_count, state_of, words_of};
 
-/// The words that the table of this image needs: nine for each rule; 0 if the image is refused.
-pub fn table_length(image: &[u8]) -> usize {
-    linked::table_len(image) as usize
+/// The words that the table of this image needs: nine for each rule, 0 for an image without rules; or why it is refused.
+pub fn table_length(image: &[u8]) -> Result<usize, Refusal> {
+    let (number, words) = number_and_count(linked::table_len(image));
+    number.ended().map(|_| usize::from(words))
 }
 
 /// Opens an image. If it is refused the state is all zeros and the table as it was; otherwise the table is the fresh one.

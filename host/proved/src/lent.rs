@@ -15,12 +15,13 @@ fn counting() -> (Vec<u8>, [u32; STATE]) {
     (image, state)
 }
 
-/// Holds both runs to a refusal that leaves every word of state and events as it was.
-fn assert_refused(image: &[u8], state: &[u32; STATE], number: u32) {
+/// Holds both runs to a refusal at this position that leaves every word of state and events as it was.
+fn assert_refused(image: &[u8], state: &[u32; STATE], number: u64, position: u64) {
+    let answer = position << 32 | number;
     for steps in [0, 1, u16::MAX] {
         let (mut ran, mut traced, mut events) = (*state, *state, [UNTOUCHED; 9]);
-        assert_eq!(linked::run_fresh(image, &mut ran, steps), number);
-        assert_eq!(linked::trace_fresh(image, &mut traced, steps, &mut events), number);
+        assert_eq!(linked::run_fresh(image, &mut ran, steps), answer);
+        assert_eq!(linked::trace_fresh(image, &mut traced, steps, &mut events), answer);
         assert_eq!((&ran, &traced, events), (state, state, [UNTOUCHED; 9]));
     }
 }
@@ -31,8 +32,12 @@ fn a_refused_image_leaves_every_word() {
     // Words that no state has: what is refused by its image is not looked at.
     state[1..].fill(UNTOUCHED);
     let follows = [&image[..], &[0]].concat();
-    for (image, number) in [(&[0; 65_537][..], 1), (&image[..70], 2), (&[2], 3), (&follows, 4)] {
-        assert_refused(image, &state, number);
+    // The mask of the first test lies at bit 258, so that its last bit, which is past the type's slots, is bit 265.
+    let mut masked = image.clone();
+    masked[33] |= 0x40;
+    let images = [(&[0; 65_537][..], 1, 0), (&image[..70], 2, 558), (&[2], 3, 0), (&follows, 4, 0), (&masked, 11, 258)];
+    for (image, number, position) in images {
+        assert_refused(image, &state, number, position);
     }
 }
 
@@ -43,7 +48,7 @@ fn a_word_too_large_for_its_field_is_an_unfit_state() {
         for bit in 16..32 {
             let mut state = opening;
             state[word] |= 1 << bit;
-            assert_refused(&image, &state, 6);
+            assert_refused(&image, &state, 6, 0);
         }
     }
 }

@@ -1,9 +1,10 @@
 //! The proved library for Rust: runs ACT-R models from a packed image.
 //!
 //! [`Model::open`] takes an image and gives the model, its opening [`State`] and its kept [`Table`]; [`Model::run`] makes
-//! steps, and so does [`Model::run_fresh`], which keeps nothing. A call that is refused says why by a [`Refusal`] and has
-//! changed nothing; a run that was made says by an [`End`] why it made no more steps. No call panics, keeps anything between
-//! calls, or asks for memory but for what it gives back; each needs less than 131,072 bytes of stack.
+//! steps, and so does [`Model::run_fresh`], which keeps nothing. A call that is refused says why by a [`Refusal`], and where
+//! in the image if that is refused for one of its fields, and has changed nothing; a run that was made says by an [`End`] why
+//! it made no more steps. No call panics, keeps anything between calls, or asks for memory but for what it gives back; each
+//! needs less than 131,072 bytes of stack.
 //! [`calls`] has the seven calls of the library as they are, on bytes and words that the caller owns.
 //!
 //! ```
@@ -20,7 +21,9 @@
 //! assert_eq!((events[0].clock, events[0].step), (150, Step::Wait { ms: 100 }));
 //! assert_eq!(ran.end.to_string(), "halted before the steps asked were made");
 //!
-//! assert_eq!(Model::open(&image[1..]).err(), Some(Refusal::Broken));
+//! let refusal = Model::open(&image[..70]).expect_err("an image that was cut");
+//! assert_eq!((refusal, refusal.number(), refusal.position()), (Refusal::Missing { at: 558 }, 2, 558));
+//! assert_eq!(refusal.to_string(), "a field of the image is not wholly there, at bit 558");
 //! # Ok::<(), Box<dyn std::error::Error>>(())
 //! ```
 //!

@@ -4,14 +4,14 @@
 use crate::words::STATE;
 
 extern "C" {
-    fn jirvuntsag_table_len(image: *const u8, image_len: usize) -> u32;
+    fn jirvuntsag_table_len(image: *const u8, image_len: usize) -> u64;
     fn jirvuntsag_open(
         image: *const u8,
         image_len: usize,
         table: *mut u16,
         table_len: usize,
         state: *mut [u32; STATE],
-    ) -> u32;
+    ) -> u64;
     fn jirvuntsag_run(
         image: *const u8,
         image_len: usize,
@@ -19,7 +19,7 @@ extern "C" {
         table: *mut u16,
         table_len: usize,
         steps: u16,
-    ) -> u32;
+    ) -> u64;
     fn jirvuntsag_trace(
         image: *const u8,
         image_len: usize,
@@ -29,7 +29,7 @@ extern "C" {
         steps: u16,
         events: *mut u32,
         events_len: usize,
-    ) -> u32;
+    ) -> u64;
     fn jirvuntsag_refresh(
         image: *const u8,
         image_len: usize,
@@ -37,8 +37,8 @@ extern "C" {
         mark: u16,
         table: *mut u16,
         table_len: usize,
-    ) -> u32;
-    fn jirvuntsag_run_fresh(image: *const u8, image_len: usize, state: *mut [u32; STATE], steps: u16) -> u32;
+    ) -> u64;
+    fn jirvuntsag_run_fresh(image: *const u8, image_len: usize, state: *mut [u32; STATE], steps: u16) -> u64;
     fn jirvuntsag_trace_fresh(
         image: *const u8,
         image_len: usize,
@@ -46,38 +46,38 @@ extern "C" {
         steps: u16,
         events: *mut u32,
         events_len: usize,
-    ) -> u32;
+    ) -> u64;
 }
 
 // Safety, of each call below: addresses and lengths are those of Rust's own slices, borrowed for the call, and what is
 // written is borrowed alone. The library asks for nothing else: it takes all contents.
 
-pub fn table_len(image: &[u8]) -> u32 {
+pub fn table_len(image: &[u8]) -> u64 {
     unsafe { jirvuntsag_table_len(image.as_ptr(), image.len()) }
 }
 
-pub fn open(image: &[u8], table: &mut [u16], state: &mut [u32; STATE]) -> u32 {
+pub fn open(image: &[u8], table: &mut [u16], state: &mut [u32; STATE]) -> u64 {
     unsafe { jirvuntsag_open(image.as_ptr(), image.len(), table.as_mut_ptr(), table.len(), state) }
 }
 
-pub fn run(image: &[u8], state: &mut [u32; STATE], table: &mut [u16], steps: u16) -> u32 {
+pub fn run(image: &[u8], state: &mut [u32; STATE], table: &mut [u16], steps: u16) -> u64 {
     unsafe { jirvuntsag_run(image.as_ptr(), image.len(), state, table.as_mut_ptr(), table.len(), steps) }
 }
 
-pub fn trace(image: &[u8], state: &mut [u32; STATE], table: &mut [u16], steps: u16, events: &mut [u32]) -> u32 {
+pub fn trace(image: &[u8], state: &mut [u32; STATE], table: &mut [u16], steps: u16, events: &mut [u32]) -> u64 {
     let (image, image_len) = (image.as_ptr(), image.len());
     let (table, table_len) = (table.as_mut_ptr(), table.len());
     unsafe { jirvuntsag_trace(image, image_len, state, table, table_len, steps, events.as_mut_ptr(), events.len()) }
 }
 
-pub fn refresh(image: &[u8], state: &[u32; STATE], mark: u16, table: &mut [u16]) -> u32 {
+pub fn refresh(image: &[u8], state: &[u32; STATE], mark: u16, table: &mut [u16]) -> u64 {
     unsafe { jirvuntsag_refresh(image.as_ptr(), image.len(), state, mark, table.as_mut_ptr(), table.len()) }
 }
 
-pub fn run_fresh(image: &[u8], state: &mut [u32; STATE], steps: u16) -> u32 {
+pub fn run_fresh(image: &[u8], state: &mut [u32; STATE], steps: u16) -> u64 {
     unsafe { jirvuntsag_run_fresh(image.as_ptr(), image.len(), state, steps) }
 }
 
-pub fn trace_fresh(image: &[u8], state: &mut [u32; STATE], steps: u16, events: &mut [u32]) -> u32 {
+pub fn trace_fresh(image: &[u8], state: &mut [u32; STATE], steps: u16, events: &mut [u32]) -> u64 {
     unsafe { jirvuntsag_trace_fresh(image.as_ptr(), image.len(), state, steps, events.as_mut_ptr(), events.len()) }
 }

@@ -25,7 +25,7 @@ pub struct Ran {
 impl<'a> Model<'a> {
     /// Opens an image: the model, its opening state and the fresh table of that state.
     pub fn open(image: &'a [u8]) -> Result<(Model<'a>, State, Table), Refusal> {
-        let mut table = Table::from_words(vec![0; calls::table_length(image)]);
+        let mut table = Table::from_words(vec![0; calls::table_length(image)?]);
         let (number, state) = calls::open(image, table.words_mut());
         number.ended().map(|_| (Model { image }, state, table))
     }

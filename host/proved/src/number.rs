@@ -3,15 +3,22 @@
 use std::error::Error;
 use std::fmt;
 
-/// Why a call was refused; it has changed nothing.
+/// Why a call was refused; it has changed nothing. Where a field of the image is refused, `at` is the position of the field's
+/// first bit: bits count from 0, and the most significant bit of the first byte is bit 0.
 #[derive(Clone, Copy, PartialEq, Eq, Hash)]
 pub enum Refusal {
     /// 1: the image is over 65,536 bytes.
     TooLong,
     /// 2: a field is not wholly there.
-    Missing,
-    /// 3: a field breaks its rule.
-    Broken,
+    Missing {
+        /// Where the field begins.
+        at: u32,
+    },
+    /// 3: a version, count, type or action kind breaks its rule.
+    Broken {
+        /// Where the field begins.
+        at: u32,
+    },
     /// 4: a pad bit is 1, or a byte follows.
     Follows,
     /// 5: the table's length is not nine words for each rule.
@@ -20,6 +27,21 @@ pub enum Refusal {
     State,
     /// 10: the mark names a buffer that the image does not have.
     Mark,
+    /// 11: a mask has a bit past the type's slots.
+    Mask {
+        /// Where the mask begins.
+        at: u32,
+    },
+    /// 12: a variable is not below the rule's count, or stands in no test of it.
+    Variable {
+        /// Where the term begins; of a variable that stands in no test, the bit after the rule's last test.
+        at: u32,
+    },
+    /// 13: a buffer does not exist, does not rise, or is modified untested.
+    Buffer {
+        /// Where the buffer begins; of one that is modified untested, the action's kind.
+        at: u32,
+    },
 }
 
 /// Why a run that was made made no more steps.
@@ -45,22 +67,58 @@ pub enum Number {
 }
 
 impl Refusal {
-    /// Its number, 0 to 10.
+    /// Its number: 1 to 6, or 10 to 13.
     pub fn number(self) -> u8 {
         match self {
             Refusal::TooLong => 1,
-            Refusal::Missing => 2,
-            Refusal::Broken => 3,
+            Refusal::Missing { .. } => 2,
+            Refusal::Broken { .. } => 3,
             Refusal::Follows => 4,
             Refusal::TableLength => 5,
             Refusal::State => 6,
             Refusal::Mark => 10,
+            Refusal::Mask { .. } => 11,
+            Refusal::Variable { .. } => 12,
+            Refusal::Buffer { .. } => 13,
+        }
+    }
+
+    /// Where the refused field begins, if it is a field that is refused.
+    fn at(self) -> Option<u32> {
+        match self {
+            Refusal::Missing { at }
+            | Refusal::Broken { at }
+            | Refusal::Mask { at }
+            | Refusal::Variable { at }
+            | Refusal::Buffer { at } => Some(at),
+            Refusal::TooLong | Refusal::Follows | Refusal::TableLength | Refusal::State | Refusal::Mark => None,
+        }
+    }
+
+    /// The position of the refused field's first bit; 0 if it is no field of the image that is refused.
+    pub fn position(self) -> u32 {
+        self.at().unwrap_or(0)
+    }
+
+    /// What its number says in words, without the position.
+    pub fn words(self) -> &'static str {
+        match self {
+            Refusal::TooLong => "the image is over 65,536 bytes",
+            Refusal::Missing { .. } => "a field of the image is not wholly there",
+            Refusal::Broken { .. } => "a version, count, type or action kind breaks its rule",
+            Refusal::Follows => "a pad bit of the image is 1, or a byte follows",
+            Refusal::TableLength => "the table's length is not nine words for each rule",
+            Refusal::State => "the state is not well formed",
+            Refusal::Mark => "the mark names a buffer that the image does not have",
+            Refusal::Mask { .. } => "a mask has a bit past the type's slots",
+            Refusal::Variable { .. } => "a variable is not below the rule's count, or stands in no test",
+            Refusal::Buffer { .. } => "a buffer does not exist, does not rise, or is modified untested",
         }
     }
 }
 
 impl End {
-    /// Its number, 0 to 10.
+    /// Its number: 0, or 7 to 9.
     pub fn number(self) -> u8 {
         match self {
             End::Done => 0,
@@ -72,11 +130,19 @@ impl End {
 }
 
 impl Number {
-    /// Its number, 0 to 10.
+    /// Its number, 0 to 13.
     pub fn number(self) -> u8 {
         match self {
             Number::Ended(end) => end.number(),
             Number::Refused(refusal) => refusal.number(),
+        }
+    }
+
+    /// The position of the refused field's first bit; 0 if it is no field of the image that is refused.
+    pub fn position(self) -> u32 {
+        match self {
+            Number::Ended(_) => 0,
+            Number::Refused(refusal) => refusal.position(),
         }
     }
 
@@ -88,13 +154,15 @@ impl Number {
         }
     }
 
-    /// What a number of the library means. It is proved to give 0 to 10; any other is never told as one of these.
-    pub(crate) fn of(number: u16) -> Number {
-        match number {
+    /// What a number of the library means, with its position. It is proved to give 0 to 13, and a position with those alone
+    /// that are about a field; any other is never told as one of these.
+    pub(crate) fn of(number: u16, position: u32) -> Number {
+        let at = position;
+        let told = match number {
             0 => Number::Ended(End::Done),
             1 => Number::Refused(Refusal::TooLong),
-            2 => Number::Refused(Refusal::Missing),
-            3 => Number::Refused(Refusal::Broken),
+            2 => Number::Refused(Refusal::Missing { at }),
+            3 => Number::Refused(Refusal::Broken { at }),
             4 => Number::Refused(Refusal::Follows),
             5 => Number::Refused(Refusal::TableLength),
             6 => Number::Refused(Refusal::State),
@@ -102,22 +170,22 @@ impl Number {
             8 => Number::Ended(End::ClockFull),
             9 => Number::Ended(End::Halted),
             10 => Number::Refused(Refusal::Mark),
-            other => unreachable!("the library answered {other}, which is none of its numbers 0 to 10"),
+            11 => Number::Refused(Refusal::Mask { at }),
+            12 => Number::Refused(Refusal::Variable { at }),
+            13 => Number::Refused(Refusal::Buffer { at }),
+            other => unreachable!("the library answered {other}, which is none of its numbers 0 to 13"),
+        };
+        if told.position() != position {
+            unreachable!("the library answered {number} with the position {position}, and {number} has none");
         }
+        told
     }
 }
 
 impl fmt::Display for Refusal {
     fn fmt(&self, to: &mut fmt::Formatter) -> fmt::Result {
-        to.write_str(match self {
-            Refusal::TooLong => "the image is over 65,536 bytes",
-            Refusal::Missing => "a field of the image is not wholly there",
-            Refusal::Broken => "a field of the image breaks its rule",
-            Refusal::Follows => "a pad bit of the image is 1, or a byte follows",
-            Refusal::TableLength => "the table's length is not nine words for each rule",
-            Refusal::State => "the state is not well formed",
-            Refusal::Mark => "the mark names a buffer that the image does not have",
-        })
+        to.write_str(self.words())?;
+        self.at().map_or(Ok(()), |at| write!(to, ", at bit {at}"))
     }
 }
 
@@ -154,15 +222,41 @@ impl Error for Refusal {}
 mod tests {
     use super::Number;
 
+    /// The numbers that are about a field of the image.
+    const ABOUT_A_FIELD: [u16; 5] = [2, 3, 11, 12, 13];
+
     #[test]
     fn each_number_means_itself() {
-        let numbers: Vec<u8> = (0..=10).map(|number| Number::of(number).number()).collect();
-        assert_eq!(numbers, (0..=10).collect::<Vec<u8>>());
+        for number in 0..=13 {
+            let told = Number::of(number, 0);
+            assert_eq!((u16::from(told.number()), told.position()), (number, 0));
+        }
     }
 
     #[test]
-    #[should_panic(expected = "the library answered 11, which is none of its numbers 0 to 10")]
+    fn the_numbers_about_a_field_carry_its_position() {
+        for number in ABOUT_A_FIELD {
+            let told = Number::of(number, 524_288);
+            assert_eq!((u16::from(told.number()), told.position()), (number, 524_288));
+            assert!(told.to_string().ends_with(", at bit 524288"), "{told}");
+            assert!(Number::of(number, 0).to_string().ends_with(", at bit 0"));
+        }
+    }
+
+    #[test]
+    fn the_other_numbers_have_no_position() {
+        for number in (0..=13).filter(|number| !ABOUT_A_FIELD.contains(number)) {
+            assert!(!Number::of(number, 0).to_string().contains("at bit"));
+            let refused = std::panic::catch_unwind(|| Number::of(number, 1)).expect_err("a position for no field");
+            let said = refused.downcast_ref::<String>().expect("words");
+            let wanted = format!("the library answered {number} with the position 1, and {number} has none");
+            assert!(said.ends_with(&wanted), "{said}");
+        }
+    }
+
+    #[test]
+    #[should_panic(expected = "the library answered 14, which is none of its numbers 0 to 13")]
     fn a_number_that_is_not_known_is_named() {
-        Number::of(11);
+        Number::of(14, 0);
     }
 }

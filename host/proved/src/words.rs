@@ -34,9 +34,9 @@ pub fn state_of(words: &[u32; STATE]) -> State {
     state
 }
 
-/// The number in the low half of an answer, and the count in the high half.
-pub fn number_and_count(answer: u32) -> (Number, u16) {
-    (Number::of(answer as u16), (answer >> 16) as u16)
+/// The number in the low 16 bits of an answer with the position in its upper 32, and the count in the 16 between them.
+pub fn number_and_count(answer: u64) -> (Number, u16) {
+    (Number::of(answer as u16, (answer >> 32) as u32), (answer >> 16) as u16)
 }
 
 /// The first `made` steps of their words; rules and ms have 16 bits.
@@ -55,8 +55,15 @@ pub fn events(words: &[u32], made: u16) -> Vec<Event> {
 
 #[cfg(test)]
 mod tests {
-    use super::events;
+    use super::{events, number_and_count};
+    use crate::number::{Number, Refusal};
     use crate::state::{Event, Step};
+
+    #[test]
+    fn an_answer_is_number_count_and_position() {
+        let refused = Number::Refused(Refusal::Variable { at: 0x0008_0000 });
+        assert_eq!(number_and_count(0x0008_0000_fedc_000c), (refused, 0xfedc));
+    }
 
     #[test]
     fn each_kind_of_step_is_told() {

@@ -26,15 +26,44 @@ fn a_model_is_opened_run_and_refreshed() {
     assert_eq!(model.refresh(&ran.state, 4, &mut table), Err(Refusal::Mark));
 }
 
+/// An image with one bit flipped.
+fn flipped(image: &[u8], bit: usize) -> Vec<u8> {
+    let mut flipped = image.to_vec();
+    flipped[bit / 8] ^= 0x80 >> (bit % 8);
+    flipped
+}
+
+/// Images that are refused and what for, each kind of rule broken once: the counting model cut, longer, or with bits flipped.
+fn refused() -> Vec<(Vec<u8>, Refusal)> {
+    let image = counting();
+    vec![
+        (vec![0; 65_537], Refusal::TooLong),
+        (vec![], Refusal::Missing { at: 0 }),
+        (image[..70].to_vec(), Refusal::Missing { at: 558 }),
+        (vec![2], Refusal::Broken { at: 0 }),
+        // Six tests in rule 0, where there are two buffers; its action of kind 3.
+        (flipped(&image, 238), Refusal::Broken { at: 237 }),
+        (flipped(&image, 299), Refusal::Broken { at: 299 }),
+        ([&image[..], &[0]].concat(), Refusal::Follows),
+        // The first test of rule 0 with the last of eight slots, where the type has two.
+        (flipped(&image, 265), Refusal::Mask { at: 258 }),
+        // Its term variable 1, where the rule has one; the rule with two variables more, which no test has.
+        (flipped(&image, 278), Refusal::Variable { at: 266 }),
+        (flipped(&image, 247), Refusal::Variable { at: 296 }),
+        // Its first test of buffer 2, where there are two; of buffer 1, which the second tests too.
+        (flipped(&image, 250), Refusal::Buffer { at: 249 }),
+        (flipped(&image, 251), Refusal::Buffer { at: 279 }),
+        // The action of rule 2 as a modify of buffer 1, which the rule does not test.
+        (flipped(&flipped(&image, 560), 561), Refusal::Buffer { at: 561 }),
+    ]
+}
+
 #[test]
 fn each_refusal_of_an_image_is_told() {
-    let image = counting();
-    let opened = |image: &[u8]| Model::open(image).err();
-    assert_eq!(opened(&[0; 65_537]), Some(Refusal::TooLong));
-    assert_eq!(opened(&image[..70]), Some(Refusal::Missing));
-    assert_eq!(opened(&[2]), Some(Refusal::Broken));
-    assert_eq!(opened(&[&image[..], &[0]].concat()), Some(Refusal::Follows));
-    assert_eq!(calls::table_length(&image[..70]), 0);
+    for (image, refusal) in refused() {
+        assert_eq!(Model::open(&image).err(), Some(refusal));
+        assert_eq!(calls::table_length(&image), Err(refusal));
+    }
 }
 
 #[test]
@@ -50,6 +79,30 @@ fn a_refused_call_leaves_the_table_as_it_was() {
     let mut table = Table::from_words(vec![7; 27]);
     assert_eq!(model.trace(unfit, &mut table, 1), Err(Refusal::State));
     assert_eq!(table.words(), [7; 27]);
+}
+
+#[test]
+fn a_refused_image_is_told_by_each_call_that_takes_a_table() {
+    let state = State { clock: 7, ..State::default() };
+    for (image, refusal) in refused() {
+        let number = Number::Refused(refusal);
+        let mut table = [7; 26];
+        assert_eq!(calls::open(&image, &mut table), (number, State::default()));
+        assert_eq!(calls::run(&image, &state, &mut table, 1), (number, state, 0));
+        assert_eq!(calls::trace(&image, &state, &mut table, 1), (number, state, vec![]));
+        assert_eq!(calls::refresh(&image, &state, 1, &mut table), (number, 0));
+        assert_eq!(table, [7; 26]);
+    }
+}
+
+#[test]
+fn an_image_without_rules_needs_no_words_and_is_not_refused() {
+    let nothing = [1, 0x10, 0, 0, 0, 0, 0, 0];
+    assert_eq!(calls::table_length(&nothing), Ok(0));
+    assert_eq!(calls::table_length(&nothing[..7]), Err(Refusal::Missing { at: 53 }));
+    assert_eq!(calls::table_length(&counting()), Ok(27));
+    let (_, state, table) = Model::open(&nothing).expect("an accepted image");
+    assert_eq!((state, table.rules()), (State::default(), 0));
 }
 
 #[test]
@@ -83,16 +136,9 @@ fn each_refusal_of_a_fresh_run_is_told() {
     unfit.buffers[0].isa = 3;
     assert_eq!(model.run_fresh(unfit, 1), Err(Refusal::State));
     assert_eq!(model.trace_fresh(unfit, 1), Err(Refusal::State));
-    let follows = [&image[..], &[0]].concat();
-    let images: [(&[u8], Refusal); 4] = [
-        (&[0; 65_537], Refusal::TooLong),
-        (&image[..70], Refusal::Missing),
-        (&[2], Refusal::Broken),
-        (&follows, Refusal::Follows),
-    ];
-    for (image, refusal) in images {
-        assert_eq!(calls::run_fresh(image, &unfit, 1), (Number::Refused(refusal), unfit, 0));
-        assert_eq!(calls::trace_fresh(image, &unfit, 1), (Number::Refused(refusal), unfit, vec![]));
+    for (image, refusal) in refused() {
+        assert_eq!(calls::run_fresh(&image, &unfit, 1), (Number::Refused(refusal), unfit, 0));
+        assert_eq!(calls::trace_fresh(&image, &unfit, 1), (Number::Refused(refusal), unfit, vec![]));
     }
 }
 
@@ -110,15 +156,37 @@ fn each_end_of_a_fresh_run_is_told() {
 
 #[test]
 fn each_number_has_its_own_words() {
-    use Refusal::{Broken, Follows, Mark, Missing, State, TableLength, TooLong};
-    let refusals = [TooLong, Missing, Broken, Follows, TableLength, State, Mark].map(Number::Refused);
+    let at = 0;
+    let refusals = [
+        Refusal::TooLong,
+        Refusal::Missing { at },
+        Refusal::Broken { at },
+        Refusal::Follows,
+        Refusal::TableLength,
+        Refusal::State,
+        Refusal::Mark,
+        Refusal::Mask { at },
+        Refusal::Variable { at },
+        Refusal::Buffer { at },
+    ];
     let ends = [End::Done, End::Stale, End::ClockFull, End::Halted].map(Number::Ended);
-    let all = [&refusals[..], &ends].concat();
+    let all = [&refusals.map(Number::Refused)[..], &ends].concat();
     let numbers: BTreeSet<u8> = all.iter().map(|number| number.number()).collect();
-    assert_eq!(numbers, (0..=10).collect());
+    assert_eq!(numbers, (0..=13).collect());
     let words: BTreeSet<String> = all.iter().map(Number::to_string).collect();
-    assert_eq!(words.len(), 11);
-    assert!(words.iter().all(|words| !words.is_empty()));
+    assert_eq!(words.len(), 14);
+    assert!(refusals.iter().all(|refusal| refusal.to_string().starts_with(refusal.words())));
+}
+
+#[test]
+fn an_error_carries_number_position_and_words() {
+    let refusal = Model::open(&flipped(&counting(), 265)).expect_err("a mask with a slot too many");
+    assert_eq!((refusal.number(), refusal.position()), (11, 258));
+    assert_eq!(refusal.words(), "a mask has a bit past the type's slots");
+    assert_eq!(refusal.to_string(), "a mask has a bit past the type's slots, at bit 258");
+    let refusal = Model::open(&[&counting()[..], &[0]].concat()).expect_err("a byte too many");
+    assert_eq!((refusal.number(), refusal.position()), (4, 0));
+    assert_eq!(refusal.to_string(), refusal.words());
 }
 
 /// What a program prints whose `main` gives up a refused call by `?`.
@@ -129,5 +197,5 @@ fn a_main_that_gives_it_up_prints_the_sentence() {
         Ok(())
     };
     let printed = format!("Error: {:?}", refused().expect_err("another version"));
-    assert_eq!(printed, "Error: a field of the image breaks its rule (number 3)");
+    assert_eq!(printed, "Error: a version, count, type or action kind breaks its rule, at bit 0 (number 3)");
 }
