@@ -1,6 +1,7 @@
 //! From the fields of an image, one word each and in the image's order, to the model that they say.
 
 use jirvuntsag_packing::{ActionSpec, ChunkSpec, Deed, FactSpec, ModelSpec, PatternSpec, RuleSpec, Term, TestSpec};
+use jirvuntsag_text::Flaw;
 
 /// Terms from here on are variables.
 const VARIABLES: u16 = 4_096;
@@ -16,30 +17,36 @@ pub fn model_of(fields: &[u16]) -> Result<ModelSpec, String> {
     let spec = fields.model()?;
     match fields.left.len() {
         0 => Ok(spec),
-        more => Err(format!("{more} fields follow the last one")),
+        more => Err(Flaw::Follows.told(format_args!("{more} fields follow the last one"))),
     }
 }
 
 impl Fields<'_> {
-    fn next(&mut self, what: &str) -> Result<u16, String> {
-        self.left.next().copied().ok_or_else(|| format!("the fields end before {what}"))
+    /// The next field, which has so many bits.
+    fn next(&mut self, what: &str, width: u8) -> Result<u16, String> {
+        match self.left.next() {
+            None => Err(Flaw::Missing.told(format_args!("the fields end before {what}"))),
+            Some(field) if u32::from(*field) >> width != 0 => {
+                Err(format!("{what} is {field}, which is too large for its field of {width} bits"))
+            }
+            Some(field) => Ok(*field),
+        }
     }
 
     /// A field of at most eight bits.
-    fn small(&mut self, what: &str) -> Result<u8, String> {
-        let field = self.next(what)?;
-        u8::try_from(field).map_err(|_| format!("{what} is {field}, which is too large"))
+    fn small(&mut self, what: &str, width: u8) -> Result<u8, String> {
+        Ok(self.next(what, width)? as u8)
     }
 
     fn model(&mut self) -> Result<ModelSpec, String> {
-        match self.next("the version")? {
+        match self.next("the version", 8)? {
             1 => (),
-            version => return Err(format!("the version is {version}, not 1")),
+            version => return Err(Flaw::Version.told(format_args!("the version is {version}"))),
         }
-        let (buffers, types) = (self.next("the buffers")?, self.next("the types")?);
-        let (rules, facts) = (self.next("the rules")?, self.next("the facts")?);
-        let mut spec = ModelSpec { failure: self.next("the failure latency")?, ..ModelSpec::default() };
-        spec.types = (0..types).map(|_| self.small("a slot count")).collect::<Result<_, _>>()?;
+        let (buffers, types) = (self.next("the number of buffers", 4)?, self.next("the number of types", 6)?);
+        let (rules, facts) = (self.next("the number of rules", 9)?, self.next("the number of facts", 10)?);
+        let mut spec = ModelSpec { failure: self.next("the failure latency", 16)?, ..ModelSpec::default() };
+        spec.types = (0..types).map(|_| self.small("a slot count", 4)).collect::<Result<_, _>>()?;
         spec.opening = (0..buffers).map(|_| self.chunk(&spec)).collect::<Result<_, _>>()?;
         spec.facts = (0..facts).map(|_| self.fact(&spec)).collect::<Result<_, _>>()?;
         spec.rules = (0..rules).map(|_| self.rule()).collect::<Result<_, _>>()?;
@@ -47,46 +54,46 @@ impl Fields<'_> {
     }
 
     fn chunk(&mut self, spec: &ModelSpec) -> Result<ChunkSpec, String> {
-        let isa = self.small("a type")?;
+        let isa = self.small("a type", 6)?;
         if usize::from(isa) > spec.types.len() {
-            return Err(format!("type {isa} is not declared"));
+            return Err(Flaw::UnknownType.told(format_args!("type {isa} is not declared")));
         }
-        let slots = (0..spec.slot_count(isa)).map(|_| self.next("a slot")).collect::<Result<_, _>>()?;
+        let slots = (0..spec.slot_count(isa)).map(|_| self.next("a slot", 12)).collect::<Result<_, _>>()?;
         Ok(ChunkSpec { isa, slots })
     }
 
     fn fact(&mut self, spec: &ModelSpec) -> Result<FactSpec, String> {
         let chunk = self.chunk(spec)?;
-        Ok(FactSpec { chunk, activation: self.next("an activation")?, latency: self.next("a latency")? })
+        Ok(FactSpec { chunk, activation: self.next("an activation", 16)?, latency: self.next("a latency", 16)? })
     }
 
     fn rule(&mut self) -> Result<RuleSpec, String> {
-        let utility = self.next("a utility")?;
-        let (tests, actions) = (self.next("a count of tests")?, self.next("a count of actions")?);
-        let variables = self.small("a count of variables")?;
+        let utility = self.next("a utility", 16)?;
+        let (tests, actions) = (self.next("a number of tests", 4)?, self.next("a number of actions", 4)?);
+        let variables = self.small("a number of variables", 4)?;
         let tests = (0..tests).map(|_| self.test()).collect::<Result<_, _>>()?;
         let actions = (0..actions).map(|_| self.action()).collect::<Result<_, _>>()?;
         Ok(RuleSpec { utility, variables, tests, actions })
     }
 
     fn test(&mut self) -> Result<TestSpec, String> {
-        Ok(TestSpec { buffer: self.small("a buffer")?, isa: self.small("a type")?, pattern: self.pattern()? })
+        Ok(TestSpec { buffer: self.small("a buffer", 3)?, isa: self.small("a type", 6)?, pattern: self.pattern()? })
     }
 
     fn action(&mut self) -> Result<ActionSpec, String> {
-        let buffer = self.small("a buffer")?;
-        let deed = match self.next("an action's kind")? {
+        let buffer = self.small("a buffer", 3)?;
+        let deed = match self.next("an action's kind", 2)? {
             0 => Deed::Modify(self.pattern()?),
-            1 => Deed::Request(self.small("a type")?, self.pattern()?),
+            1 => Deed::Request(self.small("a type", 6)?, self.pattern()?),
             2 => Deed::Clear,
-            kind => return Err(format!("an action's kind is {kind}, not 0, 1 or 2")),
+            kind => return Err(Flaw::ActionKind.told(format_args!("an action's kind is {kind}"))),
         };
         Ok(ActionSpec { buffer, deed })
     }
 
     fn pattern(&mut self) -> Result<PatternSpec, String> {
-        let mask = self.small("a mask")?;
-        let terms = (0..mask.count_ones()).map(|_| self.next("a term").map(term_of)).collect::<Result<_, _>>()?;
+        let mask = self.small("a mask", 8)?;
+        let terms = (0..mask.count_ones()).map(|_| self.next("a term", 13).map(term_of)).collect::<Result<_, _>>()?;
         Ok(PatternSpec { mask, terms })
     }
 }

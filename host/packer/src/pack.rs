@@ -1,7 +1,7 @@
 //! Images, from texts and from fields. Nothing is given that the library would refuse.
 
 use jirvuntsag_packing::pack;
-use jirvuntsag_text::Model;
+use jirvuntsag_text::{read_image, Model};
 
 use crate::fields::model_of;
 
@@ -14,12 +14,7 @@ pub fn pack_text(text: &[u8]) -> Result<Vec<Vec<u8>>, String> {
 
 /// The image of fields, or why they make none.
 pub fn pack_fields(fields: &[u16]) -> Result<Vec<Vec<u8>>, String> {
-    let spec = model_of(fields)?;
-    let image = pack(&spec);
-    let read = Model::from_image(&image).map_err(|refused| refused.to_string())?;
-    // a value that is wider than its field has lost its upper bits
-    if read.spec() != &spec {
-        return Err("a number is too large for its field".into());
-    }
+    let image = pack(&model_of(fields)?);
+    read_image(&image).map_err(|refused| refused.to_string())?;
     Ok(vec![image])
 }

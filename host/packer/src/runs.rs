@@ -2,7 +2,8 @@
 
 use std::sync::atomic::{AtomicU8, Ordering};
 
-use jirvuntsag_proved::{calls, Buffer, Event, Number, State, Step};
+use jirvuntsag_proved::{calls, Buffer, Event, Number, Refusal, State, Step};
+use jirvuntsag_text::read_image;
 
 /// Words of a state.
 const STATE: usize = 81;
@@ -81,13 +82,19 @@ fn open_all<'a>(runs: &Runs<'a>) -> Result<Vec<Opened<'a>>, String> {
     let slices = starts.zip(runs.ends).map(|(start, &end)| runs.images.get(start..end as usize));
     let open = |(at, image): (usize, Option<&'a [u8]>)| {
         let image = image.ok_or_else(|| format!("image {at} ends before it begins, or past all"))?;
-        let mut table = vec![0; calls::table_length(image)];
+        let refused = |refusal| format!("image {at}: {}", explained(image, refusal));
+        let mut table = vec![0; calls::table_length(image).map_err(refused)?];
         let (number, state) = calls::open(image, &mut table);
+        number.ended().map_err(refused)?;
         let keep = runs.keep.get(FLAGS * at..FLAGS * (at + 1)).unwrap_or(&[]);
-        number.ended().map_err(|refused| format!("image {at}: {refused}"))?;
         Ok(Opened { image, state, table, keep })
     };
     slices.enumerate().map(open).collect()
+}
+
+/// Why the library refuses an image: the field, the rule that it breaks and what was found.
+fn explained(image: &[u8], refusal: Refusal) -> String {
+    read_image(image).map_or_else(|refused| refused.to_string(), |_| refusal.to_string())
 }
 
 /// Makes a run from a state.

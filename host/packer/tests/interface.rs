@@ -7,6 +7,7 @@ use jirvuntsag_packer::{
     jirvuntsag_packer_fields, jirvuntsag_packer_free, jirvuntsag_packer_interface, jirvuntsag_packer_part,
     jirvuntsag_packer_runs, jirvuntsag_packer_text, Answer, Batch,
 };
+use jirvuntsag_text::Flaw;
 
 const TEXT: &str = include_str!("../../../examples/counting.model");
 const IMAGE: &[u8] = include_bytes!("../../../examples/counting.image");
@@ -86,12 +87,63 @@ fn nothing_may_stand_at_any_address() {
     unsafe { jirvuntsag_packer_free(std::ptr::null_mut()) };
 }
 
+/// What is said of fields, and the image that they give.
+fn fields(words: &[u16]) -> (String, Vec<u8>) {
+    let (error, image, _) = taken(unsafe { jirvuntsag_packer_fields(words.as_ptr(), words.len()) });
+    (error, image)
+}
+
+/// One buffer, a type with one slot, and a rule with a test of that buffer and an action.
+const ONE_RULE: [u16; 20] = [1, 1, 1, 1, 0, 0, 1, 0, 0, 1, 1, 1, 0, 1, 0x80, 4_096, 0, 0, 0x80, 4_096];
+
+/// The same with one field altered.
+fn with(at: usize, field: u16) -> Vec<u16> {
+    let mut fields = ONE_RULE.to_vec();
+    fields[at] = field;
+    fields
+}
+
 #[test]
 fn fields_give_an_image_only_if_it_opens() {
-    let fields = |words: &[u16]| taken(unsafe { jirvuntsag_packer_fields(words.as_ptr(), words.len()) });
-    assert_eq!(fields(&[1, 1, 0, 0, 0, 0, 0]).1, [1, 0x10, 0, 0, 0, 0, 0, 0]);
-    assert!(fields(&[1, 9, 0, 0, 0, 0, 0, 0, 0, 0, 0, 0, 0, 0, 0]).0.starts_with("refused: 3"));
-    assert!(fields(&[1, 1, 1, 0, 0, 0, 1, 1, 4_096]).0.contains("too large"));
+    assert_eq!(fields(&[1, 1, 0, 0, 0, 0, 0]), (String::new(), vec![1, 0x10, 0, 0, 0, 0, 0, 0]));
+    assert_eq!(fields(&ONE_RULE).0, "");
+    let wide = "a slot is 4096, which is too large for its field of 12 bits";
+    assert_eq!(fields(&[1, 1, 1, 0, 0, 0, 1, 1, 4_096]).0, wide);
+    let wide = "the number of buffers is 17, which is too large for its field of 4 bits";
+    assert_eq!(fields(&[&[1, 17, 0, 0, 0, 0][..], &[0; 17]].concat()).0, wide);
+}
+
+/// The rules of images, by their numbers and in their words: before there is an image, and of the image that there would be.
+#[test]
+fn fields_break_the_rules_of_images() {
+    for (broken, found, flaw) in [
+        (ONE_RULE[..19].to_vec(), "the fields end before a term", Flaw::Missing),
+        ([&ONE_RULE[..], &[0, 0]].concat(), "2 fields follow the last one", Flaw::Follows),
+        (with(0, 2), "the version is 2", Flaw::Version),
+        (with(7, 2), "type 2 is not declared", Flaw::UnknownType),
+        (with(17, 3), "an action's kind is 3", Flaw::ActionKind),
+    ] {
+        assert_eq!(fields(&broken), (flaw.told(found), Vec::new()));
+    }
+    for (broken, place, flaw) in [
+        (with(11, 9), "refused by 3 at bit 87 (byte 10, bit 7 of it): ", Flaw::VariableCount),
+        (with(14, 0x40), "refused by 11 at bit 100 (byte 12, bit 4 of it): ", Flaw::UnknownSlot),
+        (with(15, 4_097), "refused by 12 at bit 108 (byte 13, bit 4 of it): ", Flaw::UnknownVariable),
+        (with(15, 1), "refused by 12 at bit 121 (byte 15, bit 1 of it): ", Flaw::UntestedVariable),
+        (with(16, 1), "refused by 13 at bit 121 (byte 15, bit 1 of it): ", Flaw::UnknownBuffer),
+    ] {
+        let (error, image) = fields(&broken);
+        assert!(error.starts_with(place) && error.ends_with(&format!(" [{}]", flaw.rule())), "{error}");
+        assert!(image.is_empty());
+    }
+}
+
+/// A text is told the same rules.
+#[test]
+fn texts_break_the_rules_of_images() {
+    let found = "4:1: buffer 'gaol' is not declared (goal)";
+    let error = packed(b"type t a\nbuffer goal\nrule r\n=gaol> t").0;
+    assert_eq!(error, Flaw::UnknownBuffer.told(found));
 }
 
 #[test]
@@ -107,7 +159,10 @@ fn runs_are_those_of_the_library() {
 
 #[test]
 fn runs_that_cannot_be_made_are_told() {
-    assert!(run(b"no image", &[0], &[], 1).0.contains("image 0"));
+    let version = "image 0: refused by 3 at bit 0 (byte 0, bit 0 of it): the version is 110 [the version must be 1]";
+    assert_eq!(run(b"no image", &[0], &[], 1).0, version);
+    let cut = "image 0: refused by 2 at bit 558 (byte 69, bit 6 of it): ";
+    assert!(run(&IMAGE[..70], &[0], &[], 1).0.starts_with(cut));
     assert!(run(IMAGE, &[1], &[], 1).0.contains("not there"));
     assert!(run(IMAGE, &[0], &[0; 80], 1).0.contains("80 words"));
     assert!(run(IMAGE, &[0], &[65_536; 81], 1).0.contains("65,535"));

@@ -2,6 +2,8 @@
 
 use std::fmt;
 
+use crate::flaw::Flaw;
+
 /// A text that is refused: the place and the cause.
 #[derive(Clone, PartialEq, Eq)]
 pub struct TextError {
@@ -11,12 +13,24 @@ pub struct TextError {
     pub column: usize,
     /// The cause, and what was expected.
     pub message: String,
+    /// The rule that the model would break, if it is one of those that an image is refused for.
+    pub flaw: Option<Flaw>,
 }
 
 impl TextError {
+    /// A fault at a line and a column.
+    pub fn at(line: usize, column: usize, message: impl Into<String>) -> TextError {
+        TextError { line, column, message: message.into(), flaw: None }
+    }
+
     /// A fault of the text as a whole.
     pub fn whole(message: impl Into<String>) -> TextError {
-        TextError { line: 0, column: 0, message: message.into() }
+        TextError::at(0, 0, message)
+    }
+
+    /// The same fault, which breaks a rule of images.
+    pub fn breaking(self, flaw: Flaw) -> TextError {
+        TextError { flaw: Some(flaw), ..self }
     }
 
     /// The fault with the file that it lies in: `model.txt:12:30: ..`.
@@ -32,7 +46,10 @@ impl fmt::Display for TextError {
                 write!(f, "{number}:")?;
             }
         }
-        write!(f, " {}", self.message)
+        match self.flaw {
+            None => write!(f, " {}", self.message),
+            Some(flaw) => write!(f, " {}", flaw.told(&self.message)),
+        }
     }
 }
 

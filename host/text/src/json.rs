@@ -52,7 +52,7 @@ struct Reader<'t> {
 
 impl Reader<'_> {
     fn error(&self, message: impl Into<String>) -> TextError {
-        TextError { line: self.line, column: self.column, message: message.into() }
+        TextError::at(self.line, self.column, message)
     }
 
     fn peek(&self) -> Option<char> {

@@ -2,6 +2,7 @@
 
 mod error;
 mod fit;
+mod flaw;
 mod image;
 mod json;
 mod limits;
@@ -14,10 +15,11 @@ mod shown;
 mod write;
 
 pub use error::TextError;
+pub use flaw::Flaw;
 pub use image::read_image;
 pub use limits::IMAGE_LIMIT;
 pub use model::{Model, Reading};
 pub use names::{Names, RuleNames, TypeNames, CHUNK, NIL};
 pub use parse::Lone;
-pub use refused::{Flaw, Refused};
+pub use refused::Refused;
 pub use shown::{escaped, Shown};

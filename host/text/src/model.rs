@@ -4,6 +4,7 @@ use jirvuntsag_packing::{pack, ModelSpec};
 
 use crate::error::TextError;
 use crate::fit::check_fit;
+use crate::flaw::Flaw;
 use crate::image::read_image;
 use crate::limits::IMAGE_LIMIT;
 use crate::names::Names;
@@ -43,7 +44,7 @@ impl Model {
     fn in_bounds(self) -> Result<Model, Vec<TextError>> {
         match self.image().len() {
             0..=IMAGE_LIMIT => Ok(self),
-            bytes => Err(vec![TextError::whole(format!("the image has {bytes} bytes: {IMAGE_LIMIT} are the most"))]),
+            bytes => Err(vec![TextError::whole(format!("the image has {bytes} bytes")).breaking(Flaw::TooLong)]),
         }
     }
 

@@ -2,59 +2,48 @@
 
 use std::fmt;
 
-/// What is wrong with an image, as the library numbers it.
-#[derive(Clone, Copy, PartialEq, Eq, Debug)]
-pub enum Flaw {
-    /// 1: the image is over 65,536 bytes.
-    TooLong,
-    /// 2: a field is not wholly there.
-    Missing,
-    /// 3: a field breaks its rule.
-    Broken,
-    /// 4: a pad bit is 1, or a byte follows.
-    Follows,
-}
+use crate::flaw::Flaw;
 
 /// Why an image is refused.
 #[derive(Clone, PartialEq, Eq)]
 pub struct Refused {
-    /// What is wrong.
+    /// The rule that it breaks.
     pub flaw: Flaw,
-    /// For a missing or broken field its first bit (for a variable in no test, the bit after the tests).
+    /// For 2, 3 and 11 to 13 the first bit of the field (for a variable in no test, the bit after the last test). Bits
+    /// count from 0, and the most significant bit of byte 0 is bit 0.
     pub at: Option<usize>,
-    /// The field and what is wrong with it.
+    /// The field, and what was found in it.
     pub cause: String,
 }
 
-impl Flaw {
-    /// Its number, 1 to 4.
-    pub fn number(self) -> u8 {
-        match self {
-            Flaw::TooLong => 1,
-            Flaw::Missing => 2,
-            Flaw::Broken => 3,
-            Flaw::Follows => 4,
-        }
+impl Refused {
+    /// The number by which the library refuses the image: 1 to 4, or 11 to 13.
+    pub fn number(&self) -> u8 {
+        self.flaw.number()
     }
 
-    /// What the number says.
-    pub fn meaning(self) -> &'static str {
-        match self {
-            Flaw::TooLong => "the image is over 65,536 bytes",
-            Flaw::Missing => "a field is not wholly there",
-            Flaw::Broken => "a field breaks its rule",
-            Flaw::Follows => "a pad bit is 1, or a byte follows",
-        }
+    /// The position that the library tells: that bit, and 0 where there is none.
+    pub fn position(&self) -> usize {
+        self.at.unwrap_or(0)
     }
 }
 
 impl fmt::Display for Refused {
     fn fmt(&self, f: &mut fmt::Formatter) -> fmt::Result {
-        write!(f, "refused: {} ({})", self.flaw.number(), self.flaw.meaning())?;
-        if let Some(at) = self.at {
-            write!(f, " at bit {at}")?;
+        write!(f, "refused by {}", self.number())?;
+        if let Some(bit) = self.at {
+            write!(f, " at {}", Place(bit))?;
         }
-        write!(f, ": {}", self.cause)
+        write!(f, ": {} [{}]", self.cause, self.flaw.rule())
+    }
+}
+
+/// A bit as a reader of bytes finds it.
+pub(crate) struct Place(pub usize);
+
+impl fmt::Display for Place {
+    fn fmt(&self, f: &mut fmt::Formatter) -> fmt::Result {
+        write!(f, "bit {} (byte {}, bit {} of it)", self.0, self.0 / 8, self.0 % 8)
     }
 }
 

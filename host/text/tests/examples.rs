@@ -40,11 +40,11 @@ fn model(name: &str) -> Model {
 /// Opens and runs an example; gives its steps and the state at its end.
 fn run(engine: &Engine, name: &str) -> (Vec<(u32, Kind)>, State) {
     let image = bytes(name, "image");
-    let mut table = vec![0; (engine.table_len)(&image)];
-    let (number, state) = (engine.open)(&image, &mut table);
-    assert_eq!(number, 0);
-    let (number, state, events) = (engine.trace)(&image, state, &mut table, 1_000);
-    assert_eq!(number, 9, "{name} halts");
+    let mut table = engine.zeros(&image);
+    let (number, at, state) = (engine.open)(&image, &mut table);
+    assert_eq!((number, at), (0, 0));
+    let (number, at, state, events) = (engine.trace)(&image, state, &mut table, 1_000);
+    assert_eq!((number, at), (9, 0), "{name} halts");
     (events.iter().map(|event| (event.clock, event.kind)).collect(), state)
 }
 

@@ -79,7 +79,7 @@ fn mangled_texts_are_answered() {
         match Model::read(&text).model {
             Ok(model) => {
                 let image = model.image();
-                let mut table = vec![0; (PROVED.table_len)(&image)];
+                let mut table = PROVED.zeros(&image);
                 assert_eq!((PROVED.open)(&image, &mut table).0, 0, "{text}");
                 let again = Model::from_text(&model.to_text()).expect("the same model");
                 assert_eq!((again.image(), &again.names().rules), (image, &model.names().rules), "{text}");

@@ -107,5 +107,5 @@ fn names_of_another_model_are_refused() {
 fn a_main_that_gives_it_up_prints_the_sentence() {
     let printed = |text: &str| format!("Error: {:?}", Model::from_text(text).expect_err(text));
     assert_eq!(printed("type chunk"), "Error: 1:6: type 'chunk' is declared twice");
-    assert_eq!(printed(""), "Error: no buffer is declared: a model has 1 to 8 buffers");
+    assert_eq!(printed(""), "Error: no buffer is declared [3: there must be 1 to 8 buffers]");
 }

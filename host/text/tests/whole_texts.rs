@@ -1,6 +1,6 @@
 //! A text is read whole: all its faults in one pass, none that merely follows from another, and what may be mistyped.
 
-use jirvuntsag_text::{Lone, Model};
+use jirvuntsag_text::{Flaw, Lone, Model};
 
 /// All that is said of a text that is no model.
 fn faults(text: &str) -> Vec<String> {
@@ -37,16 +37,16 @@ rule end
 
 #[test]
 fn all_faults_are_told_in_one_pass() {
-    let declared = "is not declared (chunk, pair, other)";
+    let undeclared = |found: &str| Flaw::UnknownType.told(format!("{found} is not declared (chunk, pair, other)"));
     let wanted = [
         "m:1:17: a latency is a whole number from 0 to 65535, not 'soon'".to_owned(),
         "m:2:17: 'latency' has a meaning of its own and cannot be a slot".into(),
         "m:4:19: slot 'third' is not a slot of type 'pair' (first, second)".into(),
-        format!("m:5:6: type 'pairs' {declared}"),
+        undeclared("m:5:6: type 'pairs'"),
         "m:6:18: slot 'frist' is not a slot of type 'pair' (first, second)".into(),
         "m:8:20: a utility is a number from -32.768 to 32.767 with at most three decimals, not '40'".into(),
-        format!("m:14:15: type 'pear' {declared}"),
-        "m:17:3: buffer 'gaol' is not declared (goal, retrieval)".into(),
+        undeclared("m:14:15: type 'pear'"),
+        Flaw::UnknownBuffer.told("m:17:3: buffer 'gaol' is not declared (goal, retrieval)"),
         "m:18:6: rule 'last' has no line '==>' between tests and actions".into(),
         "m:20:1: '(p' is ACT-R's: write 'rule NAME', and below it the tests, '==>' and the actions, each on its line; \
          a variable is '?name'"

@@ -1,6 +1,6 @@
 //! Wrong texts, and the exact words with which each is refused.
 
-use jirvuntsag_text::Model;
+use jirvuntsag_text::{Flaw, Model};
 
 /// Lines that many of the texts begin with.
 const START: &str = "type pair first second
@@ -27,6 +27,13 @@ fn check(table: &[(&str, &str)]) {
     }
 }
 
+/// The same for texts that break a rule of images, which is told after what is found.
+fn check_breaking(flaw: Flaw, table: &[(&str, &str)]) {
+    for (text, found) in table {
+        assert_eq!(said(text), flaw.told(found), "of the text\n{text}");
+    }
+}
+
 #[test]
 fn lines_that_are_no_lines() {
     let begins = "a line begins with failure, symbol, type, buffer, fact, rule, =BUFFER>, +BUFFER>, -BUFFER> or ==>";
@@ -41,11 +48,13 @@ fn lines_that_are_no_lines() {
         assert_eq!(said(&text), wanted);
     }
     check(&[
-        ("", "m: no buffer is declared: a model has 1 to 8 buffers"),
-        ("# nothing ; but a comment\n", "m: no buffer is declared: a model has 1 to 8 buffers"),
         ("==>", "m:1:1: '==>' stands in no rule: a 'rule' line comes first"),
         ("\n=goal> pair", "m:5:1: '=goal>' stands in no rule: a 'rule' line comes first"),
     ]);
+    check_breaking(
+        Flaw::BufferCount,
+        &[("", "m: no buffer is declared"), ("# nothing ; but a comment\n", "m: no buffer is declared")],
+    );
 }
 
 #[test]
@@ -68,24 +77,33 @@ fn declarations() {
         ("type isa", "m:1:6: 'isa' has a meaning of its own and cannot be a type"),
         ("type a x y x", "m:1:12: slot 'x' is named twice"),
         ("type a latency", "m:1:8: 'latency' has a meaning of its own and cannot be a slot"),
-        ("type a 1 2 3 4 5 6 7 8 9", "m:1:24: more than 8 slots in type 'a'"),
         ("type =a", "m:1:6: '=a' is no name: a variable is written '?a'"),
         ("type a(", "m:1:6: '(' cannot stand in a name"),
         ("buffer goal>", "m:1:8: '>' cannot stand in the name of a buffer"),
         ("buffer a\nbuffer a", "m:2:8: buffer 'a' is declared twice"),
-        ("buffer a nil", "m:1:10: type 'nil' is not declared (chunk)"),
         ("buffer a chunk x 1", "m:1:16: slot 'x' is not a slot of type 'chunk' (there is none)"),
         ("\nbuffer a pair frist 1", "m:5:15: slot 'frist' is not a slot of type 'pair' (first, second)"),
         ("\nbuffer a pair first", "m:5:20: the line ends where the value of slot 'first' is expected"),
         ("\nbuffer a pair first 1 first 2", "m:5:23: slot 'first' is named twice"),
         ("\nbuffer a pair first ?x", "m:5:21: '?x' is a variable, which stands only in rules"),
         ("\nbuffer a pair latency 1", "m:5:15: expected the end of the line, found 'latency'"),
-        ("\nfact chunk", "m:5:6: a fact has a declared type, not chunk"),
-        ("\nfact pairs", "m:5:6: type 'pairs' is not declared (chunk, pair, other)"),
         ("\nfact pair activation -1", "m:5:22: an activation is a whole number from 0 to 65535, not '-1'"),
         ("\nfact pair latency 1.5", "m:5:19: a latency is a whole number from 0 to 65535, not '1.5'"),
         ("\nfact pair latency 1 activation 1", "m:5:21: expected the end of the line, found 'activation'"),
     ]);
+}
+
+#[test]
+fn declarations_that_break_a_rule() {
+    check_breaking(Flaw::SlotCount, &[("type a 1 2 3 4 5 6 7 8 9", "m:1:24: more than 8 slots in type 'a'")]);
+    check_breaking(
+        Flaw::UnknownType,
+        &[
+            ("buffer a nil", "m:1:10: type 'nil' is not declared (chunk)"),
+            ("\nfact pairs", "m:5:6: type 'pairs' is not declared (chunk, pair, other)"),
+        ],
+    );
+    check_breaking(Flaw::ChunkType, &[("\nfact chunk", "m:5:6: a fact cannot be of type chunk")]);
 }
 
 #[test]
@@ -105,28 +123,34 @@ fn heads_of_rules() {
         ("rule r variables a", "m:1:18: expected a variable, as '?a', found 'a'"),
         ("rule r variables ?", "m:1:18: a name has at least one character"),
         ("rule r variables ?a ?a", "m:1:21: variable '?a' is listed twice"),
-        ("rule r variables ?1 ?2 ?3 ?4 ?5 ?6 ?7 ?8 ?9", "m:1:42: more than 8 variables in rule 'r'"),
         ("rule r", "m:1:6: rule 'r' has no line '==>' between tests and actions"),
         ("\nrule r\n =goal> pair\n ==>\nrule r", "m:8:6: rule 'r' is declared twice"),
         ("\nrule r\n =goal> pair\nfact pair", "m:5:6: rule 'r' has no line '==>' between tests and actions"),
-        ("\nrule r\n ==>", "m:6:2: rule 'r' has no test: it needs one at least"),
         ("\nrule r\n =goal> pair\n ==>\n ==>", "m:8:2: rule 'r' has two lines '==>'"),
+    ]);
+}
+
+#[test]
+fn variables_and_counts_of_rules() {
+    let nine = "rule r variables ?1 ?2 ?3 ?4 ?5 ?6 ?7 ?8 ?9";
+    check_breaking(Flaw::VariableCount, &[(nine, "m:1:42: more than 8 variables in rule 'r'")]);
+    check_breaking(Flaw::TestCount, &[("\nrule r\n ==>", "m:6:2: rule 'r' has no test")]);
+    let other = "\nrule r variables ?a\n =goal> pair first ?b\n ==>\n";
+    check_breaking(Flaw::UnknownVariable, &[(other, "m:6:20: variable '?b' is not in the list of rule 'r'")]);
+    let untested = [
         ("\nrule r variables ?a\n =goal> pair\n ==>\n", "m:5:18: variable '?a' stands in no test of rule 'r'"),
         (
-            "\nrule r variables ?a\n =goal> pair first ?b\n ==>\n",
-            "m:6:20: variable '?b' is not in the list of rule 'r'",
+            "\nrule r\n =goal> pair first ?a\n ==>\n =goal> first ?b",
+            "m:8:15: variable '?b' stands in no test of rule 'r'",
         ),
-    ]);
+    ];
+    check_breaking(Flaw::UntestedVariable, &untested);
 }
 
 #[test]
 fn tests_and_actions() {
     check(&[
-        ("\nrule r\n =gaol> pair", "m:6:2: buffer 'gaol' is not declared (goal, retrieval)"),
         ("\nrule r\n =goal>", "m:6:8: the line ends where a type is expected"),
-        ("\nrule r\n =goal> first 1", "m:6:9: type 'first' is not declared (chunk, pair, other)"),
-        ("\nrule r\n =goal> isa pairs", "m:6:13: type 'pairs' is not declared (chunk, pair, other)"),
-        ("\nrule r\n =goal> pair secnd 1", "m:6:14: slot 'secnd' is not a slot of type 'pair' (first, second)"),
         ("\nrule r\n =goal> pair first", "m:6:19: the line ends where the term of slot 'first' is expected"),
         ("\nrule r\n =goal> pair first =a", "m:6:20: '=a' is no name: a variable is written '?a'"),
         (
@@ -135,30 +159,63 @@ fn tests_and_actions() {
         ),
         ("\nrule r\n ?retrieval> error", "m:6:2: an image cannot hold a query: a buffer is tested with '='"),
         ("\nrule r\n -goal>\n", "m:6:2: '-goal>' is an action, and stands after '==>'"),
-        ("\nrule r\n =goal> pair\n =goal> pair", "m:7:2: rule 'r' tests buffer 'goal' twice, first in line 6"),
-        (
-            "\nrule r\n =goal> pair\n ==>\n =retrieval> first 1",
-            "m:8:2: rule 'r' does not test buffer 'retrieval', so it cannot modify it",
-        ),
         (
             "\nrule r\n =goal> pair\n ==>\n =goal> isa pair",
             "m:8:9: a modified buffer keeps its type: 'isa' stands in tests and requests",
         ),
-        (
-            "\nrule r\n =goal> other\n ==>\n =goal> first 1",
-            "m:8:9: slot 'first' is not a slot of type 'other' (there is none)",
-        ),
-        ("\nrule r\n =goal> pair\n ==>\n +goal> chunk", "m:8:9: a request has a declared type, not chunk"),
         ("\nrule r\n =goal> pair\n ==>\n -goal> pair", "m:8:9: expected the end of the line, found 'pair'"),
-        (
-            "\nrule r\n =goal> pair\n ==>\n =goal> first 1\n -goal>",
-            "m:9:2: rule 'r' acts on buffer 'goal' twice, first in line 8",
-        ),
-        (
-            "\nrule r\n =goal> pair first ?a\n ==>\n =goal> first ?b",
-            "m:8:15: variable '?b' stands in no test of rule 'r'",
-        ),
     ]);
+}
+
+#[test]
+fn types_and_slots_of_tests_and_actions() {
+    check_breaking(
+        Flaw::UnknownType,
+        &[
+            ("\nrule r\n =goal> first 1", "m:6:9: type 'first' is not declared (chunk, pair, other)"),
+            ("\nrule r\n =goal> isa pairs", "m:6:13: type 'pairs' is not declared (chunk, pair, other)"),
+        ],
+    );
+    let chunk = "\nrule r\n =goal> pair\n ==>\n +goal> chunk";
+    check_breaking(Flaw::ChunkType, &[(chunk, "m:8:9: a request cannot be of type chunk")]);
+    check_breaking(
+        Flaw::UnknownSlot,
+        &[
+            ("\nrule r\n =goal> pair secnd 1", "m:6:14: slot 'secnd' is not a slot of type 'pair' (first, second)"),
+            (
+                "\nrule r\n =goal> other\n ==>\n =goal> first 1",
+                "m:8:9: slot 'first' is not a slot of type 'other' (there is none)",
+            ),
+            (
+                "\nrule r\n =goal> other\n ==>\n +goal> pair third 1",
+                "m:8:14: slot 'third' is not a slot of type 'pair' (first, second)",
+            ),
+        ],
+    );
+}
+
+#[test]
+fn buffers_of_tests_and_actions() {
+    check_breaking(
+        Flaw::UnknownBuffer,
+        &[
+            ("\nrule r\n =gaol> pair", "m:6:2: buffer 'gaol' is not declared (goal, retrieval)"),
+            ("\nrule r\n =goal> pair\n ==>\n -gaol>", "m:8:2: buffer 'gaol' is not declared (goal, retrieval)"),
+        ],
+    );
+    check_breaking(
+        Flaw::BufferOrder,
+        &[
+            ("\nrule r\n =goal> pair\n =goal> pair", "m:7:2: rule 'r' tests buffer 'goal' twice, first in line 6"),
+            (
+                "\nrule r\n =goal> pair\n ==>\n =goal> first 1\n -goal>",
+                "m:9:2: rule 'r' acts on buffer 'goal' twice, first in line 8",
+            ),
+        ],
+    );
+    let untested = "\nrule r\n =goal> pair\n ==>\n =retrieval> first 1";
+    let found = "m:8:2: rule 'r' modifies buffer 'retrieval' and does not test it";
+    check_breaking(Flaw::UntestedBuffer, &[(untested, found)]);
 }
 
 /// As many lines as allowed are accepted, one more is refused in its line.
@@ -170,11 +227,16 @@ fn check_limit(before: &str, most: usize, line: fn(usize) -> String, wanted: &st
 
 #[test]
 fn limits() {
-    check_limit("", 8, |n| format!("buffer b{n}\n"), "m:9:8: more than 8 buffers");
+    check_limit("", 8, |n| format!("buffer b{n}\n"), &Flaw::BufferCount.told("m:9:8: more than 8 buffers"));
     check_limit("buffer b\n", 63, |n| format!("type t{n}\n"), "m:65:6: more than 63 types");
-    check_limit("buffer b\ntype t\n", 512, |_| "fact t\n".into(), "m:515:1: more than 512 facts");
+    check_limit(
+        "buffer b\ntype t\n",
+        512,
+        |_| "fact t\n".into(),
+        &Flaw::FactCount.told("m:515:1: more than 512 facts"),
+    );
     let rule = |n| format!("rule r{n}\n=b> chunk\n==>\n");
-    check_limit("buffer b\n", 256, rule, "m:770:1: more than 256 rules");
+    check_limit("buffer b\n", 256, rule, &Flaw::RuleCount.told("m:770:1: more than 256 rules"));
     let facts = |n: usize| {
         let values = (0..8).map(|slot| format!(" {slot} s{}", 8 * n + slot)).collect::<String>();
         format!("fact t{values}\n")
@@ -193,7 +255,8 @@ fn nine_variables() {
     let slots = (0..8).map(|slot| format!(" {slot} ?v{slot}")).collect::<String>();
     let eight = format!("type t 0 1 2 3 4 5 6 7\nbuffer a\nbuffer b\nrule r\n =a> t{slots}\n");
     assert!(Model::from_text(&format!("{eight} =b> t 0 ?v0\n ==>")).is_ok());
-    assert_eq!(said(&format!("{eight} =b> t 0 ?v8\n ==>")), "m:6:10: more than 8 variables in rule 'r'");
+    let nine = format!("{eight} =b> t 0 ?v8\n ==>");
+    check_breaking(Flaw::VariableCount, &[(&nine, "m:6:10: more than 8 variables in rule 'r'")]);
 }
 
 #[test]
@@ -206,5 +269,5 @@ fn an_image_that_is_too_large() {
     let rules: String = (0..256).map(rule).collect();
     let text = format!("type t 0 1 2 3 4 5 6 7\n{buffers}{facts}{rules}");
     // 105 bits before the facts, 134 a fact, 1,980 a rule.
-    assert_eq!(said(&text), "m: the image has 71950 bytes: 65536 are the most");
+    check_breaking(Flaw::TooLong, &[(&text, "m: the image has 71950 bytes")]);
 }

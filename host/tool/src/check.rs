@@ -14,8 +14,11 @@ pub const COMMAND: Command = Command {
     summary: "says whether a text packs or an image opens, and all that is wrong with it",
     usage: "usage: jirvuntsag-tool check MODEL
 Says in one line what the text or the image in the file MODEL ('-' for standard input) holds; of a text also which
-symbols stand in one place only, and may be mistyped. A text that is refused is explained by each fault with its line
-and column, an image by the number, the bit (from 0 on) and the field.",
+symbols stand in one place only, and may be mistyped. An image that is refused is explained by the number, the position
+of the field, the field's name, what was found in it, and in brackets the rule that it breaks. The position is the
+field's first bit: as a bit of the image, and as a byte and a bit of that byte. Bytes and bits count from 0, and the most
+significant bit of a byte is its bit 0. A text that is refused is explained by each fault with its line and column; where
+an image could break the same rule, that and its number stand in brackets: [11: ..].",
     options: &[],
     flags: &[],
     run,

@@ -73,8 +73,8 @@ fn text_of(path: &str, bytes: Vec<u8>) -> Result<String, Failure> {
     String::from_utf8(bytes).map_err(|error| {
         let valid = &error.as_bytes()[..error.utf8_error().valid_up_to()];
         let line = 1 + valid.iter().filter(|&&byte| byte == b'\n').count();
-        let message = "this is no text: a byte that is not UTF-8".into();
-        Failure::refused(TextError { line, column: 0, message }.in_file(&shown(path)))
+        let fault = TextError::at(line, 0, "this is no text: a byte that is not UTF-8");
+        Failure::refused(fault.in_file(&shown(path)))
     })
 }
 

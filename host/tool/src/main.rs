@@ -86,8 +86,9 @@ fn help() -> String {
 }
 
 /// What the list of subcommands ends with.
-const MORE: &str = "A MODEL is a text or an image. Exit status: 0 done, 1 the input is
-refused, or what is compared differs, 2 not used rightly, or a file cannot be read or written.";
+const MORE: &str = "A MODEL is a text or an image; 'check --help'
+says how one that is refused is explained. Exit status: 0 done, 1 the input is refused, or what is
+compared differs, 2 not used rightly, or a file cannot be read or written.";
 
 /// The version of all that is built here.
 const VERSION: &str = env!("CARGO_PKG_VERSION");

@@ -10,12 +10,11 @@ use crate::Command;
 pub const COMMAND: Command = Command {
     name: "pack",
     summary: "packs a model's text to an image",
-    usage:
-        "usage: jirvuntsag-tool pack TEXT [-o IMAGE] [--names FILE] [--header FILE]
+    usage: "usage: jirvuntsag-tool pack TEXT [-o IMAGE] [--names FILE] [--header FILE]
 Packs the model in the file TEXT ('-' for standard input) and writes its image to the file IMAGE, or to standard
 output. With --names the names of buffers, types, slots, symbols, rules and variables are written to FILE, as JSON.
 With --header constants for buffers, types, slots, symbols and rules are written to FILE, for C and C++; their names
-begin with that of FILE. A text that is no model is refused with each fault's line and column; nothing is written then.",
+begin with that of FILE. A text that is no model is explained as by 'check', and nothing is written.",
     options: &["-o", "--names", "--header"],
     flags: &[],
     run,

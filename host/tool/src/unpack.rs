@@ -12,7 +12,7 @@ pub const COMMAND: Command = Command {
     usage: "usage: jirvuntsag-tool unpack IMAGE [-o TEXT] [--names FILE]
 Writes the model in the file IMAGE ('-' for standard input) as text to the file TEXT, or to standard output. Packed
 again, the text gives the same bytes. Names are those of FILE, as 'pack --names' writes it; without it they are
-invented: b0, t1, s0, x1, r0, v0. An image that is refused is explained: the number, the bit and the field.",
+invented: b0, t1, s0, x1, r0, v0. An image that is refused is explained as by 'check'.",
     options: &["-o", "--names"],
     flags: &[],
     run,

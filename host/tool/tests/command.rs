@@ -6,6 +6,11 @@ use std::process::{Command, Output, Stdio};
 
 use jirvuntsag_packing::{model_a, pack};
 
+/// The subcommands that need no library.
+const PACKING: [&str; 3] = ["pack", "unpack", "check"];
+/// Those that run a model on the proved library, if it is built in.
+const RUNNING: [&str; 3] = ["trace", "explain", "compare"];
+
 /// A folder of this test's own, empty.
 fn folder(name: &str) -> PathBuf {
     let folder = PathBuf::from(env!("CARGO_TARGET_TMPDIR")).join(name);
@@ -75,8 +80,8 @@ fn refused_input_leaves_everything_as_it_was() {
     assert_eq!(failed(&folder, &["pack", "-", "-o", "kept"], wrong), (Some(1), said.into()));
     let said = "standard input:2: this is no text: a byte that is not UTF-8\n";
     assert_eq!(failed(&folder, &["pack", "-", "-o", "kept"], b"buffer b\n\xff"), (Some(1), said.into()));
-    let field = "number of buffers has 4 bits, but the image ends after bit 7";
-    let said = format!("standard input: refused: 2 (a field is not wholly there) at bit 8: {field}\n");
+    let field = "the number of buffers needs 4 bits, but no bit is left [every field must be wholly there]";
+    let said = format!("standard input: refused by 2 at bit 8 (byte 1, bit 0 of it): {field}\n");
     assert_eq!(failed(&folder, &["check", "-"], &[1]), (Some(1), said.clone()));
     assert_eq!(failed(&folder, &["unpack", "-", "-o", "kept"], &[1]), (Some(1), said));
     let said = "kept:1:5: 'kept' is no JSON value\n";
@@ -129,7 +134,7 @@ fn help_and_wrong_use() {
     let first = |output: &[u8]| text(output).lines().next().unwrap_or_default().to_owned();
     let help = call(&folder, &["--help"], &[]);
     assert!(help.status.success() && first(&help.stdout) == "usage: jirvuntsag-tool SUBCOMMAND ..");
-    for name in ["pack", "unpack", "check", "trace", "explain", "compare"] {
+    for name in PACKING.into_iter().chain(RUNNING) {
         let help = call(&folder, &[name, "--help"], &[]);
         assert!(help.status.success() && first(&help.stdout).starts_with(&format!("usage: jirvuntsag-tool {name} ")));
     }
@@ -162,20 +167,21 @@ fn texts_and_images_are_told_from_each_other() {
     for (file, verdict) in [("a.model", "packs to"), ("text.image", "packs to"), ("a.image", "opens:")] {
         let checked = call(&folder, &["check", file], &[]);
         assert_eq!(text(&checked.stdout), format!("{file}: {verdict} {holds}"));
-        assert!(call(&folder, &["trace", file], &[]).status.success());
+        assert_eq!(call(&folder, &["trace", file], &[]).status.success(), cfg!(feature = "proved"));
     }
     let said = "a.model: this is a text, not an image: 'pack' makes an image of it\n";
     assert_eq!(failed(&folder, &["unpack", "a.model"], &[]), (Some(1), said.into()));
     let said = "a.image: this is an image, not a text: 'unpack' makes a text of it\n";
     assert_eq!(failed(&folder, &["pack", "a.image"], &[]), (Some(1), said.into()));
     let (status, said) = failed(&folder, &["check", "-"], b"\x01");
-    assert!(status == Some(1) && said.starts_with("standard input: refused: 2 "), "{said}");
+    assert!(status == Some(1) && said.starts_with("standard input: refused by 2 at bit 8 "), "{said}");
 }
 
 /// The input that is offered to the command without an end, so that only one who stops reading can answer.
 #[test]
 fn what_is_too_large_is_not_read_to_its_end() {
-    for subcommand in ["pack", "unpack", "check", "trace", "explain", "compare"] {
+    let running = RUNNING.into_iter().filter(|_| cfg!(feature = "proved"));
+    for subcommand in PACKING.into_iter().chain(running) {
         let file = std::fs::File::open("/dev/zero").expect("zeros");
         let mut command = Command::new(env!("CARGO_BIN_EXE_jirvuntsag-tool"));
         let output = command.args([subcommand, "-"]).stdin(file).output().expect("the command");
@@ -190,7 +196,7 @@ fn all_faults_are_told_and_no_more_than_can_be_read() {
     let folder = folder("faults");
     let (status, said) = failed(&folder, &["check", "-"], b"type a b b\nbuffer c d\nrule\n");
     let wanted = "standard input:1:10: slot 'b' is named twice
-standard input:2:10: type 'd' is not declared (chunk, a)
+standard input:2:10: type 'd' is not declared (chunk, a) [3: a type must be declared, or 0 (chunk)]
 standard input:3:5: the line ends where the rule's name is expected
 ";
     assert_eq!((status, said.as_str()), (Some(1), wanted));
@@ -199,6 +205,16 @@ standard input:3:5: the line ends where the rule's name is expected
     assert!(said.ends_with("standard input: and 30 more faults\n"), "{said}");
     let (_, said) = failed(&folder, &["check", "-"], b"\x1b[2J\n");
     assert!(said.starts_with("standard input:1:1: '\\u{1b}[2J' begins no line"), "{said}");
+}
+
+/// Where the library is not built in, a run is not made, and that is said.
+#[cfg(not(feature = "proved"))]
+#[test]
+fn a_build_without_the_library_says_so() {
+    for subcommand in RUNNING {
+        let (status, said) = failed(&folder("without"), &[subcommand, "-"], b"buffer b\n");
+        assert!(status == Some(2) && said.starts_with("jirvuntsag-tool: this build is without "), "{said}");
+    }
 }
 
 #[test]

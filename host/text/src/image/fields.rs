@@ -1,6 +1,10 @@
 //! Fields one after the other, each with its name for the case that it is refused.
 
-use crate::refused::{Flaw, Refused};
+use crate::flaw::Flaw;
+use crate::refused::{Place, Refused};
+
+/// The rule that a value breaks, and what is said of it after its field's name and `is`: the value, and what it is held to.
+pub type Wrong = (Flaw, String);
 
 /// An image and the bit that comes next.
 pub struct Fields<'i> {
@@ -14,17 +18,16 @@ impl<'i> Fields<'i> {
         Fields { image, at: 0 }
     }
 
-    /// A field that breaks its rule, at a bit.
-    fn broken(at: usize, cause: String) -> Refused {
-        Refused { flaw: Flaw::Broken, at: Some(at), cause }
-    }
-
     /// The next field, whatever it holds.
     pub fn take(&mut self, width: usize, what: impl Fn() -> String) -> Result<u16, Refused> {
         let (start, bits) = (self.at, 8 * self.image.len());
         if start + width > bits {
-            let end = if bits == 0 { "is empty".into() } else { format!("ends after bit {}", bits - 1) };
-            let cause = format!("{} has {width} bits, but the image {end}", what());
+            let left = match bits - start {
+                0 => "no bit is left".into(),
+                1 => "only 1 bit is left".into(),
+                left => format!("only {left} bits are left"),
+            };
+            let cause = format!("{} needs {width} bits, but {left}", what());
             return Err(Refused { flaw: Flaw::Missing, at: Some(start), cause });
         }
         self.at += width;
@@ -36,37 +39,39 @@ impl<'i> Fields<'i> {
         &mut self,
         width: usize,
         what: impl Fn() -> String,
-        wrong: impl Fn(u16) -> Option<String>,
+        wrong: impl Fn(u16) -> Option<Wrong>,
     ) -> Result<u16, Refused> {
-        let start = self.at;
+        let at = Some(self.at);
         let value = self.take(width, &what)?;
         match wrong(value) {
             None => Ok(value),
-            Some(why) => Err(Self::broken(start, format!("{} is {value}, but {why}", what()))),
+            Some((flaw, found)) => Err(Refused { flaw, at, cause: format!("{} is {found}", what()) }),
         }
     }
 
     /// The next field, if it is not above a highest value.
-    pub fn at_most(&mut self, width: usize, highest: usize, what: impl Fn() -> String) -> Result<u16, Refused> {
-        self.judged(width, what, |value| (usize::from(value) > highest).then(|| format!("{highest} is the highest")))
+    pub fn at_most(
+        &mut self,
+        width: usize,
+        highest: usize,
+        flaw: Flaw,
+        what: impl Fn() -> String,
+    ) -> Result<u16, Refused> {
+        self.judged(width, what, |value| (usize::from(value) > highest).then(|| (flaw, value.to_string())))
     }
 
-    /// A rule that must hold where the next field begins.
-    pub fn require(&self, holds: bool, cause: impl FnOnce() -> String) -> Result<(), Refused> {
-        if holds {
-            Ok(())
-        } else {
-            Err(Self::broken(self.at, cause()))
-        }
+    /// A refusal at the bit that comes next.
+    pub fn refused_here(&self, flaw: Flaw, cause: String) -> Refused {
+        Refused { flaw, at: Some(self.at), cause }
     }
 
     /// Zero bits up to the byte's end, and no byte after it.
     pub fn finish(&self) -> Result<(), Refused> {
-        let end = 8 * self.at.div_ceil(8);
-        let cause = if let Some(bit) = (self.at..end).find(|&bit| self.bit(bit)) {
-            format!("bit {bit} is 1, but the last field ends before bit {}", self.at)
-        } else if 8 * self.image.len() > end {
-            format!("the last field ends in byte {} of {}", end / 8, self.image.len())
+        let bytes = self.at.div_ceil(8);
+        let cause = if let Some(bit) = (self.at..8 * bytes).find(|&bit| self.bit(bit)) {
+            format!("{} is 1, but the last field ends before bit {}", Place(bit), self.at)
+        } else if self.image.len() > bytes {
+            format!("the last field ends in byte {}, but the image has {} bytes", bytes - 1, self.image.len())
         } else {
             return Ok(());
         };
@@ -78,11 +83,12 @@ impl<'i> Fields<'i> {
     }
 }
 
-/// `is 1 type`, `are 5 types`, `are no types`.
-pub fn counted(count: usize, what: &str) -> String {
+/// So many things, by their numbers: `no type`, `type 1 alone`, `types 1 and 2`, `types 1 to 5`.
+pub fn numbered(what: &str, first: usize, count: usize) -> String {
     match count {
-        0 => format!("are no {what}s"),
-        1 => format!("is 1 {what}"),
-        count => format!("are {count} {what}s"),
+        0 => format!("no {what}"),
+        1 => format!("{what} {first} alone"),
+        2 => format!("{what}s {first} and {}", first + 1),
+        count => format!("{what}s {first} to {}", first + count - 1),
     }
 }

@@ -5,9 +5,10 @@ mod rules;
 
 use jirvuntsag_packing::{ChunkSpec, FactSpec, ModelSpec};
 
+use crate::flaw::Flaw;
 use crate::limits::{BUFFERS, FACTS, IMAGE_LIMIT, RULES, SLOTS};
-use crate::refused::{Flaw, Refused};
-use fields::{counted, Fields};
+use crate::refused::Refused;
+use fields::{numbered, Fields};
 
 /// The model of an image.
 pub fn read_image(image: &[u8]) -> Result<ModelSpec, Refused> {
@@ -18,8 +19,8 @@ pub fn read_image(image: &[u8]) -> Result<ModelSpec, Refused> {
     let mut spec = ModelSpec::default();
     let counts = header(&mut fields, &mut spec)?;
     for number in 1..=counts.types {
-        let what = || format!("slot count of type {number}");
-        spec.types.push(fields.at_most(4, SLOTS, what)? as u8);
+        let what = || format!("the slot count of type {number}");
+        spec.types.push(fields.at_most(4, SLOTS, Flaw::SlotCount, what)? as u8);
     }
     for buffer in 0..counts.buffers {
         let opening = chunk(&mut fields, &spec, 0, &format!("the opening of buffer {buffer}"))?;
@@ -47,43 +48,44 @@ struct Counts {
 
 /// Version, counts and failure latency.
 fn header(fields: &mut Fields, spec: &mut ModelSpec) -> Result<Counts, Refused> {
-    fields.judged(8, || "version".into(), |version| (version != 1).then(|| "only version 1 is known".into()))?;
-    let wrong = |count: u16| {
-        (!(1..=BUFFERS).contains(&usize::from(count))).then(|| format!("there are 1 to {BUFFERS} buffers"))
-    };
-    let buffers = fields.judged(4, || "number of buffers".into(), wrong)?;
-    let types = fields.take(6, || "number of types".into())?;
-    let rules = fields.at_most(9, RULES, || "number of rules".into())?;
-    let facts = fields.at_most(10, FACTS, || "number of facts".into())?;
-    spec.failure = fields.take(16, || "failure latency".into())?;
+    let another = |version: u16| (version != 1).then(|| (Flaw::Version, version.to_string()));
+    fields.judged(8, || "the version".into(), another)?;
+    let wrong =
+        |count: u16| (!(1..=BUFFERS).contains(&usize::from(count))).then(|| (Flaw::BufferCount, count.to_string()));
+    let buffers = fields.judged(4, || "the number of buffers".into(), wrong)?;
+    let types = fields.take(6, || "the number of types".into())?;
+    let rules = fields.at_most(9, RULES, Flaw::RuleCount, || "the number of rules".into())?;
+    let facts = fields.at_most(10, FACTS, Flaw::FactCount, || "the number of facts".into())?;
+    spec.failure = fields.take(16, || "the failure latency".into())?;
     Ok(Counts { buffers, types, rules, facts })
 }
 
 /// A type from `lowest` to T and the values of its slots.
 fn chunk(fields: &mut Fields, spec: &ModelSpec, lowest: u16, whose: &str) -> Result<ChunkSpec, Refused> {
     let isa = type_of(fields, spec, lowest, whose)?;
-    let slots = (0..spec.slot_count(isa)).map(|slot| fields.take(12, || format!("slot {slot} of {whose}")));
+    let slots =
+        (0..spec.slot_count(isa)).map(|slot| fields.take(12, || format!("the value of slot {slot} of {whose}")));
     Ok(ChunkSpec { isa, slots: slots.collect::<Result<_, _>>()? })
 }
 
 /// A type field, `lowest` to T.
 fn type_of(fields: &mut Fields, spec: &ModelSpec, lowest: u16, whose: &str) -> Result<u8, Refused> {
     let highest = spec.types.len();
-    let wrong = |isa| {
+    let wrong = |isa: u16| {
         if isa < lowest {
-            Some("a declared type is needed".into())
-        } else {
-            (usize::from(isa) > highest).then(|| format!("there {}", counted(highest, "type")))
+            return Some((Flaw::ChunkType, isa.to_string()));
         }
+        let declared = || format!("{isa}, but the image declares {}", numbered("type", 1, highest));
+        (usize::from(isa) > highest).then(|| (Flaw::UnknownType, declared()))
     };
-    Ok(fields.judged(6, || format!("type of {whose}"), wrong)? as u8)
+    Ok(fields.judged(6, || format!("the type of {whose}"), wrong)? as u8)
 }
 
 /// One fact.
 fn fact(fields: &mut Fields, spec: &ModelSpec, number: u16) -> Result<FactSpec, Refused> {
     let whose = format!("fact {number}");
     let chunk = chunk(fields, spec, 1, &whose)?;
-    let activation = fields.take(16, || format!("activation of {whose}"))?;
-    let latency = fields.take(16, || format!("latency of {whose}"))?;
+    let activation = fields.take(16, || format!("the activation of {whose}"))?;
+    let latency = fields.take(16, || format!("the latency of {whose}"))?;
     Ok(FactSpec { chunk, activation, latency })
 }

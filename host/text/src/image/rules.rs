@@ -2,8 +2,9 @@
 
 use jirvuntsag_packing::{ActionSpec, Deed, ModelSpec, PatternSpec, RuleSpec, Term, TestSpec};
 
-use super::fields::{counted, Fields};
+use super::fields::{numbered, Fields, Wrong};
 use super::type_of;
+use crate::flaw::Flaw;
 use crate::limits::VARIABLES;
 use crate::refused::Refused;
 
@@ -13,31 +14,49 @@ struct Scope<'m> {
     variables: u8,
 }
 
+impl Scope<'_> {
+    /// The buffers that there are, by number.
+    fn buffers(&self) -> String {
+        numbered("buffer", 0, self.spec.opening.len())
+    }
+}
+
 /// One rule.
 pub fn rule(fields: &mut Fields, spec: &ModelSpec, number: u16) -> Result<RuleSpec, Refused> {
     let whose = format!("rule {number}");
-    let buffers = spec.opening.len();
-    let too_many = |count| (usize::from(count) > buffers).then(|| format!("there {}", counted(buffers, "buffer")));
-    let none_or_too_many = |count| if count == 0 { Some("a rule has one at least".into()) } else { too_many(count) };
-    let utility = fields.take(16, || format!("utility of {whose}"))?;
-    let tests = fields.judged(4, || format!("number of tests of {whose}"), none_or_too_many)?;
-    let actions = fields.judged(4, || format!("number of actions of {whose}"), too_many)?;
-    let variables = fields.at_most(4, VARIABLES, || format!("number of variables of {whose}"))? as u8;
+    let utility = fields.take(16, || format!("the utility of {whose}"))?;
+    let tests = count(fields, spec, 1, Flaw::TestCount, &format!("tests of {whose}"))?;
+    let actions = count(fields, spec, 0, Flaw::ActionCount, &format!("actions of {whose}"))?;
+    let what = || format!("the number of variables of {whose}");
+    let variables = fields.at_most(4, VARIABLES, Flaw::VariableCount, what)? as u8;
     let scope = Scope { spec, variables };
     let mut rule = RuleSpec { utility, variables, ..RuleSpec::default() };
     for number in 0..tests {
         let test = test(fields, &scope, &rule.tests, &format!("test {number} of {whose}"))?;
         rule.tests.push(test);
     }
-    let untested = (0..u16::from(variables)).find(|&variable| !stands(&rule.tests, variable));
-    fields.require(untested.is_none(), || {
-        format!("variable {} of {whose} stands in none of its tests", untested.unwrap_or_default())
-    })?;
+    if let Some(variable) = (0..u16::from(variables)).find(|&variable| !stands(&rule.tests, variable)) {
+        let cause = format!("variable {variable} of {whose} stands in none of its tests, which end before this bit");
+        return Err(fields.refused_here(Flaw::UntestedVariable, cause));
+    }
     for number in 0..actions {
         let action = action(fields, &scope, &rule, &format!("action {number} of {whose}"))?;
         rule.actions.push(action);
     }
     Ok(rule)
+}
+
+/// A number of tests or actions, `lowest` to the number of buffers.
+fn count(fields: &mut Fields, spec: &ModelSpec, lowest: u16, flaw: Flaw, of: &str) -> Result<u16, Refused> {
+    let buffers = spec.opening.len();
+    let wrong = |count: u16| {
+        if count < lowest {
+            return Some((flaw, count.to_string()));
+        }
+        let there = || format!("{count}, but the image has {}", numbered("buffer", 0, buffers));
+        (usize::from(count) > buffers).then(|| (flaw, there()))
+    };
+    fields.judged(4, || format!("the number of {of}"), wrong)
 }
 
 /// Whether a variable stands in one of these tests.
@@ -47,15 +66,15 @@ fn stands(tests: &[TestSpec], variable: u16) -> bool {
 
 /// A buffer below the count and above the one before it.
 fn buffer(fields: &mut Fields, scope: &Scope, before: Option<u8>, whose: &str) -> Result<u8, Refused> {
-    let count = scope.spec.opening.len();
-    let wrong = |buffer| {
-        if usize::from(buffer) >= count {
-            return Some(format!("there {}", counted(count, "buffer")));
+    let wrong = |buffer: u16| {
+        if usize::from(buffer) >= scope.spec.opening.len() {
+            return Some((Flaw::UnknownBuffer, format!("{buffer}, but the image has {}", scope.buffers())));
         }
         let before = before.filter(|&before| buffer <= u16::from(before))?;
-        Some(format!("buffers rise and {before} came before it"))
+        let found = format!("{buffer}, but the one before it is {before}; the image has {}", scope.buffers());
+        Some((Flaw::BufferOrder, found))
     };
-    Ok(fields.judged(3, || format!("buffer of {whose}"), wrong)? as u8)
+    Ok(fields.judged(3, || format!("the buffer of {whose}"), wrong)? as u8)
 }
 
 /// One test.
@@ -70,11 +89,11 @@ fn action(fields: &mut Fields, scope: &Scope, rule: &RuleSpec, whose: &str) -> R
     let buffer = buffer(fields, scope, rule.actions.last().map(|action| action.buffer), whose)?;
     let tested = rule.tests.iter().find(|test| test.buffer == buffer).map(|test| test.isa);
     let wrong = |kind| match (kind, tested) {
-        (0, None) => Some(format!("buffer {buffer}, which it would modify, is not tested")),
+        (0, None) => Some(untested(scope, rule, buffer)),
         (0, Some(_)) | (1 | 2, _) => None,
-        _ => Some("only 0, 1 and 2 are kinds".into()),
+        _ => Some((Flaw::ActionKind, kind.to_string())),
     };
-    let kind = fields.judged(2, || format!("kind of {whose}"), wrong)?;
+    let kind = fields.judged(2, || format!("the kind of {whose}"), wrong)?;
     let deed = match (kind, tested) {
         (0, Some(isa)) => Deed::Modify(pattern(fields, scope, isa, whose)?),
         (1, _) => {
@@ -87,24 +106,37 @@ fn action(fields: &mut Fields, scope: &Scope, rule: &RuleSpec, whose: &str) -> R
     Ok(ActionSpec { buffer, deed })
 }
 
+/// What is wrong with a modify of a buffer that the rule does not test.
+fn untested(scope: &Scope, rule: &RuleSpec, buffer: u8) -> Wrong {
+    let tested: Vec<String> = rule.tests.iter().map(|test| test.buffer.to_string()).collect();
+    let tested = format!("{} {}", if tested.len() == 1 { "buffer" } else { "buffers" }, tested.join(", "));
+    let found =
+        format!("0 (modify) of buffer {buffer}, but the rule tests {tested}; the image has {}", scope.buffers());
+    (Flaw::UntestedBuffer, found)
+}
+
 /// A mask within the type's slots and a term for each of its ones.
 fn pattern(fields: &mut Fields, scope: &Scope, isa: u8, whose: &str) -> Result<PatternSpec, Refused> {
     let slots = scope.spec.slot_count(isa);
-    let past = |mask| (mask & 0xff_u16 >> slots != 0).then(|| format!("type {isa} has {slots} slots"));
-    let mask = fields.judged(8, || format!("mask of {whose}"), past)? as u8;
+    let past = |mask| {
+        let has = || format!("type {isa} has {}: bits from {slots} on must be 0", numbered("slot", 0, slots));
+        (mask & 0xff_u16 >> slots != 0).then(|| (Flaw::UnknownSlot, format!("{mask:08b}, but {}", has())))
+    };
+    let mask = fields.judged(8, || format!("the mask of {whose}"), past)? as u8;
     let named = (0..8).filter(|slot| mask & 0x80 >> slot != 0);
-    let terms = named.map(|slot| term(fields, scope, &format!("term for slot {slot} of {whose}")));
+    let terms = named.map(|slot| term(fields, scope, &format!("the term for slot {slot} of {whose}")));
     Ok(PatternSpec { mask, terms: terms.collect::<Result<_, _>>()? })
 }
 
 /// A kind bit and twelve bits, one field.
-fn term(fields: &mut Fields, scope: &Scope, whose: &str) -> Result<Term, Refused> {
+fn term(fields: &mut Fields, scope: &Scope, what: &str) -> Result<Term, Refused> {
     let count = scope.variables.into();
     let wrong = |field: u16| {
         let variable = field.checked_sub(0x1000).filter(|&variable| usize::from(variable) >= count)?;
-        Some(format!("variable {variable} is not there: there {}", counted(count, "variable")))
+        let found = format!("variable {variable}, but the rule has {}", numbered("variable", 0, count));
+        Some((Flaw::UnknownVariable, found))
     };
-    let field = fields.judged(13, || whose.into(), wrong)?;
+    let field = fields.judged(13, || what.into(), wrong)?;
     Ok(match field.checked_sub(0x1000) {
         Some(variable) => Term::Variable(variable),
         None => Term::Symbol(field),

@@ -5,6 +5,7 @@ use jirvuntsag_packing::{ChunkSpec, FactSpec};
 use super::words::{whole_number, Line, Word};
 use super::Parser;
 use crate::error::TextError;
+use crate::flaw::Flaw;
 use crate::limits::{BUFFERS, FACTS, SLOTS, SYMBOL, TYPES};
 use crate::names::TypeNames;
 use crate::naming::{buffer_name_fault, slot_name_fault, type_name_fault, ACTIVATION, LATENCY};
@@ -48,7 +49,8 @@ impl<'t> Parser<'t> {
             if let Some(fault) = slot_name_fault(word.text, &slots) {
                 self.note(Err(word.error(fault)));
             } else if slots.len() == SLOTS {
-                self.note(Err(word.error(format!("more than {SLOTS} slots in type '{}'", Shown(&own)))));
+                let message = format!("more than {SLOTS} slots in type '{}'", Shown(&own));
+                self.note(Err(word.breaks(Flaw::SlotCount, message)));
                 break;
             } else {
                 slots.push(word.text.into());
@@ -66,7 +68,7 @@ impl<'t> Parser<'t> {
             return Err(word.error(fault));
         }
         if self.spec.opening.len() == BUFFERS {
-            return Err(word.error(format!("more than {BUFFERS} buffers")));
+            return Err(word.breaks(Flaw::BufferCount, format!("more than {BUFFERS} buffers")));
         }
         let chunk = self.opening(line);
         self.names.buffers.push(word.text.into());
@@ -90,7 +92,7 @@ impl<'t> Parser<'t> {
     /// `fact TYPE SLOT VALUE .. activation NUMBER latency MS`.
     pub fn fact(&mut self, first: Word, mut line: Line<'t>) -> Result<(), TextError> {
         if self.spec.facts.len() == FACTS {
-            return Err(first.error(format!("more than {FACTS} facts")));
+            return Err(first.breaks(Flaw::FactCount, format!("more than {FACTS} facts")));
         }
         let isa = self.take_declared_type(&mut line, "a fact")?;
         let mut fact = FactSpec { chunk: self.chunk(isa, &mut line)?, ..FactSpec::default() };

@@ -4,6 +4,7 @@ use jirvuntsag_packing::{ActionSpec, TestSpec};
 
 use super::words::{name, Line, Word};
 use crate::error::TextError;
+use crate::flaw::Flaw;
 use crate::limits::VARIABLES;
 use crate::shown::Shown;
 
@@ -75,7 +76,8 @@ impl<'t> Draft<'t> {
     fn add_variable(&mut self, word: Word<'t>) -> Result<usize, TextError> {
         name(Word { text: &word.text[1..], ..word })?;
         if self.variables.len() == VARIABLES {
-            return Err(word.error(format!("more than {VARIABLES} variables in rule '{}'", Shown(self.name))));
+            let message = format!("more than {VARIABLES} variables in rule '{}'", Shown(self.name));
+            return Err(word.breaks(Flaw::VariableCount, message));
         }
         self.variables.push(word);
         Ok(self.variables.len() - 1)
@@ -89,7 +91,7 @@ impl<'t> Draft<'t> {
             _ if self.turned => return Err(self.untested(word)),
             _ if self.listed => {
                 let message = format!("variable '{word}' is not in the list of rule '{}'", Shown(self.name));
-                return Err(word.error(message));
+                return Err(word.breaks(Flaw::UnknownVariable, message));
             }
             _ => self.add_variable(word)?,
         };
@@ -98,13 +100,15 @@ impl<'t> Draft<'t> {
     }
 
     fn untested(&self, word: Word) -> TextError {
-        word.error(format!("variable '{word}' stands in no test of rule '{}'", Shown(self.name)))
+        let message = format!("variable '{word}' stands in no test of rule '{}'", Shown(self.name));
+        word.breaks(Flaw::UntestedVariable, message)
     }
 
     /// The fault of a second test of a buffer, or a second action on it.
     pub fn twice(&self, what: &str, first: Word, before: Word) -> TextError {
         let (rule, buffer, line) = (Shown(self.name), Shown(buffer_of(first)), before.line);
-        first.error(format!("rule '{rule}' {what} buffer '{buffer}' twice, first in line {line}"))
+        let message = format!("rule '{rule}' {what} buffer '{buffer}' twice, first in line {line}");
+        first.breaks(Flaw::BufferOrder, message)
     }
 
     /// `==>`: the tests end here.
@@ -114,7 +118,8 @@ impl<'t> Draft<'t> {
         }
         self.turned = true;
         if self.tests.is_empty() && !self.faulty {
-            return Err(first.error(format!("rule '{}' has no test: it needs one at least", Shown(self.name))));
+            let message = format!("rule '{}' has no test", Shown(self.name));
+            return Err(first.breaks(Flaw::TestCount, message));
         }
         line.end()
     }

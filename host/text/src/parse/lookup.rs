@@ -3,6 +3,7 @@
 use super::words::{Line, Word};
 use super::Parser;
 use crate::error::TextError;
+use crate::flaw::Flaw;
 use crate::names::TypeNames;
 use crate::naming::ISA;
 use crate::shown::{listed, Shown};
@@ -17,7 +18,7 @@ impl<'t> Parser<'t> {
             Some(number) => Ok((word, number as u8)),
             None => {
                 let declared = listed(self.names.types.iter().map(|one| &one.name));
-                Err(word.error(format!("type '{word}' is not declared ({declared})")))
+                Err(word.breaks(Flaw::UnknownType, format!("type '{word}' is not declared ({declared})")))
             }
         }
     }
@@ -25,7 +26,7 @@ impl<'t> Parser<'t> {
     /// A type other than `chunk`, for what only a declared type can have.
     pub fn take_declared_type(&self, line: &mut Line<'t>, what: &str) -> Result<u8, TextError> {
         match self.take_type(line)? {
-            (word, 0) => Err(word.error(format!("{what} has a declared type, not chunk"))),
+            (word, 0) => Err(word.breaks(Flaw::ChunkType, format!("{what} cannot be of type chunk"))),
             (_, number) => Ok(number),
         }
     }
@@ -37,7 +38,8 @@ impl<'t> Parser<'t> {
             Some(number) => Ok(number as u8),
             None => {
                 let declared = listed(self.names.buffers.iter());
-                Err(word.error(format!("buffer '{}' is not declared ({declared})", Shown(name))))
+                let message = format!("buffer '{}' is not declared ({declared})", Shown(name));
+                Err(word.breaks(Flaw::UnknownBuffer, message))
             }
         }
     }
@@ -45,12 +47,17 @@ impl<'t> Parser<'t> {
     /// The number of a type's slot.
     pub fn slot_number(&self, word: Word, isa: u8) -> Result<usize, TextError> {
         let TypeNames { name, slots } = &self.names.types[usize::from(isa)];
-        if let Some(number) = slots.iter().position(|slot| slot == word.text) {
-            return Ok(number);
+        slots.iter().position(|slot| slot == word.text).ok_or_else(|| {
+            word.error(format!("slot '{word}' is not a slot of type '{}' ({})", Shown(name), listed(slots.iter())))
+        })
+    }
+
+    /// The number of a slot that a test or an action names, for which an image has a mask.
+    pub fn masked_slot(&self, word: Word, isa: u8) -> Result<usize, TextError> {
+        if word.text == "-" {
+            let message = "a slot cannot be negated in an image: give the rule for the other case a higher utility";
+            return Err(word.error(message));
         }
-        Err(word.error(match word.text {
-            "-" => "a slot cannot be negated in an image: give the rule for the other case a higher utility".into(),
-            _ => format!("slot '{word}' is not a slot of type '{}' ({})", Shown(name), listed(slots.iter())),
-        }))
+        self.slot_number(word, isa).map_err(|fault| fault.breaking(Flaw::UnknownSlot))
     }
 }

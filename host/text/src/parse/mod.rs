@@ -12,7 +12,7 @@ mod words;
 use jirvuntsag_packing::ModelSpec;
 
 use crate::error::TextError;
-use crate::limits::BUFFERS;
+use crate::flaw::Flaw;
 use crate::names::Names;
 use draft::Draft;
 use symbols::Symbols;
@@ -134,8 +134,7 @@ impl<'t> Parser<'t> {
         let ended = self.end_rule();
         self.note(ended);
         if self.spec.opening.is_empty() && self.faults.is_empty() {
-            let message = format!("no buffer is declared: a model has 1 to {BUFFERS} buffers");
-            self.faults.push(TextError::whole(message));
+            self.faults.push(TextError::whole("no buffer is declared").breaking(Flaw::BufferCount));
         }
         let lone = self.symbols.lone();
         self.names.symbols = self.symbols.into_names();

@@ -6,6 +6,7 @@ use super::draft::{buffer_of, Draft};
 use super::words::{name, utility, Line, Word};
 use super::Parser;
 use crate::error::TextError;
+use crate::flaw::Flaw;
 use crate::limits::RULES;
 use crate::names::RuleNames;
 use crate::naming::ISA;
@@ -25,7 +26,7 @@ impl<'t> Parser<'t> {
     /// The words of a rule's first line.
     fn head(&mut self, draft: &mut Draft<'t>, first: Word<'t>, mut line: Line<'t>) -> Result<(), TextError> {
         if self.spec.rules.len() == RULES {
-            return Err(first.error(format!("more than {RULES} rules")));
+            return Err(first.breaks(Flaw::RuleCount, format!("more than {RULES} rules")));
         }
         let head = line.take("the rule's name")?;
         draft.head = head;
@@ -81,12 +82,9 @@ impl<'t> Parser<'t> {
             if draft.faulty {
                 return Ok(());
             }
-            let message = format!(
-                "rule '{}' does not test buffer '{}', so it cannot modify it",
-                Shown(draft.name),
-                Shown(buffer_of(first))
-            );
-            return Err(first.error(message));
+            let (rule, buffer) = (Shown(draft.name), Shown(buffer_of(first)));
+            let message = format!("rule '{rule}' modifies buffer '{buffer}' and does not test it");
+            return Err(first.breaks(Flaw::UntestedBuffer, message));
         };
         if let Some(word) = line.peek().filter(|word| word.text == ISA) {
             return Err(word.error("a modified buffer keeps its type: 'isa' stands in tests and requests"));
@@ -112,7 +110,7 @@ impl<'t> Parser<'t> {
     fn pattern(&mut self, draft: &mut Draft<'t>, isa: u8, mut line: Line<'t>) -> Result<PatternSpec, TextError> {
         let mut named: Vec<(usize, Term)> = Vec::new();
         while let Some(word) = line.next() {
-            let slot = self.slot_number(word, isa)?;
+            let slot = self.masked_slot(word, isa)?;
             if named.iter().any(|(other, _)| *other == slot) {
                 return Err(word.error(format!("slot '{word}' is named twice")));
             }

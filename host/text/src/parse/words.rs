@@ -3,6 +3,7 @@
 use std::fmt;
 
 use crate::error::TextError;
+use crate::flaw::Flaw;
 use crate::naming::name_fault;
 use crate::shown::Shown;
 
@@ -24,7 +25,12 @@ impl fmt::Display for Word<'_> {
 impl Word<'_> {
     /// A fault at this word.
     pub fn error(&self, message: impl Into<String>) -> TextError {
-        TextError { line: self.line, column: self.column, message: message.into() }
+        TextError::at(self.line, self.column, message)
+    }
+
+    /// A fault at this word that breaks a rule of images.
+    pub fn breaks(&self, flaw: Flaw, message: impl Into<String>) -> TextError {
+        self.error(message).breaking(flaw)
     }
 }
 
@@ -96,7 +102,7 @@ impl<'t> Line<'t> {
 
     /// A fault after the last word.
     pub fn error_at_end(&self, message: impl Into<String>) -> TextError {
-        TextError { line: self.number, column: self.end, message: message.into() }
+        TextError::at(self.number, self.end, message)
     }
 }
 

@@ -1,6 +1,6 @@
 //! The proved library, by either of its engines.
 
-use jirvuntsag_proved::{calls, End, Event, Number};
+use jirvuntsag_proved::{calls, Event, Number, Refusal};
 pub use jirvuntsag_proved::{Buffer, State, Step};
 use jirvuntsag_text::Model;
 
@@ -36,6 +36,7 @@ impl Engine {
 pub struct Run {
     image: Vec<u8>,
     buffers: usize,
+    rules: usize,
     /// The kept table, if the engine keeps one.
     table: Option<Vec<u16>>,
     /// The state after the steps made.
@@ -45,15 +46,14 @@ pub struct Run {
 impl Run {
     /// Opens a model for an engine.
     pub fn open(model: &Model, engine: Engine) -> Result<Run, Failure> {
-        let (image, buffers) = (model.image(), model.spec().opening.len());
-        let mut table = vec![0; calls::table_length(&image)];
-        match calls::open(&image, &mut table) {
-            (Number::Ended(End::Done), state) => {
-                let table = matches!(engine, Engine::Kept).then_some(table);
-                Ok(Run { image, buffers, table, state })
-            }
-            (number, _) => Err(Failure::refused(format!("the library refuses the image: {number}"))),
-        }
+        let (image, buffers, rules) = (model.image(), model.spec().opening.len(), model.spec().rules.len());
+        // it is a model, so its image is one that opens
+        let refused = |refusal: Refusal| Failure::refused(format!("the library refuses the image: {refusal}"));
+        let mut table = vec![0; calls::table_length(&image).map_err(refused)?];
+        let (number, state) = calls::open(&image, &mut table);
+        number.ended().map_err(refused)?;
+        let table = matches!(engine, Engine::Kept).then_some(table);
+        Ok(Run { image, buffers, rules, table, state })
     }
 
     /// Makes a step and says what it was, or gives the number with which none is made.
@@ -70,7 +70,7 @@ impl Run {
 
     /// The fresh table of the state: every rule tests a buffer, and all are marked.
     fn fresh_table(&self) -> Vec<u16> {
-        let mut table = vec![0; calls::table_length(&self.image)];
+        let mut table = vec![0; ENTRY * self.rules];
         calls::refresh(&self.image, &self.state, (1 << self.buffers) - 1, &mut table);
         table
     }
