@@ -30,8 +30,9 @@ state and matches every rule afresh at each step. Nobody can tell them apart by 
 >>> model.open(fresh=True).run() == model.open().run()
 True
 
-What is refused is raised as `Refused`, with its number and what that means; what Python can tell by itself as ValueError or
-TypeError. Nothing is altered by a call that raises, but for the steps that a run has made before it is refused.
+What is refused is raised as `Refused`, with its number, what that means and, where a field of the image is at fault, the bit
+where that begins; what Python can tell by itself as ValueError or TypeError. Nothing is altered by a call that raises, but for
+the steps that a run has made before it is refused.
 """
 from .drawing.timeline import timeline
 from .equations import base_level, failure_latency, latency, latency_factor, level, spread, strength

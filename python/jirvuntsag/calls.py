@@ -4,15 +4,21 @@ What is handed in is checked and copied, and what is given back is new: no call 
 sees memory that Python could change or free meanwhile. An image is bytes, a state 81 words of 32 bits, a table nine words of
 16 bits for each rule. See include/jirvuntsag.h for what the words are.
 
+Every answer has a number and a `position`: for a number that is about a field of the image (2, 3, 11, 12, 13) the first bit of
+that field, counted from 0, the most significant bit of byte 0; for every other number 0.
+
 >>> import pathlib
 >>> image = pathlib.Path("examples/counting.image").read_bytes()
->>> opened = open_image(image, [0] * table_length(image))
+>>> opened = open_image(image, [0] * table_length(image).words)
 >>> opened.number, list(opened.table[:3])
 (0, [1, 1, 0])
 >>> run_steps(image, opened.state, opened.table, 100)[:2]
 (9, 7)
 >>> run_fresh(image, opened.state, 100)[:2]
 (9, 7)
+>>> refused = run_fresh(image[:1] + bytes([0x90]) + image[2:], opened.state, 100)  # nine buffers
+>>> refused.number, refused.position
+(3, 8)
 """
 import ctypes
 import functools
@@ -20,7 +26,9 @@ import operator
 from array import array
 from typing import NamedTuple
 
-from .libraries import load_library
+from .libraries import NoLibrary, load_library
+from .version import VERSION as MODULE_VERSION
+from .wording import shown
 
 STATE_WORDS = 81
 EVENT_WORDS = 3
@@ -34,7 +42,7 @@ _STATE = [ctypes.POINTER(ctypes.c_uint32)]
 _TABLE = [ctypes.POINTER(ctypes.c_uint16), ctypes.c_size_t]
 _EVENTS = [ctypes.POINTER(ctypes.c_uint32), ctypes.c_size_t]
 
-# the arguments of each function of include/jirvuntsag.h; all of them answer 32 bits
+# the arguments of each call of include/jirvuntsag.h; all of them answer 64 bits
 _ARGUMENTS = {
     "jirvuntsag_table_len": _IMAGE,
     "jirvuntsag_open": _IMAGE + _TABLE + _STATE,
@@ -46,12 +54,21 @@ _ARGUMENTS = {
 }
 
 
+class Measured(NamedTuple):
+    """What `table_length` gives back; `words` is 0 for an image that is refused, and for one without rules."""
+
+    number: int
+    words: int
+    position: int
+
+
 class Opened(NamedTuple):
     """What `open_image` gives back."""
 
     number: int
     state: array
     table: array
+    position: int
 
 
 class Ran(NamedTuple):
@@ -61,6 +78,7 @@ class Ran(NamedTuple):
     made: int
     state: array
     table: array
+    position: int
 
 
 class Traced(NamedTuple):
@@ -71,6 +89,7 @@ class Traced(NamedTuple):
     state: array
     table: array
     events: array
+    position: int
 
 
 class RanFresh(NamedTuple):
@@ -79,6 +98,7 @@ class RanFresh(NamedTuple):
     number: int
     made: int
     state: array
+    position: int
 
 
 class TracedFresh(NamedTuple):
@@ -88,6 +108,7 @@ class TracedFresh(NamedTuple):
     made: int
     state: array
     events: array
+    position: int
 
 
 class Refreshed(NamedTuple):
@@ -96,13 +117,21 @@ class Refreshed(NamedTuple):
     number: int
     count: int
     table: array
+    position: int
 
 
 @functools.lru_cache(maxsize=1)
 def _library():
     """The library, loaded once and with its functions declared."""
-    functions = {name: (arguments, ctypes.c_uint32) for name, arguments in _ARGUMENTS.items()}
-    return load_library("libjirvuntsag.so", VARIABLE, "make lib", functions)
+    functions = {name: (arguments, ctypes.c_uint64) for name, arguments in _ARGUMENTS.items()}
+    functions["jirvuntsag_version"] = [], ctypes.c_char_p
+    library = load_library("libjirvuntsag.so", VARIABLE, "make lib", functions)
+    # another version may lay out its answers otherwise, and nothing in an answer would tell
+    version = library.jirvuntsag_version().decode("ascii", "replace")
+    if version != MODULE_VERSION:
+        told = f"the library is of version {shown(version)}, this module of {MODULE_VERSION}"
+        raise NoLibrary(f"{told}: make the wheel, or the libraries, again")
+    return library
 
 
 def _image_of(image):
@@ -147,18 +176,21 @@ def _lent(words):
     return (_C_WORD[words.typecode] * len(words)).from_buffer(words)
 
 
-def _number_and_count(answer):
-    return answer & 0xFFFF, answer >> 16
+def _taken_apart(answer):
+    """The number of an answer, its count and its position."""
+    return answer & 0xFFFF, answer >> 16 & 0xFFFF, answer >> 32
 
 
 def table_length(image):
-    """The words that the table of an image needs: nine for each rule, 0 if it is refused.
+    """The words that the table of an image needs, nine for each rule, and by which number it is refused, if it is.
 
-    >>> table_length(b"")
-    0
+    >>> table_length(bytes.fromhex("0110000000000000"))  # it has no rules
+    Measured(number=0, words=0, position=0)
+    >>> table_length(bytes.fromhex("0110000000000020"))  # its one buffer is of type 1, and it has no types
+    Measured(number=3, words=0, position=53)
     """
     image = _image_of(image)
-    return _library().jirvuntsag_table_len(image, len(image))
+    return Measured(*_taken_apart(_library().jirvuntsag_table_len(image, len(image))))
 
 
 def open_image(image, table):
@@ -169,8 +201,9 @@ def open_image(image, table):
     """
     image, table = _image_of(image), _copy_of("H", table, "table")
     state = array("I", bytes(4 * STATE_WORDS))
-    number, _ = _number_and_count(_library().jirvuntsag_open(image, len(image), _lent(table), len(table), _lent(state)))
-    return Opened(number, state, table)
+    answer = _library().jirvuntsag_open(image, len(image), _lent(table), len(table), _lent(state))
+    number, _, position = _taken_apart(answer)
+    return Opened(number, state, table, position)
 
 
 def run_steps(image, state, table, steps):
@@ -178,7 +211,8 @@ def run_steps(image, state, table, steps):
     image, state, table = _image_of(image), _state_of(state), _copy_of("H", table, "table")
     steps = small_number(steps, "the steps asked")
     answer = _library().jirvuntsag_run(image, len(image), _lent(state), _lent(table), len(table), steps)
-    return Ran(*_number_and_count(answer), state, table)
+    number, made, position = _taken_apart(answer)
+    return Ran(number, made, state, table, position)
 
 
 def trace_steps(image, state, table, steps):
@@ -189,8 +223,8 @@ def trace_steps(image, state, table, steps):
     answer = _library().jirvuntsag_trace(
         image, len(image), _lent(state), _lent(table), len(table), steps, _lent(events), len(events)
     )
-    number, made = _number_and_count(answer)
-    return Traced(number, made, state, table, events[: EVENT_WORDS * made])
+    number, made, position = _taken_apart(answer)
+    return Traced(number, made, state, table, events[: EVENT_WORDS * made], position)
 
 
 def refresh_table(image, state, mark, table):
@@ -198,7 +232,8 @@ def refresh_table(image, state, mark, table):
     image, state, table = _image_of(image), _state_of(state), _copy_of("H", table, "table")
     mark = small_number(mark, "a mark")
     answer = _library().jirvuntsag_refresh(image, len(image), _lent(state), mark, _lent(table), len(table))
-    return Refreshed(*_number_and_count(answer), table)
+    number, count, position = _taken_apart(answer)
+    return Refreshed(number, count, table, position)
 
 
 def run_fresh(image, state, steps):
@@ -211,7 +246,8 @@ def run_fresh(image, state, steps):
     """
     image, state, steps = _image_of(image), _state_of(state), small_number(steps, "the steps asked")
     answer = _library().jirvuntsag_run_fresh(image, len(image), _lent(state), steps)
-    return RanFresh(*_number_and_count(answer), state)
+    number, made, position = _taken_apart(answer)
+    return RanFresh(number, made, state, position)
 
 
 def trace_fresh(image, state, steps):
@@ -219,5 +255,5 @@ def trace_fresh(image, state, steps):
     image, state, steps = _image_of(image), _state_of(state), small_number(steps, "the steps asked")
     events = array("I", bytes(4 * EVENT_WORDS * steps))
     answer = _library().jirvuntsag_trace_fresh(image, len(image), _lent(state), steps, _lent(events), len(events))
-    number, made = _number_and_count(answer)
-    return TracedFresh(number, made, state, events[: EVENT_WORDS * made])
+    number, made, position = _taken_apart(answer)
+    return TracedFresh(number, made, state, events[: EVENT_WORDS * made], position)

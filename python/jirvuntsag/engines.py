@@ -1,12 +1,13 @@
 """The two engines that move a run on: one keeps a table of the matches of all rules, the other keeps nothing but the state.
 
 They answer alike, word for word, which is proved, so that nobody can tell them apart: the first is quicker, and with the second
-no match can outlive its chunk. What goes from step to step is a tuple, a state with its table or a state alone.
+no match can outlive its chunk. What goes from step to step is a tuple, a state with its table or a state alone. The image is
+one that was accepted, so that no number has a position.
 """
 from array import array
 
 from . import calls
-from .refusals import Refused
+from .refusals import accepted
 from .states import place
 
 ENTRY_WORDS = 9
@@ -18,14 +19,14 @@ class Keeping:
     @staticmethod
     def run(image, kept, steps):
         """Makes steps: the number, how many were made, and what is kept after them."""
-        number, made, *kept = calls.run_steps(image, *kept, steps)
-        return number, made, tuple(kept)
+        ran = calls.run_steps(image, *kept, steps)
+        return ran.number, ran.made, (ran.state, ran.table)
 
     @staticmethod
     def trace(image, kept, steps):
         """Makes steps as `run` does, with the words of their events."""
-        number, made, *kept, events = calls.trace_steps(image, *kept, steps)
-        return number, made, tuple(kept), events
+        traced = calls.trace_steps(image, *kept, steps)
+        return traced.number, traced.made, (traced.state, traced.table), traced.events
 
     @staticmethod
     def at(model, words):
@@ -52,23 +53,20 @@ class Fresh:
     @staticmethod
     def run(image, kept, steps):
         """Makes steps: the number, how many were made, and what is kept after them."""
-        number, made, state = calls.run_fresh(image, *kept, steps)
-        return number, made, (state,)
+        ran = calls.run_fresh(image, *kept, steps)
+        return ran.number, ran.made, (ran.state,)
 
     @staticmethod
     def trace(image, kept, steps):
         """Makes steps as `run` does, with the words of their events."""
-        number, made, state, events = calls.trace_fresh(image, *kept, steps)
-        return number, made, (state,), events
+        traced = calls.trace_fresh(image, *kept, steps)
+        return traced.number, traced.made, (traced.state,), traced.events
 
     @staticmethod
     def at(model, words):
         """What is kept of a state that is given. A state that is not well formed is refused."""
         # a run of no steps does nothing but check what it is handed
-        number, _, state = calls.run_fresh(model.image, words, 0)
-        if number:
-            raise Refused(number)
-        return (state,)
+        return (accepted(calls.run_fresh(model.image, words, 0)).state,)
 
     @staticmethod
     def moved(model, _kept, words):
@@ -89,7 +87,4 @@ def fresh_table(model, words):
 
 
 def _refreshed(model, words, mark, table):
-    refreshed = calls.refresh_table(model.image, words, mark, table)
-    if refreshed.number:
-        raise Refused(refreshed.number)
-    return refreshed.table
+    return accepted(calls.refresh_table(model.image, words, mark, table)).table

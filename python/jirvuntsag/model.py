@@ -7,8 +7,8 @@ from .engines import Fresh, Keeping
 from .libraries import NoLibrary
 from .making import built, replaced
 from .names import Names
-from .packer import LARGEST_TEXT, NotPacked, pack_fields, pack_text
-from .refusals import Refused
+from .packer import LARGEST_TEXT, NotPacked, pack_fields, pack_text, words_of_refusal
+from .refusals import TOO_LONG, Refused, accepted
 from .rules import fact_from, rule_from
 from .run import Run
 from .shape import fields_of, shape_of
@@ -23,9 +23,9 @@ class Model:
     >>> model = Model.load("examples/counting.image")
     >>> model
     <Model of 71 bytes: 2 buffers, 2 types besides chunk, 2 facts, 3 rules>
-    >>> Model(b"")
+    >>> Model(bytes([2]))
     Traceback (most recent call last):
-    jirvuntsag.refusals.Refused: refused by 2: a field of the image is not wholly there
+    jirvuntsag.refusals.Refused: refused by 3 at bit 0 (byte 0, bit 0 of it): the version is 2 [the version must be 1]
     """
 
     def __init__(self, image, names=None):
@@ -126,7 +126,7 @@ class Model:
         >>> model.open(fresh=True).run() == run.run()
         True
         """
-        return Run(self, self._opened.state) if fresh else Run(self, *self._opened[1:])
+        return Run(self, self._opened.state) if fresh else Run(self, self._opened.state, self._opened.table)
 
     def at(self, state, *, fresh=False):
         """A run from any well-formed state: plain data as `Run.state` gives it, or 81 words as `Run.words` does.
@@ -211,10 +211,22 @@ def _in_file(path, told):
 
 def _opened(image):
     """The opening state and table of an image."""
-    opened = calls.open_image(image, [0] * calls.table_length(image))
-    if opened.number:
-        raise Refused(opened.number)
-    return opened
+    measured = calls.table_length(image)
+    if measured.number:
+        raise _refusal(bytes(image), measured)
+    return accepted(calls.open_image(image, [0] * measured.words))
+
+
+def _refusal(image, answer):
+    """The refusal of an image, in the packer's words where that is at hand: they name the field, its value and its rule."""
+    refused = Refused(answer.number, position=answer.position)
+    if refused.number == TOO_LONG:
+        return refused
+    try:
+        words = words_of_refusal(image, refused.head)
+    except NoLibrary:
+        return refused
+    return Refused(refused.number, position=refused.position, words=words)
 
 
 def _counted(count, what, more):

@@ -130,3 +130,21 @@ def run_all(runs, stop=None):
     stopped = None if stop is None else ctypes.pointer(stop)
     batch = _Batch(images, len(images), *pairs, runs.keep, len(runs.keep), runs.steps, stopped)
     return [array("I", part) for part in _parts(_packer().jirvuntsag_packer_runs(ctypes.byref(batch)), 2)]
+
+
+def words_of_refusal(image, head):
+    """What is told of an image that is refused: its field, the value in it and the rule that it breaks.
+
+    `head` is what goes before: the number and the place. None if the packer tells others, or takes the image.
+
+    >>> words_of_refusal(bytes([2]), "refused by 3 at bit 0 (byte 0, bit 0 of it)")
+    'the version is 2 [the version must be 1]'
+    """
+    none = array("I")
+    try:
+        # of an image without runs all that is done is that it is opened
+        run_all(Runs([image], none, none, b"", 0))
+    except NotPacked as refused:
+        told, start = str(refused), f"image 0: {head}: "
+        return told[len(start) :] if told.startswith(start) else None
+    return None

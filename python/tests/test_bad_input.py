@@ -3,7 +3,7 @@ import json
 import random
 import unittest
 
-from jirvuntsag import Model, Names, Refused, calls
+from jirvuntsag import MEANINGS, Model, Names, Refused, calls
 
 from . import COUNTING, COUNTING_NAMES
 
@@ -21,8 +21,8 @@ class BadImages(unittest.TestCase):
         for number, image in cases.items():
             with self.subTest(number=number), self.assertRaises(Refused) as caught:
                 Model(image)
-            self.assertEqual(caught.exception.number, number)
-            self.assertTrue(str(caught.exception).startswith(f"refused by {number}: "))
+            self.assertEqual((caught.exception.number, caught.exception.meaning), (number, MEANINGS[number]))
+            self.assertRegex(str(caught.exception), f"^refused by {number}( at bit [0-9]+ .*)?: ")
 
     def test_what_is_no_image(self):
         for image in "0110", None, 8, [1, 16]:

@@ -138,17 +138,17 @@ class KeptTables(unittest.TestCase):
 
     def test_it_is_refused_by_7_when_it_is_chosen(self):
         self.assertEqual(calls.run_steps(TWO_VARIABLES, self.STATE, self.STALE, 0)[:2], (0, 0))
-        number, made, state, table = calls.run_steps(TWO_VARIABLES, self.STATE, self.STALE, 3)
+        number, made, state, table, _ = calls.run_steps(TWO_VARIABLES, self.STATE, self.STALE, 3)
         self.assertEqual((number, made, list(state), list(table)), (7, 0, self.STATE, self.STALE))
 
     def test_one_that_is_not_chosen_is_not_noticed(self):
         better = Rule([(0, 1, {0: "v0"})], [(0, "modify", {0: 7})], 1)
         image = pack([2], [(1, 5, 6)], rules=[Rule([(0, 1, {0: "v0", 1: "v1"})], []), better])
-        number, made, _, table = calls.run_steps(image, self.STATE, [*self.STALE, 1, 5, *[0] * 7], 1)
+        number, made, _, table, _ = calls.run_steps(image, self.STATE, [*self.STALE, 1, 5, *[0] * 7], 1)
         self.assertEqual((number, made, list(table)), (0, 1, [*[0] * 9, 1, 7, *[0] * 7]))
 
     def test_a_refresh_makes_it_fresh(self):
-        number, count, table = calls.refresh_table(TWO_VARIABLES, self.STATE, 1, self.STALE)
+        number, count, table, _ = calls.refresh_table(TWO_VARIABLES, self.STATE, 1, self.STALE)
         self.assertEqual((number, count, list(table)), (0, 1, [0] * 9))
         self.assertEqual(calls.run_steps(TWO_VARIABLES, self.STATE, table, 1)[:2], (9, 0))
 

@@ -112,6 +112,15 @@ class Fields(unittest.TestCase):
             with self.subTest(fields=fields[:12]), self.assertRaisesRegex(NotPacked, words):
                 packer.pack_fields(fields)
 
+    def test_fields_are_held_to_the_rules_of_images(self):
+        good = fields_of(shape_of(COUNTING.read_bytes()))
+        # of rule 0: its variables, the mask and the term of its first test, the buffer of its second, its action's mask
+        cases = [(25, 2, 12, 296), (28, 0b00100000, 11, 258), (29, 4_097, 12, 266), (30, 0, 13, 279), (36, 0b00000001, 11, 307)]
+        for at, value, number, position in cases:
+            with self.subTest(at=at, value=value), self.assertRaises(NotPacked) as caught:
+                packer.pack_fields([*good[:at], value, *good[at + 1 :]])
+            self.assertTrue(str(caught.exception).startswith(f"{Refused(number, position=position).head}: "))
+
     def test_any_fields(self):
         chooser, packed = random.Random(6), 0
         good = fields_of(shape_of(COUNTING.read_bytes()))

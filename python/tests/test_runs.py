@@ -160,7 +160,7 @@ class Runs(unittest.TestCase):
     def test_a_run_in_pieces_is_the_run(self):
         for steps in 0, 1, 63, 64, 65, 319, 320, 321, 10_000, 65_535:
             run = self.opened(Model(FOREVER))
-            number, made, *kept, events = getattr(calls, self.TRACE)(FOREVER, *run._kept, steps)
+            number, made, *kept, events, _ = getattr(calls, self.TRACE)(FOREVER, *run._kept, steps)
             ended = run.run(steps)
             self.assertEqual((ended.number, ended.made, *run._kept), (number, made, *kept))
             self.assertEqual((number, made), (0, steps))

@@ -202,7 +202,7 @@ class Command(unittest.TestCase):
         out.write_text("as it was", encoding="ascii")
         bad = self.folder / "bad.image"
         bad.write_bytes(COUNTING.read_bytes()[:-1])
-        self.refused("bad.image: refused by 2: a field of the image is not wholly there", bad, "-o", out)
+        self.refused("bad.image: refused by 2 at bit 558 (byte 69, bit 6 of it): ", bad, "-o", out)
         self.refused("No such file", self.folder / "no.image", "-o", out)
         self.refused("Is a directory", self.folder, "-o", out)
         self.refused("bad.image: ", COUNTING, "--names", bad, "-o", out)

@@ -1,4 +1,4 @@
-"""Every case of vectors/02.txt, through Python."""
+"""Every case of vectors/03.txt, through Python."""
 import collections
 import unittest
 
@@ -7,11 +7,13 @@ from jirvuntsag import Model, Refused, calls
 from . import ROOT
 
 CASES = 360
+# the numbers by which an image is refused, whatever else is handed in
+OF_IMAGES = (1, 2, 3, 4, 11, 12, 13)
 
 
 def cases():
     """All cases: the line of the call, and that of its answer."""
-    lines = (ROOT / "vectors" / "02.txt").read_text(encoding="ascii").splitlines()
+    lines = (ROOT / "vectors" / "03.txt").read_text(encoding="ascii").splitlines()
     return list(zip(lines[::2], lines[1::2]))
 
 
@@ -41,32 +43,43 @@ def show_state(words):
     return "/".join([str(words[0]), *buffers])
 
 
+def show_head(answer):
+    """The number of an answer and its position, with which every answer but a printed one begins."""
+    return f"{answer.number} {answer.position}"
+
+
 def answer_open(image, table):
     """The answer to `open`."""
-    number, state, table = calls.open_image(read_bytes(image), read_words(table))
-    return f"{number} {show_state(state)} {show_words(table)}"
+    opened = calls.open_image(read_bytes(image), read_words(table))
+    return f"{show_head(opened)} {show_state(opened.state)} {show_words(opened.table)}"
+
+
+def same_run(ran, traced):
+    """A run gives back the same with events and without, and there is one for each step made."""
+    *others, events, position = traced
+    return (*others, position) == ran and len(events) == calls.EVENT_WORDS * ran.made
 
 
 def answer_run(image, state, table, steps):
     """The answer to `run`, which is the same with events and without."""
     arguments = read_bytes(image), read_state(state), read_words(table), int(steps)
-    ran, traced = calls.run_steps(*arguments), calls.trace_steps(*arguments)
-    assert traced[:4] == ran and len(traced.events) == calls.EVENT_WORDS * ran.made
-    return f"{ran.number} {show_state(ran.state)} {show_words(ran.table)} {ran.made}"
+    ran = calls.run_steps(*arguments)
+    assert same_run(ran, calls.trace_steps(*arguments))
+    return f"{show_head(ran)} {show_state(ran.state)} {show_words(ran.table)} {ran.made}"
 
 
 def answer_fresh(image, state, steps):
     """The answer to `fresh`, the run without a table, which is the same with events and without."""
     arguments = read_bytes(image), read_state(state), int(steps)
-    ran, traced = calls.run_fresh(*arguments), calls.trace_fresh(*arguments)
-    assert traced[:3] == ran and len(traced.events) == calls.EVENT_WORDS * ran.made
-    return f"{ran.number} {show_state(ran.state)} {ran.made}"
+    ran = calls.run_fresh(*arguments)
+    assert same_run(ran, calls.trace_fresh(*arguments))
+    return f"{show_head(ran)} {show_state(ran.state)} {ran.made}"
 
 
 def answer_refresh(image, state, mark, table):
     """The answer to `refresh`."""
-    number, count, table = calls.refresh_table(read_bytes(image), read_state(state), int(mark), read_words(table))
-    return f"{number} {count} {show_words(table)}"
+    refreshed = calls.refresh_table(read_bytes(image), read_state(state), int(mark), read_words(table))
+    return f"{show_head(refreshed)} {refreshed.count} {show_words(refreshed.table)}"
 
 
 def answer_print(image):
@@ -113,3 +126,23 @@ class Vectors(unittest.TestCase):
 
     def test_print(self):
         self.hold("print")
+
+    def test_table_length(self):
+        """It has no cases of its own: an image is refused by it as by all calls, and is measured by the table that fits it."""
+        seen = set()
+        for call, answer in cases():
+            kind, image, *_ = call.split(" ")
+            if kind == "print":
+                continue
+            parts = answer.split(" ")
+            number, position = map(int, parts[:2])
+            measured = calls.table_length(read_bytes(image))
+            with self.subTest(call=call):
+                if number in OF_IMAGES:
+                    self.assertEqual(measured, (number, 0, position))
+                elif number == 5 or kind == "fresh":
+                    self.assertEqual((measured.number, measured.position), (0, 0))
+                else:
+                    self.assertEqual(measured, (0, len(read_words(parts[3])), 0))
+            seen.add(measured.number)
+        self.assertEqual(seen, {0, 2, 3, 4, 11, 12, 13})

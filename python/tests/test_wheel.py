@@ -21,6 +21,10 @@ print(jv.__version__)
 model = jv.Model.load("counting.model")
 print(*model.open().run().events, sep="; ")
 print(len(jv.sweep([model.replace(failure=ms) for ms in range(50)])))
+try:
+    jv.Model(model.image[:33])
+except jv.Refused as refused:
+    print(refused)
 """
 
 
@@ -76,6 +80,7 @@ class Wheel(unittest.TestCase):
         self.assertEqual(lines[0], VERSION)
         self.assertEqual(lines[1].split("; ")[-1], "550 wait 150")
         self.assertEqual(lines[2], "50")
+        self.assertIn("refused by 2 at bit 258 (byte 32, bit 2 of it): the mask of test 0 of rule 0", lines[3])
         self.run_(python, "-m", "jirvuntsag", "timeline", "counting.model", "-o", "run.svg", cwd=place)
         self.assertIn("go-on", (place / "run.svg").read_text(encoding="utf-8"))
 
