@@ -67,7 +67,8 @@ own-tests c = testsIn (tests-words c) 0 (headed (counted c) .head .result .tests
 
 read-tests : (c : tie.After-known-told3)
     → let d = counted (tested c) in let a = start (headed d) .args in let h = headed d .head .result in
-    Got (own-tests (tested c)) (c .before .after-tests .given .0 .0) ≡ tests finer (sizes (a .buffers) (a .types .now)) (h .variables) (h .tests) (a .image .now) (d .before .before .after-head .given .0 .0)
+    Got (own-tests (tested c)) (c .before .after-tests .given .0 .0)
+    ≡ tests finer (sizes (a .buffers) (a .types .now)) (h .variables) (h .tests) (a .image .now) (d .before .before .after-head .given .0 .0)
 read-tests c = sym (answer-next _ (own-tests (tested c)) _ (c .before .after-tests .given .1)) ∙ tested c .tests .ensures .0
 
 -- ---- what is asked

@@ -116,7 +116,8 @@ returns c =
     let l = at-loop .loop in
     let rules = rulesIn (l .words) (drop (a .rows) (l .words)) (l .k) in
     let bad = sym (answer-bad _ (ruleBy (r .rule .result .words) (own r)) _ _ (c .before .walk2 .given .1)) ∙ r .rule .ensures .reads in
-    (along-bad (rule finer (sizes (a .buffers) (a .types .now))) (a .image .now) (a .n) rules (l .k) (l .at) (turn r .loop-test .taken) _ _ bad ∙ l .inv .4, (bad-within _ _ _ _ refl, bad-never _ _ _ refl))
+    let one = rule finer (sizes (a .buffers) (a .types .now)) in
+    (along-bad one (a .image .now) (a .n) rules (l .k) (l .at) (turn r .loop-test .taken) _ _ bad ∙ l .inv .4, (bad-within _ _ _ _ refl, bad-never _ _ _ refl))
 
 mul-copy-into : tie.Need-mul-copy-into Inv-loop μ-loop
 mul-copy-into c = search needs
