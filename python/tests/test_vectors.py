@@ -1,4 +1,4 @@
-"""Every case of vectors/03.txt, through Python."""
+"""Every case of vectors/04.txt, through Python."""
 import collections
 import unittest
 
@@ -13,7 +13,7 @@ OF_IMAGES = (1, 2, 3, 4, 11, 12, 13)
 
 def cases():
     """All cases: the line of the call, and that of its answer."""
-    lines = (ROOT / "vectors" / "03.txt").read_text(encoding="ascii").splitlines()
+    lines = (ROOT / "vectors" / "04.txt").read_text(encoding="ascii").splitlines()
     return list(zip(lines[::2], lines[1::2]))
 
 

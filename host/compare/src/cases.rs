@@ -1,10 +1,10 @@
-//! The cases of `vectors/03.txt`, which have requests 2026-01 to 2026-03 in: a call and its answer on two lines.
+//! The cases of `vectors/04.txt`, which have requests 2026-01 to 2026-04 in: a call and its answer on two lines.
 
 use jirvuntsag_reference::{Buffer, State};
 
 use crate::{Engine, Numbered};
 
-const PATH: &str = concat!(env!("CARGO_MANIFEST_DIR"), "/../../vectors/03.txt");
+const PATH: &str = concat!(env!("CARGO_MANIFEST_DIR"), "/../../vectors/04.txt");
 
 /// A call and the answer that it must have, as they are written.
 pub struct Case {
@@ -16,7 +16,7 @@ pub struct Case {
 
 /// All cases.
 pub fn cases() -> Vec<Case> {
-    let text = std::fs::read_to_string(PATH).expect("vectors/03.txt");
+    let text = std::fs::read_to_string(PATH).expect("vectors/04.txt");
     let lines: Vec<&str> = text.lines().collect();
     assert_eq!(lines.len() % 2, 0, "a call without an answer");
     lines.chunks_exact(2).map(|pair| Case { call: pair[0].into(), answer: pair[1].into() }).collect()

@@ -12,7 +12,7 @@ fn assert_same(image: &[u8]) {
 #[test]
 fn every_case_of_the_vectors_that_prints() {
     let printing: Vec<_> = cases().into_iter().filter(|case| case.call.starts_with("print ")).collect();
-    assert_eq!(printing.len(), 20);
+    assert_eq!(printing.len(), 27);
     for case in &printing {
         assert_eq!(case.answered_by(&PROVED), case.answer, "{}", case.call);
     }
