@@ -28,6 +28,23 @@ bitOf n k = n / 2 ^ k % 2
 high-bit : (hi m k : ℕ) {lo : ℕ} → lo < 2 ^ m → bitOf (hi * 2 ^ m + lo) (m + k) ≡ bitOf hi k
 high-bit hi m k {lo} h = ap (λ (x : ℕ). x % 2) (sym (shr-shr (hi * 2 ^ m + lo) m k) ∙ ap (λ (x : ℕ). x / 2 ^ k) (high hi m h))
 
+-- a field has its bits in the image's order, the first the most significant
+pub field-bit : (image : List ℕ) (at width i : ℕ) → i < width → bitOf (fieldAt image at width) (width - suc i) ≡ bitAt image (at + i)
+unfolding fieldAt
+field-bit image at zero i h = absurd (omega arith)
+field-bit image at (suc width) i h =
+    let b : ℕ = bitAt image (at + width) in
+    let small : b < 2 ^ 1 = bitAt-lt image (at + width) in
+    by-lt i width
+    (λ l.
+    let e : suc width - suc i ≡ 1 + (width - suc i) = omega arith in
+    ap (bitOf (fieldAt image at width * 2 + b)) e ∙ high-bit (fieldAt image at width) 1 (width - suc i) small ∙ field-bit image at width i l)
+    (λ l.
+    let e : suc width - suc i ≡ 0 = omega arith in
+    let f : i ≡ width = omega arith in
+    let g : (fieldAt image at width * 2 + b) / 1 % 2 ≡ b = omega arith in
+    rw (e, f) g)
+
 low-bit-past : (hi j k : ℕ) {lo : ℕ} → lo < 2 ^ (suc j + k) → bitOf (hi * 2 ^ (suc j + k) + lo) k ≡ bitOf lo k
 low-bit-past hi j k {lo} h =
     let n : ℕ = hi * 2 ^ (suc j + k) + lo in

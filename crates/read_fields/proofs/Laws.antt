@@ -1,13 +1,53 @@
--- What the code computes from three bytes by shifts and masks is the field that the window law cuts out of them.
+-- A part of a list that is lent; and what the code computes from three bytes by shifts and masks is the field that the window law cuts out of them.
 use Prim.Native.Nat.{ℕ, _+_, _*_, _-_, _/_, _%_, _^_, _≤_, _<_}
-use mathlib.Core.Path.{_≡_, sym, _∙_}
+use mathlib.Core.Path.{_≡_, sym, ap, ap₂, _∙_}
 use mathlib.Core.List.{List}
 use native.Mathlib.Omega.{arith}
-use lib.ListN.{getD}
+use lib.ListN.{length, getD, take, drop, length-drop, List·getD-eq-default}
+use lib.Seq.{getD-take, getD-drop, length-take-le, take-all}
 use lib.Bits.{bitAnd, bitOr, or-shifted, and-mask}
 use lib.Pow.{pow-mono}
 use Rattle.meaning.specs.Bits.{fieldAt}
 use Rattle.laws.specs.BitsLaws.{window, field-in}
+
+-- ---- n elements from i on, as they are lent
+
+module _ (i n : ℕ) (s : List ℕ) where
+  abbrev pub part : List ℕ
+  part = take (i + n - i) (drop i s)
+
+  pub part-long : i + n ≤ length s → length part ≡ n
+  part-long h = length-take-le (i + n - i) (drop i s) (omega (arith, length-drop i s)) ∙ omega arith
+
+  pub part-get : (k : ℕ) → k < n → getD part k 0 ≡ getD s (i + k) 0
+  part-get k h = getD-take (i + n - i) (drop i s) k 0 (omega arith) ∙ getD-drop i s k 0
+
+-- ---- all elements from i on, as they are lent, and what is past the end
+
+module _ (i : ℕ) (s : List ℕ) where
+  abbrev pub rest : List ℕ
+  rest = take (length s - i) (drop i s)
+
+  pub rest-all : rest ≡ drop i s
+  rest-all = take-all (length s - i) (drop i s) (omega (arith, length-drop i s))
+
+  pub rest-long : length rest ≡ length s - i
+  rest-long = ap length rest-all ∙ length-drop i s
+
+  pub rest-get : (k : ℕ) → getD rest k 0 ≡ getD s (i + k) 0
+  rest-get k = ap (λ (l : List ℕ). getD l k 0) rest-all ∙ getD-drop i s k 0
+
+pub past-end : (s : List ℕ) (k : ℕ) → length s ≤ k → getD s k 0 ≡ 0
+past-end s k h = List·getD-eq-default s 0 h
+
+-- ---- three bytes, put together and cut
+
+-- the window of what is lent is that of the image from there on
+pub window-of : (i : ℕ) (s l : List ℕ) → ((k : ℕ) → k < 3 → getD l k 0 ≡ getD s (i + k) 0) → window l 0 ≡ window s i
+window-of i s l same =
+    let z : i + 0 ≡ i = omega arith in
+    let first = same 0 (omega arith) ∙ ap (λ (k : ℕ). getD s k 0) z in
+    ap₂ (λ (x y : ℕ). (x * 2 ^ 8 + y) * 2 ^ 8 + getD l 2 0) first (same 1 (omega arith)) ∙ ap (λ (x : ℕ). (getD s i 0 * 2 ^ 8 + getD s (i + 1) 0) * 2 ^ 8 + x) (same 2 (omega arith))
 
 -- the three bytes put together by shifts
 window-or : (a b c : ℕ) → a < 2 ^ 8 → b < 2 ^ 8 → c < 2 ^ 8 → bitOr (bitOr (a * 2 ^ 16 % 2 ^ 32) (b * 2 ^ 8 % 2 ^ 32)) c ≡ (a * 2 ^ 8 + b) * 2 ^ 8 + c
@@ -23,6 +63,16 @@ pub together : (s : List ℕ) (i a b c : ℕ) → (a ≡ getD s i 0) × (a < 256
 together s i a b c ha hb hc =
     let g : (a * 2 ^ 8 + b) * 2 ^ 8 + c ≡ window s i = cc in
     window-or a b c (ha .1) (hb .1) (hc .1) ∙ g
+
+-- two bytes that were read, of a list that has no third
+pub together-last : (s : List ℕ) (a b : ℕ) → length s ≤ 2 → (a ≡ getD s 0 0) × (a < 256) → (b ≡ getD s 1 0) × (b < 256)
+    → bitOr (a * 65536 % 4294967296) (b * 256 % 4294967296) ≡ window s 0
+together-last s a b h ha hb =
+    let none : getD s 2 0 ≡ 0 = past-end s 2 h in
+    let e : a * 2 ^ 16 % 2 ^ 32 ≡ a * 2 ^ 16 = omega (arith, ha .1) in
+    let f : b * 2 ^ 8 % 2 ^ 32 ≡ b * 2 ^ 8 = omega (arith, hb .1) in
+    let g : a * 2 ^ 16 + b * 2 ^ 8 ≡ window s 0 = omega (arith, ha .0, hb .0, none) in
+    rw (e, f, or-shifted a 16 (b * 2 ^ 8) (omega (arith, hb .1))) g
 
 -- what the code cuts out of them
 abbrev pub cutOf : ℕ → ℕ → ℕ → ℕ

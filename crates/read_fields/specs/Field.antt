@@ -1,7 +1,10 @@
 -- What the fetch of a field answers: document 01's number and value for each case.
+use mathlib.Core.Path.{_≡_}
+use mathlib.Core.List.{List}
 use Prim.Native.Nat.{ℕ, _+_}
 use Rattle.meaning.specs.Numbers.{not-there}
-use Rattle.meaning.specs.Read.{Read, Refused, Got}
+use Rattle.meaning.specs.Read.{Read, Refused, Got, field}
+use Rattle.meaning.specs.Image.{anything}
 use Rattle.read_fields.specs.declared.Field.{Field}
 use Rattle.read_fields.specs.declared.Field.the-variants.{Value, Short}
 
@@ -9,3 +12,7 @@ use Rattle.read_fields.specs.declared.Field.the-variants.{Value, Short}
 abbrev pub fetched : Field → ℕ → ℕ → Read ℕ
 fetched (Value v) at width = Got v (at + width)
 fetched Short at width = Refused not-there at
+
+-- what a fetch must answer: what the definition reads there, whatever the value
+abbrev pub FetchMet : Field → List ℕ → ℕ → ℕ → Type 0
+FetchMet r image at width = fetched r at width ≡ field width anything image at

@@ -16,7 +16,7 @@ returns : tie.Need-returns
 returns c = (refl, omega (arith, c .shared-slice-known .given (c .before .before .args .i)))
 
 returns-2 : tie.Need-returns-2
-returns-2 c = (sym (List·getD-eq-default (c .before .args .image .now) 0 (c .if1 .left)), omega arith)
+returns-2 c = (sym (List·getD-eq-default (c .before .args .bytes .now) 0 (c .if1 .left)), omega arith)
 
 pub byte-or-zero-spec : {M : Type 1} → statement M
 byte-or-zero-spec = tie.close (tie.spec shared-slice-read-result cast-result returns returns-2)
