@@ -4,7 +4,7 @@ use mathlib.Core.Path.{_≡_, ap}
 use mathlib.Core.List.{List}
 use native.Mathlib.Omega.{arith}
 use lib.ListN.{length, take, drop, length-drop}
-use lib.Seq.{take-all}
+use Rattle.read_fields.proofs.Laws.{rest-all}
 use Rattle.layout.specs.declared.Plan.{Plan}
 use Rattle.layout.specs.Plans.{Planned}
 
@@ -35,4 +35,4 @@ sections {p} {tape} planned =
 
 -- a part that goes to the tape's end, as a section is handed on, is what the section's start leaves
 pub to-end : (at : ℕ) (tape : List ℕ) → take (length tape - at) (drop at tape) ≡ drop at tape
-to-end at tape = take-all (length tape - at) (drop at tape) (omega (arith, length-drop at tape))
+to-end at tape = rest-all at tape

@@ -10,7 +10,7 @@ use Rattle.meaning.specs.Base.{keep, admit, upFrom}
 use Rattle.meaning.specs.Model.{Named, Test, Deed, Action, Fact, Chunk, Rule}
 use Rattle.meaning.specs.Image.{names, slotsIn}
 use Rattle.layout.specs.Rows.{rowsIn, wordTerm, namedAt, namedBy, namedIn, maskedIn, factIn, testIn, deedOf, actionIn, testsIn, actionsIn, ruleIn, rulesIn}
-use Rattle.layout.proofs.WordLaws.{sets-below, sets-at}
+use Rattle.layout.proofs.WordLaws.{sets-at, sets-take, below-get}
 
 -- ---- rows of any kind
 
@@ -121,12 +121,18 @@ module _ {A : Type 0} (thing : List ℕ → ℕ → A) (like : (w w′ : List �
       rows-same (λ k. thing (drop o w) (q + 11 * k)) (λ k. thing w (r + 11 * k)) 0 n
       (λ k a b. like (drop o w) w (q + 11 * k) (r + 11 * k) (λ j l. let s : o + (q + 11 * k + j) ≡ r + 11 * k + j = omega arith in rw (getD-drop, s)))
 
+  -- one row more stands after i rows that stayed
+  pub in-next : (w w′ : List ℕ) (o i : ℕ) → take (o + 11 * i) w′ ≡ take (o + 11 * i) w
+      → rowsIn (λ k. thing w′ (o + 11 * k)) 0 (i + 1) ≡ rowsIn (λ k. thing w (o + 11 * k)) 0 i ++ (thing w′ (o + 11 * i) ∷ [])
+  in-next w w′ o i e =
+      let z : 0 + i ≡ i = omega arith in
+      rows-more (λ k. thing w′ (o + 11 * k)) 0 i
+      ∙ ap₂ (λ (l : List A) (x : A). l ++ (x ∷ [])) (in-same w′ w o i (below-get (o + 11 * i) w w′ e)) (ap (λ (k : ℕ). thing w′ (o + 11 * k)) z)
+
   -- one row more is written after i rows
   pub in-more : (w : List ℕ) (o i : ℕ) (ws : List ℕ) → length ws ≡ 11 → o + 11 * i + 11 ≤ length w
       → let w′ = sets w (o + 11 * i) ws in rowsIn (λ k. thing w′ (o + 11 * k)) 0 (i + 1) ≡ rowsIn (λ k. thing w (o + 11 * k)) 0 i ++ (thing ws 0 ∷ [])
   in-more w o i ws e h =
       let q : ℕ = o + 11 * i in
-      let z : 0 + i ≡ i = omega arith in
-      rows-more (λ k. thing (sets w q ws) (o + 11 * k)) 0 i
-      ∙ ap₂ (λ (l : List A) (x : A). l ++ (x ∷ [])) (in-same (sets w q ws) w o i (λ j l. sets-below w q ws j l))
-      (ap (λ (k : ℕ). thing (sets w q ws) (o + 11 * k)) z ∙ like (sets w q ws) ws q 0 (written-like w q ws e h))
+      in-next w (sets w q ws) o i (sets-take q w q ws (omega arith))
+      ∙ ap (λ (x : A). rowsIn (λ k. thing w (o + 11 * k)) 0 i ++ (x ∷ [])) (like (sets w q ws) ws q 0 (written-like w q ws e h))

@@ -1,11 +1,11 @@
 -- Laws of words written one after the other.
 use Prim.Native.Nat.{ℕ, zero, suc, _+_, _-_, _≤_, _<_}
 use mathlib.Core.Path.{_≡_, refl, sym, ap, _∙_}
-use mathlib.Core.List.{List, [], _∷_, _++_, append-nil}
+use mathlib.Core.List.{List, [], _∷_, _++_, append-nil, append-assoc}
 use native.Mathlib.Omega.{arith}
 use native.Mathlib.Numerals.{add-one}
 use lib.ListN.{length, getD, set, take, drop, length-set, length-drop, drop-of-length-le}
-use lib.Seq.{sets, drop-cons, getD-set-same, getD-set-other, getD-take, take-set-le, drop-set-lt, take-at, drop-at, length-take-le}
+use lib.Seq.{sets, drop-cons, getD-set-same, getD-set-other, getD-take, take-set-le, drop-set-lt, take-at, drop-at, length-take-le, drop-drop, sets-eq}
 
 -- one word of a list more, in a loop that counts i up to its length
 pub sets-step : (w : List ℕ) (o i : ℕ) (xs : List ℕ) → i < length xs → sets (set w (o + i) (getD xs i 0)) (o + (i + 1)) (drop (i + 1) xs) ≡ sets w (o + i) (drop i xs)
@@ -58,6 +58,19 @@ module _ (o : ℕ) (w own : List ℕ) where
 
   pub part-own : o ≤ length w → drop o (take o w ++ own) ≡ own
   part-own h = drop-at (take o w) own o (length-take-le o w h)
+
+-- a list of which n words from q on were lent, and came back as others: it is as if these had been written there
+pub lent-sets : (q n : ℕ) (w own : List ℕ) → q + n ≤ length w → length own ≡ n → take q w ++ (own ++ drop (q + n - q) (drop q w)) ≡ sets w q own
+lent-sets q n w own h e =
+    let z : q + (q + n - q) ≡ q + length own = omega arith in
+    ap (λ (l : List ℕ). take q w ++ (own ++ l)) (drop-drop (q + n - q) q w ∙ ap (λ (k : ℕ). drop k w) z)
+    ∙ sym (append-assoc (take q w) own (drop (q + length own) w)) ∙ sym (sets-eq own w q (omega arith))
+
+-- words copied over all words
+pub all-copied : (l m : List ℕ) → length l ≡ length m → sets l 0 m ≡ m
+all-copied l m e =
+    let none : drop (0 + length m) l ≡ [] = drop-of-length-le l {i = 0 + length m} (omega arith) in
+    sets-eq m l 0 (omega arith) ∙ ap (λ (r : List ℕ). m ++ r) none ∙ append-nil m
 
 -- two lists with the same beginning have the same words in it
 pub below-get : (o : ℕ) (w w′ : List ℕ) → take o w′ ≡ take o w → (j : ℕ) → j < o → getD w′ j 0 ≡ getD w j 0

@@ -2,8 +2,8 @@
 // The rows of facts, tests and actions have eleven words, three and eight, all alike.
 // A fact: type, activation, latency, eight slot values. A test: buffer, type, mask, eight terms at their slots.
 // An action: buffer, deed, mask, eight terms at their slots; the deed is 0 to modify, a type to request, 64 to clear.
+// What stands at a slot that the mask does not name, or after the deed of a clear, says nothing.
 ghost use mathlib.Core.Path.{_≡_};
-ghost use mathlib.Core.List.{_∷_};
 ghost use Prim.Native.Nat.{_+_, _≤_};
 ghost use lib.ListN.{length};
 ghost use lib.Seq.{sets};
@@ -25,8 +25,11 @@ pub const BUFFER_WORDS: usize = 10;
 
 pub const STATE_WORDS: usize = 80;
 
-// Two tapes: one that costs little to clear, and one with room for the most facts and rules that an image can have.
+// Three tapes: one that costs little to clear, one with room for 64 rules and 120 facts, or for 38 rules and 512 facts,
+// and one with room for the most facts and rules that an image can have.
 pub const SMALL_TAPE: usize = 3904;
+
+pub const MIDDLE_TAPE: usize = 13312;
 
 pub const LARGE_TAPE: usize = 52944;
 
@@ -86,50 +89,6 @@ pub struct PlanRead {
     pub plan: Plan,
 }
 
-// Eight words, one for each slot, or a refusal.
-pub struct Eight {
-    pub walk: Walk,
-    pub slots: [u16; 8],
-}
-
-// A row of eleven words, or a refusal.
-pub struct RowRead {
-    pub walk: Walk,
-    pub words: [u16; 11],
-}
-
-// No row: the refusal of a field.
-pub fn no_row(number: u8, at: usize) -> RowRead
-    ensures { λ r. ⌜ r .walk ≡ Walk.Bad number at ⌝ }
-{
-    RowRead {
-        walk: Walk::Bad(number, at),
-        words: [0; 11],
-    }
-}
-
-// A row of three words and eight, read so far.
-pub fn row(walk: Walk, first: u16, second: u16, third: u16, eight: [u16; 8]) -> RowRead
-    ensures { λ r. ⌜ (r .walk ≡ walk) × (r .words ≡ first ∷ second ∷ third ∷ eight) ⌝ }
-{
-    RowRead {
-        walk: walk,
-        words: [
-            first,
-            second,
-            third,
-            eight[0],
-            eight[1],
-            eight[2],
-            eight[3],
-            eight[4],
-            eight[5],
-            eight[6],
-            eight[7],
-        ],
-    }
-}
-
 // Words into words from o on.
 pub fn copy_into(words: &mut [u16], o: usize, from: &[u16])
     requires { ⌜ o + length (now from) ≤ length (now words) ⌝ }
@@ -140,13 +99,4 @@ pub fn copy_into(words: &mut [u16], o: usize, from: &[u16])
         words[o + i] = from[i];
         i += 1;
     }
-}
-
-// The eleven words of a row into words from o on.
-pub fn lay(words: &mut [u16], o: usize, row: RowRead)
-    requires { ⌜ o + 11 ≤ length (now words) ⌝ }
-    ensures { λ _. ⌜ now (words .exit) ≡ sets (now (words .entry)) o (row .words) ⌝ }
-{
-    let xs = row.words;
-    copy_into(words, o, &xs);
 }

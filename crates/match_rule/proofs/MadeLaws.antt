@@ -2,11 +2,10 @@
 use Prim.Native.Nat.{ℕ, _+_, _-_, _≤_}
 use mathlib.Core.Path.{_≡_, refl, sym, ap, _∙_}
 use mathlib.Core.Bool.{Bool, true, false}
-use mathlib.Core.List.{List, [], _∷_, _++_, append-nil}
+use mathlib.Core.List.{List, [], _∷_}
 use mathlib.Core.Logic.{⊎-elim}
 use native.Mathlib.Omega.{arith}
 use lib.ListN.{length, getD, set, drop, replicate}
-use lib.Seq.{sets, sets-eq, drop-length}
 use types.Run.{OneOf}
 use denote.Enum.Declared.{tagOf}
 use Rattle.meaning.specs.Base.{if_then_else_}
@@ -25,14 +24,6 @@ pub not-hit : (t : Tried) → OneOf (1 ∷ 2 ∷ []) (tagOf Declared.the-type t)
 not-hit Hit h = absurd (⊎-elim (λ (e : _≡_ {A = ℕ} 0 1). omega arith) (λ (e : _≡_ {A = ℕ} 0 2). omega arith) h)
 not-hit (Differs p v) h = refl
 not-hit Varies h = refl
-
--- ---- words copied over all words
-
-none-left : (l : List ℕ) (n : ℕ) → length l ≡ n → drop n l ≡ []
-none-left l n e = rw (← e) (drop-length l)
-
-pub all-copied : (l m : List ℕ) → length l ≡ length m → sets l 0 m ≡ m
-all-copied l m e = sets-eq m l 0 (omega arith) ∙ ap (λ (r : List ℕ). m ++ r) (none-left l (0 + length m) (omega arith)) ∙ append-nil m
 
 -- ---- an entry that matches
 

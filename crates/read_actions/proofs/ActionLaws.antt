@@ -1,12 +1,12 @@
--- One action: its buffer, and then its kind and deed; the row of an action says that action; the loop that lays out a rule's actions.
-use Prim.Native.Nat.{ℕ, _+_, _*_, _%_, _≤_, _<_}
-use mathlib.Core.Path.{_≡_, refl, sym, ap, ap₂, _∙_}
-use mathlib.Core.List.{List, _∷_}
+-- One action: its buffer, and then its kind and deed; the row that is lent for an action says that action; the loop that lays out a rule's actions.
+use Prim.Native.Nat.{ℕ, _+_, _-_, _*_, _%_, _≤_, _<_}
+use mathlib.Core.Path.{_≡_, refl, sym, ap, _∙_}
+use mathlib.Core.List.{List, _++_}
 use native.Mathlib.Omega.{arith}
-use lib.ListN.{length, getD, take}
-use lib.Seq.{sets}
+use lib.ListN.{length, getD, set, take, drop, length-set}
+use lib.Seq.{sets, getD-set-same, take-set-le}
 use Rattle.meaning.specs.Numbers.{finer, bad-buffer}
-use Rattle.meaning.specs.Model.{Test, Named, Deed, Action, Sizes}
+use Rattle.meaning.specs.Model.{Test, Deed, Action, Sizes}
 use Rattle.meaning.specs.Read.{Read, Refused, Got, follow, field, must}
 use Rattle.meaning.specs.Image.{aBuffer, kindRule, deed, action, actions}
 use Rattle.laws.specs.BitsLaws.{fieldAt-lt}
@@ -14,17 +14,44 @@ use Rattle.laws.specs.ReadLaws.{FieldRead, field-got, follow-follow}
 use Rattle.layout.specs.declared.Walk.{Walk}
 use Rattle.layout.specs.declared.Walk.the-variants.{Next, Bad}
 use Rattle.layout.specs.Walks.{answer}
-use Rattle.layout.specs.Rows.{rowsIn, namedBy, deedOf, testIn, actionIn, testsIn, actionsIn}
+use Rattle.layout.specs.Rows.{rowsIn, testIn, actionIn, testsIn, actionsIn}
 use Rattle.layout.proofs.WalkLaws.{answer-bad, answer-next}
-use Rattle.layout.proofs.WordLaws.{below-get}
-use Rattle.layout.proofs.RowLaws.{masked-row, in-same, in-more, test-like, action-like}
+use Rattle.read_fields.proofs.Laws.{part, part-long, part-get}
+use Rattle.layout.proofs.WordLaws.{sets-take, lent-sets, below-get}
+use Rattle.layout.proofs.RowLaws.{written-like, in-same, in-next, test-like, action-like}
 use Rattle.layout.proofs.LoopLaws.{onward, onward-start, onward-end, onward-bad, onward-turn}
-use Rattle.read_deeds.specs.Deeds.{kindAndDeed, acts}
+use Rattle.read_deeds.specs.Deeds.{deedIn, kindAndDeed, acts}
 
--- ---- a row
+-- ---- a row that was lent from o on with the buffer in its first word, and came back as another
 
-pub row-acts : (b d m : ℕ) (xs : List ℕ) → b < 8 → actionIn (b ∷ d ∷ m ∷ xs) 0 ≡ acts b (deedOf d (namedBy m xs))
-row-acts b d m xs h = let e : b % 8 ≡ b = omega arith in ap₂ (λ (x : ℕ) (l : List Named). acts x (deedOf d l)) e (masked-row b d m xs)
+module _ (w : List ℕ) (o b : ℕ) (h : o + 11 ≤ length w) where
+  room : o + 11 ≤ length (set w o b)
+  room = omega (arith, length-set w o b)
+
+  abbrev lentRow : List ℕ
+  lentRow = part o 11 (set w o b)
+
+  abbrev rowBack : List ℕ → List ℕ
+  rowBack own = take o (set w o b) ++ (own ++ drop (o + 11 - o) (drop o (set w o b)))
+
+  pub lent-long : length lentRow ≡ 11
+  lent-long = part-long o 11 (set w o b) room
+
+  module _ (own : List ℕ) (long : length own ≡ 11) where
+    back-sets : rowBack own ≡ sets (set w o b) o own
+    back-sets = lent-sets o 11 (set w o b) own room long
+
+    pub back-kept : take o (rowBack own) ≡ take o w
+    back-kept = ap (take o) back-sets ∙ sets-take o (set w o b) o own (omega arith) ∙ take-set-le o w o b (omega arith)
+
+    -- the first word stayed, and is the buffer
+    pub back-acts : b < 8 → take 1 own ≡ take 1 lentRow → actionIn (rowBack own) o ≡ acts b (deedIn own)
+    back-acts small e =
+        let z : o + 0 ≡ o = omega arith in
+        let at : getD (set w o b) (o + 0) 0 ≡ b = rw z (getD-set-same w o b 0 (omega arith)) in
+        let first : getD own 0 0 ≡ b = below-get 1 lentRow own e 0 (omega arith) ∙ part-get o 11 (set w o b) 0 (omega arith) ∙ at in
+        let same : getD own 0 0 % 8 ≡ b = omega arith in
+        ap (λ (l : List ℕ). actionIn l o) back-sets ∙ action-like (sets (set w o b) o own) own o 0 (written-like (set w o b) o own long room) ∙ ap (λ (x : ℕ). acts x (deedIn own)) same
 
 -- ---- an action
 
@@ -69,21 +96,22 @@ module _ (z : Sizes) (variables : ℕ) (s w₀ : List ℕ) (o n m : ℕ) where
   acting-end w i least at e =
       ap (λ (k : ℕ). Got (actionsIn w (o + 88) k) at) (sym e) ∙ onward-end (action finer z variables (testsIn w₀ o n)) (λ a. a .buffer) s m (actionsIn w (o + 88) i) i least at (omega arith)
 
-  module _ (w : List ℕ) (i least at : ℕ) (h : i < m) (l : n ≤ 8) (kept : take (o + 88) w ≡ take (o + 88) w₀) (v : Walk) (ws : List ℕ)
-      (e : answer v (actionIn ws 0) ≡ action finer z variables (testsIn w o n) least s at) where
-    by-first : answer v (actionIn ws 0) ≡ action finer z variables (testsIn w₀ o n) least s at
+  module _ (w : List ℕ) (i least at : ℕ) (h : i < m) (l : n ≤ 8) (kept : take (o + 88) w ≡ take (o + 88) w₀) (v : Walk) (a : Action)
+      (e : answer v a ≡ action finer z variables (testsIn w o n) least s at) where
+    by-first : answer v a ≡ action finer z variables (testsIn w₀ o n) least s at
     by-first = e ∙ ap (λ (ts : List Test). action finer z variables ts least s at) (tests-kept w₀ w o n l kept)
 
     pub acting-bad : (x y : ℕ) → v ≡ Bad x y → Refused x y ≡ acting w i least at
     unfolding acting
     acting-bad x y g =
         onward-bad (action finer z variables (testsIn w₀ o n)) (λ a. a .buffer) s m (actionsIn w (o + 88) i) i least at h x y
-        (sym (answer-bad v (actionIn ws 0) x y g) ∙ by-first)
+        (sym (answer-bad v a x y g) ∙ by-first)
 
-    pub acting-turn : (w′ : List ℕ) (q : ℕ) → v ≡ Next q → w′ ≡ sets w (o + 88 + 11 * i) ws → length ws ≡ 11 → o + 88 + 11 * i + 11 ≤ length w
-        → acting w′ (i + 1) (getD ws 0 0 % 8 + 1) q ≡ acting w i least at
+    -- the action stands in the next row, and what is below the row stays
+    pub acting-turn : (w′ : List ℕ) (q : ℕ) → v ≡ Next q → a ≡ actionIn w′ (o + 88 + 11 * i) → take (o + 88 + 11 * i) w′ ≡ take (o + 88 + 11 * i) w
+        → acting w′ (i + 1) (getD w′ (o + 88 + 11 * i) 0 % 8 + 1) q ≡ acting w i least at
     unfolding acting
-    acting-turn w′ q g k el hl =
-        rw (k, in-more actionIn action-like w (o + 88) i ws el hl)
-        (onward-turn (action finer z variables (testsIn w₀ o n)) (λ a. a .buffer) s m (actionsIn w (o + 88) i) i least at h (actionIn ws 0) q
-        (sym (answer-next v (actionIn ws 0) q g) ∙ by-first))
+    acting-turn w′ q g stands below =
+        rw (in-next actionIn action-like w w′ (o + 88) i below)
+        (onward-turn (action finer z variables (testsIn w₀ o n)) (λ a. a .buffer) s m (actionsIn w (o + 88) i) i least at h (actionIn w′ (o + 88 + 11 * i)) q
+        (ap (λ (x : Action). Got x q) (sym stands) ∙ sym (answer-next v a q g) ∙ by-first))

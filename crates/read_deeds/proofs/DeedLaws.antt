@@ -17,9 +17,8 @@ use Rattle.laws.specs.ReadLaws.{FieldRead, field-got, must-kept}
 use Rattle.layout.specs.declared.Walk.{Walk}
 use Rattle.layout.specs.declared.Walk.the-variants.{Next, Bad}
 use Rattle.layout.specs.Walks.{answer}
-use Rattle.layout.specs.Rows.{namedBy}
+use Rattle.layout.specs.Rows.{maskedIn}
 use Rattle.layout.proofs.WalkLaws.{answer-next}
-use Rattle.read_deeds.specs.declared.DeedRead.{DeedRead}
 use Rattle.read_deeds.specs.Deeds.{says, kindAndDeed}
 
 -- ---- the rule of the kind
@@ -43,14 +42,14 @@ module _ (z : Sizes) (variables : ℕ) (ts : List Test) (b : ℕ) (s : List ℕ)
   pub kind-on : (d : Read Deed) (kind q : ℕ) → d ≡ deed finer z variables ts b kind s q → field 2 (kindRule finer ts b) s p ≡ Got kind q → d ≡ kindAndDeed z variables ts b s p
   kind-on d kind q g e = rw e g
 
-  pub clear-says : (r : DeedRead) → r .walk ≡ Next p → r .deed ≡ 64 → says r ≡ deed finer z variables ts b 2 s p
+  pub clear-says : (row : List ℕ) → getD row 1 0 ≡ 64 → says (Next p) row ≡ deed finer z variables ts b 2 s p
   unfolding deed
-  clear-says r e g = rw (e, g)
+  clear-says row d = rw d
 
-  pub modify-says : (r : DeedRead) (k : ℕ) → testedType ts b ≡ k → r .deed ≡ 0 → answer (r .walk) (namedBy (r .mask) (r .slots)) ≡ masked finer variables (getD (z .types) k 0) s p
-      → says r ≡ deed finer z variables ts b 0 s p
+  pub modify-says : (u : Walk) (row : List ℕ) (k : ℕ) → testedType ts b ≡ k → getD row 1 0 ≡ 0 → answer u (maskedIn row 0) ≡ masked finer variables (getD (z .types) k 0) s p
+      → says u row ≡ deed finer z variables ts b 0 s p
   unfolding deed
-  modify-says r k h d g = rw (h, d, ← g) (go (r .walk) (namedBy (r .mask) (r .slots)))
+  modify-says u row k h d g = rw (h, d, ← g) (go u (maskedIn row 0))
     where
       go : (w : Walk) (ns : List Named) → answer w (Modify ns) ≡ follow (answer w ns) (λ l q. Got (Modify l) q)
       go (Next q) ns = refl
@@ -61,15 +60,15 @@ module _ (z : Sizes) (variables : ℕ) (ts : List Test) (b : ℕ) (s : List ℕ)
     unfolding deed
     request-bad x y h = rw (← e, h)
 
-    pub request-says : (r : DeedRead) (q : ℕ) → v ≡ Next q → r .deed ≡ k → answer (r .walk) (namedBy (r .mask) (r .slots)) ≡ masked finer variables (getD (z .types) k 0) s q
-        → says r ≡ deed finer z variables ts b 1 s p
+    pub request-says : (u : Walk) (row : List ℕ) (q : ℕ) → v ≡ Next q → getD row 1 0 ≡ k → answer u (maskedIn row 0) ≡ masked finer variables (getD (z .types) k 0) s q
+        → says u row ≡ deed finer z variables ts b 1 s p
     unfolding deed
-    request-says r q h d g =
+    request-says u row q h d g =
         let f : FieldRead 6 (must bad-number (aType (z .types) 1)) s p k q = field-got 6 (must bad-number (aType (z .types) 1)) s p k q (sym e ∙ answer-next v k q h) in
         let low : 1 ≤ k = leb-true 1 k (and-left (leb 1 k) (ltb k (length (z .types))) (must-kept 2 (leb 1 k && ltb k (length (z .types))) (f .kept))) in
         let high : k < 64 = omega (arith, f .is, fieldAt-lt s p 6) in
         let ne : k ≡ 0 → ⊥ = λ i. omega arith in
-        rw (← e, h, d, ne-eqb k 0 ne, lt-ltb k 64 high, ← g) (go (r .walk) (namedBy (r .mask) (r .slots)))
+        rw (← e, h, d, ne-eqb k 0 ne, lt-ltb k 64 high, ← g) (go u (maskedIn row 0))
       where
         go : (w : Walk) (ns : List Named) → answer w (Request k ns) ≡ follow (answer w ns) (λ l q. Got (Request k l) q)
         go (Next q) ns = refl

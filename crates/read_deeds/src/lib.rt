@@ -2,12 +2,12 @@
 ghost use mathlib.Core.Path.{_≡_};
 ghost use mathlib.Core.List.{List};
 ghost use Prim.Native.Nat.{ℕ, _+_, _*_, _≤_, _<_};
-ghost use lib.ListN.{length, getD};
+ghost use lib.ListN.{length, getD, take};
 ghost use Rattle.meaning.specs.Model.{Test};
 ghost use Rattle.meaning.specs.Numbers.{finer};
-ghost use Rattle.meaning.specs.Image.{testedType, masked, deed};
+ghost use Rattle.meaning.specs.Image.{masked, deed};
 ghost use Rattle.layout.specs.Walks.{answer, Within};
-ghost use Rattle.layout.specs.Rows.{sizes, namedBy, testsIn};
+ghost use Rattle.layout.specs.Rows.{sizes, maskedIn, testsIn};
 ghost use Rattle.read_deeds.specs.Deeds.{testedOf, says, kindAndDeed};
 use layout::ROW_WORDS;
 use layout::Walk;
@@ -20,14 +20,6 @@ use read_fields::Field;
 pub enum Tested {
     Isa(u16),
     Untested,
-}
-
-// What an action does: the deed's word, a mask and its terms, each at its slot; or a refusal.
-pub struct DeedRead {
-    pub walk: Walk,
-    pub deed: u16,
-    pub mask: u16,
-    pub slots: [u16; 8],
 }
 
 // The type that the first test of buffer b names, of the n tests in words from o on.
@@ -54,92 +46,74 @@ fn slots_of(types: &[u16], k: u16) -> u16
     if i < types.len() { types[i] } else { 0 }
 }
 
-// No deed: the refusal of a field.
-fn no_deed(number: u8, at: usize) -> DeedRead
-    ensures { λ r. ⌜ r .walk ≡ Walk.Bad number at ⌝ }
+// The word of a deed into the second word of a row, and a mask and its terms for type k after it.
+fn deed_for(
+    image: &[u8],
+    p: usize,
+    types: &[u16],
+    variables: u16,
+    k: u16,
+    word: u16,
+    row: &mut [u16],
+) -> Walk
+    requires { ⌜ (length (now image) ≤ 65536) × (p ≤ 8 * length (now image)) × (variables ≤ 8) × (length (now row) ≡ 11) ⌝ }
+    ensures { λ r. ⌜ answer r (maskedIn (now (row .exit)) 0) ≡ masked finer variables (getD (now (types .entry)) k 0) (now (image .entry)) p ⌝ }
+    ensures within { λ r. ⌜ Within r (8 * length (now (image .entry))) ⌝ }
+    ensures word { λ r. ⌜ getD (now (row .exit)) 1 0 ≡ word ⌝ }
+    ensures kept { λ r. ⌜ take 1 (now (row .exit)) ≡ take 1 (now (row .entry)) ⌝ }
 {
-    DeedRead {
-        walk: Walk::Bad(number, at),
-        deed: 0,
-        mask: 0,
-        slots: [0; 8],
-    }
+    row[1] = word;
+    read_terms::masked(image, p, slots_of(types, k), variables, row)
 }
 
-// A mask and its terms for a type, with the word of a deed before them.
-fn deed_for(image: &[u8], p: usize, types: &[u16], variables: u16, k: u16, word: u16) -> DeedRead
-    requires { ⌜ (length (now image) ≤ 65536) × (p ≤ 8 * length (now image)) × (variables ≤ 8) ⌝ }
-    ensures { λ r. ⌜ answer (r .walk) (namedBy (r .mask) (r .slots)) ≡ masked finer variables (getD (now (types .entry)) k 0) (now (image .entry)) p ⌝ }
-    ensures within { λ r. ⌜ Within (r .walk) (8 * length (now (image .entry))) ⌝ }
-    ensures word { λ r. ⌜ r .deed ≡ word ⌝ }
-{
-    let t = read_terms::masked(image, p, slots_of(types, k), variables);
-    let w = t.walk;
-    let m = t.mask;
-    let xs = t.slots;
-    DeedRead {
-        walk: w,
-        deed: word,
-        mask: m,
-        slots: xs,
-    }
-}
-
-// Modify: a mask and its terms for the tested type k.
-fn modify(image: &[u8], p: usize, types: &[u16], variables: u16, k: u16) -> DeedRead
-    requires { ⌜ (length (now image) ≤ 65536) × (p ≤ 8 * length (now image)) × (variables ≤ 8) ⌝ }
-    ensures { λ r. ⌜ ((buffers : ℕ) (ts : List Test) (b : ℕ) → testedType ts b ≡ k → says r ≡ deed finer (sizes buffers (now (types .entry))) variables ts b 0 (now (image .entry)) p) ⌝ }
-    ensures within { λ r. ⌜ Within (r .walk) (8 * length (now (image .entry))) ⌝ }
-{
-    deed_for(image, p, types, variables, k, 0)
-}
-
-// Request: a declared type, and a mask and its terms for it.
-fn request(image: &[u8], p: usize, types: &[u16], variables: u16) -> DeedRead
-    requires { ⌜ (length (now image) ≤ 65536) × (p ≤ 8 * length (now image)) × (variables ≤ 8) × (0 < length (now types)) ⌝ }
-    ensures { λ r. ⌜ ((buffers : ℕ) (ts : List Test) (b : ℕ) → says r ≡ deed finer (sizes buffers (now (types .entry))) variables ts b 1 (now (image .entry)) p) ⌝ }
-    ensures within { λ r. ⌜ Within (r .walk) (8 * length (now (image .entry))) ⌝ }
+// Request: a declared type, which is the deed's word, and a mask and its terms for it.
+fn request(image: &[u8], p: usize, types: &[u16], variables: u16, row: &mut [u16]) -> Walk
+    requires { ⌜ (length (now image) ≤ 65536) × (p ≤ 8 * length (now image)) × (variables ≤ 8) × (0 < length (now types)) × (length (now row) ≡ 11) ⌝ }
+    ensures { λ r. ⌜ ((buffers : ℕ) (ts : List Test) (b : ℕ) → says r (now (row .exit)) ≡ deed finer (sizes buffers (now (types .entry))) variables ts b 1 (now (image .entry)) p) ⌝ }
+    ensures within { λ r. ⌜ Within r (8 * length (now (image .entry))) ⌝ }
+    ensures kept { λ r. ⌜ take 1 (now (row .exit)) ≡ take 1 (now (row .entry)) ⌝ }
 {
     let t = read_ranges::type_at(image, p, types, 1);
     let w = t.walk;
     let k = t.value;
     match w {
-        Walk::Next(q) => deed_for(image, q, types, variables, k, k),
-        Walk::Bad(number, at) => no_deed(number, at),
+        Walk::Next(q) => deed_for(image, q, types, variables, k, k, row),
+        Walk::Bad(number, at) => Walk::Bad(number, at),
     }
 }
 
-// Clear: nothing more.
-fn clear(p: usize) -> DeedRead
-    ensures { λ r. ⌜ (r .walk ≡ Walk.Next p) × (r .deed ≡ 64) ⌝ }
-{
-    DeedRead {
-        walk: Walk::Next(p),
-        deed: 64,
-        mask: 0,
-        slots: [0; 8],
-    }
-}
-
-// An action's kind, and what it asks; what is not tested is not modified.
-pub fn deed(image: &[u8], p: usize, types: &[u16], variables: u16, tested: Tested) -> DeedRead
-    requires { ⌜ (length (now image) ≤ 65536) × (p ≤ 8 * length (now image)) × (variables ≤ 8) × (0 < length (now types)) ⌝ }
-    ensures { λ r. ⌜ ((buffers : ℕ) (ts : List Test) (b : ℕ) → tested ≡ testedOf ts b → says r ≡ kindAndDeed (sizes buffers (now (types .entry))) variables ts b (now (image .entry)) p) ⌝ }
-    ensures within { λ r. ⌜ Within (r .walk) (8 * length (now (image .entry))) ⌝ }
+// An action's kind, and what it asks, into a row after its first word: the deed's word (0 to modify, a type to request, 64 to clear), a mask and its terms.
+// What is not tested is not modified; a clear asks no mask, and leaves what stood in the place of one.
+pub fn deed(
+    image: &[u8],
+    p: usize,
+    types: &[u16],
+    variables: u16,
+    tested: Tested,
+    row: &mut [u16],
+) -> Walk
+    requires { ⌜ (length (now image) ≤ 65536) × (p ≤ 8 * length (now image)) × (variables ≤ 8) × (0 < length (now types)) × (length (now row) ≡ 11) ⌝ }
+    ensures { λ r. ⌜ ((buffers : ℕ) (ts : List Test) (b : ℕ) → tested ≡ testedOf ts b
+        → says r (now (row .exit)) ≡ kindAndDeed (sizes buffers (now (types .entry))) variables ts b (now (image .entry)) p) ⌝ }
+    ensures within { λ r. ⌜ Within r (8 * length (now (image .entry))) ⌝ }
+    ensures kept { λ r. ⌜ take 1 (now (row .exit)) ≡ take 1 (now (row .entry)) ⌝ }
 {
     let Field::Value(kind) = read_fields::field_at(image, p, 2) else {
-        return no_deed(NOT_THERE, p);
+        return Walk::Bad(NOT_THERE, p);
     };
     let q = p + 2;
     match kind {
         0 => {
             let Tested::Isa(k) = tested else {
-                return no_deed(BAD_BUFFER, p);
+                return Walk::Bad(BAD_BUFFER, p);
             };
-            modify(image, q, types, variables, k)
+            deed_for(image, q, types, variables, k, 0, row)
         }
-        1 => request(image, q, types, variables),
-        2 => clear(q),
-        _ => no_deed(BAD_NUMBER, p),
+        1 => request(image, q, types, variables, row),
+        2 => {
+            row[1] = 64;
+            Walk::Next(q)
+        }
+        _ => Walk::Bad(BAD_NUMBER, p),
     }
 }

@@ -4,7 +4,7 @@ use mathlib.Core.Path.{_≡_, sym, ap, _∙_}
 use mathlib.Core.List.{List, [], _∷_, _++_, map, map-id}
 use native.Mathlib.Omega.{arith}
 use lib.Dec.{leb, ltb}
-use lib.ListN.{length, getD, replicate}
+use lib.ListN.{length, getD, set, take, replicate}
 use lib.Seq.{sets}
 use borrow.Author.Tests.{ltb-true}
 use Rattle.meaning.specs.Numbers.{finer, bad-number}
@@ -18,9 +18,10 @@ use Rattle.layout.specs.declared.Walk.the-variants.{Next, Bad}
 use Rattle.layout.specs.Walks.{answer, mapped}
 use Rattle.layout.specs.Rows.{rowsIn, factIn, factsIn}
 use Rattle.layout.proofs.RowLaws.{rows-same, fact-like, in-more}
+use Rattle.layout.proofs.WordLaws.{listed}
 use Rattle.read_ranges.specs.After.{after}
 use Rattle.read_ranges.proofs.AfterLaws.{follow-answer, after-step, after-end}
-use Rattle.read_facts.specs.Made.{aChunk, aFact}
+use Rattle.read_facts.specs.Made.{aChunk}
 use Rattle.read_facts.proofs.StoreLaws.{sets-fresh}
 
 -- ---- a chunk
@@ -51,6 +52,10 @@ module _ (types : List ℕ) (least : ℕ) (s : List ℕ) (p : ℕ) where
 
 -- ---- a fact
 
+-- out of its parts
+abbrev pub aFact : Chunk → ℕ → ℕ → Fact
+aFact c activation latency = record { chunk = c; activation = activation; latency = latency }
+
 pub fact-on : (types s : List ℕ) (p : ℕ) (w₁ w₂ w₃ : Walk) (c : Chunk) (a l : ℕ)
     → answer w₁ c ≡ chunk finer types 1 s p → answer w₂ a ≡ after w₁ (field 16 anything s) → answer w₃ l ≡ after w₂ (field 16 anything s)
     → answer w₃ (aFact c a l) ≡ fact finer types s p
@@ -62,6 +67,14 @@ fact-on types s p w₁ w₂ w₃ c a l e₁ e₂ e₃ =
     ∙ after-step w₂ w₃ l (field 16 anything s) (λ n q. Got (aFact c a n) q) e₃
     ∙ after-end w₃ (aFact c a l)
     )
+
+-- a row whose first three words are written, and whose last eight came back as others
+pub fact-row : (row own : List ℕ) (isa activation latency : ℕ) → length row ≡ 11 → length own ≡ 8
+    → factIn (set (set (set (take 3 row ++ own) 0 isa) 1 activation) 2 latency) 0 ≡ aFact (aChunk isa own) activation latency
+fact-row [] own isa a l e n = absurd (omega arith)
+fact-row (x ∷ []) own isa a l e n = absurd (omega arith)
+fact-row (x ∷ y ∷ []) own isa a l e n = absurd (omega arith)
+fact-row (x ∷ y ∷ z ∷ row) own isa a l e n = ap (λ (xs : List ℕ). aFact (aChunk isa xs) a l) (listed 8 own n)
 
 -- ---- rows of facts
 

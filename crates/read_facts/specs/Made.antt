@@ -1,10 +1,7 @@
--- A chunk and a fact out of their parts.
+-- A chunk out of its parts.
 use Prim.Native.Nat.{ℕ}
 use mathlib.Core.List.{List}
-use Rattle.meaning.specs.Model.{Chunk, Fact}
+use Rattle.meaning.specs.Model.{Chunk}
 
 abbrev pub aChunk : ℕ → List ℕ → Chunk
 aChunk isa slots = record { isa = isa; slots = slots }
-
-abbrev pub aFact : Chunk → ℕ → ℕ → Fact
-aFact c activation latency = record { chunk = c; activation = activation; latency = latency }

@@ -7,95 +7,72 @@ ghost use Rattle.meaning.specs.Numbers.{finer};
 ghost use Rattle.meaning.specs.Image.{anything, eight, chunk, fact};
 ghost use Rattle.layout.specs.Walks.{answer, mapped, Within, Small};
 ghost use Rattle.layout.specs.Rows.{factIn, factsIn};
-ghost use Rattle.read_facts.specs.Made.{aChunk, aFact};
-use layout::Eight;
+ghost use Rattle.read_facts.specs.Made.{aChunk};
 use layout::ROW_WORDS;
-use layout::RowRead;
 use layout::Walk;
 use meaning::numbers::NOT_THERE;
 use read_fields::Field;
+use read_ranges::Number;
 
-// A chunk: its type and its eight slot values; or a refusal.
-pub struct ChunkRead {
-    pub walk: Walk,
-    pub isa: u16,
-    pub slots: [u16; 8],
-}
-
-// n values of 12 bits, and zeros up to eight.
-fn values(image: &[u8], p: usize, n: u16) -> Eight
-    requires { ⌜ (length (now image) ≤ 65536) × (p ≤ 8 * length (now image)) × (n ≤ 8) ⌝ }
-    ensures { λ r. ⌜ answer (r .walk) (r .slots) ≡ mapped eight (times n (field 12 anything) (now (image .entry)) p) ⌝ }
-    ensures within { λ r. ⌜ Within (r .walk) (8 * length (now (image .entry))) ⌝ }
+// n values of 12 bits into the eight words lent, and zeros after them.
+fn values(image: &[u8], p: usize, n: u16, slots: &mut [u16]) -> Walk
+    requires { ⌜ (length (now image) ≤ 65536) × (p ≤ 8 * length (now image)) × (n ≤ 8) × (length (now slots) ≡ 8) ⌝ }
+    ensures { λ r. ⌜ answer r (now (slots .exit)) ≡ mapped eight (times n (field 12 anything) (now (image .entry)) p) ⌝ }
+    ensures within { λ r. ⌜ Within r (8 * length (now (image .entry))) ⌝ }
 {
-    let mut xs = [0u16; 8];
+    let none = [0u16; 8];
+    layout::copy_into(slots, 0, &none);
     let mut at = p;
     let mut i = 0;
     while i < n {
         let Field::Value(x) = read_fields::field_at(image, at, 12) else {
-            return Eight {
-                walk: Walk::Bad(NOT_THERE, at),
-                slots: xs,
-            };
+            return Walk::Bad(NOT_THERE, at);
         };
-        xs[i as usize] = x;
+        slots[i as usize] = x;
         at += 12;
         i += 1;
     }
-    Eight {
-        walk: Walk::Next(at),
-        slots: xs,
-    }
+    Walk::Next(at)
 }
 
-// A chunk of a type from `least` (0 or 1) to the last of `types`, with a value for each slot of its type.
-pub fn chunk(image: &[u8], p: usize, types: &[u16], least: u16) -> ChunkRead
-    requires { ⌜ (length (now image) ≤ 65536) × (p ≤ 8 * length (now image)) × Small (now types) × (0 < length (now types)) × (least ≤ 1) ⌝ }
-    ensures { λ r. ⌜ answer (r .walk) (aChunk (r .isa) (r .slots)) ≡ chunk finer (now (types .entry)) least (now (image .entry)) p ⌝ }
+// A chunk of a type from `least` (0 or 1) to the last of `types`: its type, and a value for each slot of the type into the eight words lent.
+pub fn chunk(image: &[u8], p: usize, types: &[u16], least: u16, slots: &mut [u16]) -> Number
+    requires { ⌜ (length (now image) ≤ 65536) × (p ≤ 8 * length (now image)) × Small (now types) × (0 < length (now types)) × (least ≤ 1) × (length (now slots) ≡ 8) ⌝ }
+    ensures { λ r. ⌜ answer (r .walk) (aChunk (r .value) (now (slots .exit))) ≡ chunk finer (now (types .entry)) least (now (image .entry)) p ⌝ }
     ensures within { λ r. ⌜ Within (r .walk) (8 * length (now (image .entry))) ⌝ }
 {
     let t = read_ranges::type_at(image, p, types, least);
     let w = t.walk;
     match w {
         Walk::Next(q) => {
-            let v = values(image, q, types[t.value as usize]);
-            let end = v.walk;
-            let xs = v.slots;
-            ChunkRead {
+            let end = values(image, q, types[t.value as usize], slots);
+            Number {
                 walk: end,
-                isa: t.value,
-                slots: xs,
+                value: t.value,
             }
         }
-        Walk::Bad(n, at) => ChunkRead {
+        Walk::Bad(n, at) => Number {
             walk: Walk::Bad(n, at),
-            isa: 0,
-            slots: [0; 8],
+            value: 0,
         },
     }
 }
 
-// The row of a fact: type, activation, latency, slot values.
-fn row(walk: Walk, c: ChunkRead, activation: u16, latency: u16) -> RowRead
-    ensures { λ r. ⌜ (r .walk ≡ walk) × (factIn (r .words) 0 ≡ aFact (aChunk (c .isa) (c .slots)) activation latency) ⌝ }
+// A fact into a row of eleven words: the type of its chunk, its activation, its latency, eight slot values.
+fn fact(image: &[u8], p: usize, types: &[u16], row: &mut [u16]) -> Walk
+    requires { ⌜ (length (now image) ≤ 65536) × (p ≤ 8 * length (now image)) × Small (now types) × (0 < length (now types)) × (length (now row) ≡ 11) ⌝ }
+    ensures { λ r. ⌜ answer r (factIn (now (row .exit)) 0) ≡ fact finer (now (types .entry)) (now (image .entry)) p ⌝ }
+    ensures within { λ r. ⌜ Within r (8 * length (now (image .entry))) ⌝ }
 {
-    let xs = c.slots;
-    layout::row(walk, c.isa, activation, latency, xs)
-}
-
-// A fact: a chunk of a declared type, its activation and its latency.
-fn fact(image: &[u8], p: usize, types: &[u16]) -> RowRead
-    requires { ⌜ (length (now image) ≤ 65536) × (p ≤ 8 * length (now image)) × Small (now types) × (0 < length (now types)) ⌝ }
-    ensures { λ r. ⌜ answer (r .walk) (factIn (r .words) 0) ≡ fact finer (now (types .entry)) (now (image .entry)) p ⌝ }
-    ensures within { λ r. ⌜ Within (r .walk) (8 * length (now (image .entry))) ⌝ }
-{
-    let c = chunk(image, p, types, 1);
+    let c = chunk(image, p, types, 1, &mut row[3..]);
     let first = c.walk;
     let a = read_ranges::any_after(image, first, 16);
     let second = a.walk;
     let l = read_ranges::any_after(image, second, 16);
-    let third = l.walk;
-    row(third, c, a.value, l.value)
+    row[0] = c.value;
+    row[1] = a.value;
+    row[2] = l.value;
+    l.walk
 }
 
 // n facts into words, a row each, from word 0 on.
@@ -107,8 +84,8 @@ pub fn facts(image: &[u8], p: usize, types: &[u16], n: usize, words: &mut [u16])
     let mut at = p;
     let mut i = 0;
     while i < n {
-        let f = fact(image, at, types);
-        let w = f.walk;
+        let o = ROW_WORDS * i;
+        let w = fact(image, at, types, &mut words[o..o + ROW_WORDS]);
         match w {
             Walk::Next(q) => {
                 at = q;
@@ -117,7 +94,6 @@ pub fn facts(image: &[u8], p: usize, types: &[u16], n: usize, words: &mut [u16])
                 return Walk::Bad(a, b);
             }
         }
-        layout::lay(words, ROW_WORDS * i, f);
         i += 1;
     }
     Walk::Next(at)

@@ -15,7 +15,6 @@ use layout::Walk;
 use meaning::Buffer;
 use meaning::State;
 use meaning::numbers::BAD_NUMBER;
-use read_facts::ChunkRead;
 
 // The slot count of each type, by its number; or a refusal.
 pub struct TypesRead {
@@ -92,14 +91,13 @@ pub fn slot_counts(image: &[u8], p: usize, declared: u16) -> TypesRead
     }
 }
 
-// A buffer that holds a chunk, visible at once.
-fn opens(c: ChunkRead) -> Buffer
-    ensures { λ r. ⌜ r ≡ opens (aChunk (c .isa) (c .slots)) ⌝ }
+// A buffer that holds a chunk of such a type with such slot values, visible at once.
+fn opens(isa: u16, slots: [u16; 8]) -> Buffer
+    ensures { λ r. ⌜ r ≡ opens (aChunk isa slots) ⌝ }
 {
-    let xs = c.slots;
     Buffer {
-        isa: c.isa,
-        slots: xs,
+        isa: isa,
+        slots: slots,
         delay: 0,
     }
 }
@@ -111,10 +109,11 @@ pub fn opening(image: &[u8], p: usize, types: &[u16], n: u16) -> OpeningRead
     ensures within { λ r. ⌜ Within (r .walk) (8 * length (now (image .entry))) ⌝ }
 {
     let mut st = meaning::zero_state();
+    let mut xs = [0u16; 8];
     let mut at = p;
     let mut i = 0;
     while i < n {
-        let c = read_facts::chunk(image, at, types, 0);
+        let c = read_facts::chunk(image, at, types, 0, &mut xs);
         let w = c.walk;
         match w {
             Walk::Next(q) => {
@@ -127,7 +126,7 @@ pub fn opening(image: &[u8], p: usize, types: &[u16], n: u16) -> OpeningRead
                 };
             }
         }
-        let b = opens(c);
+        let b = opens(c.value, xs);
         st.buffers[i as usize] = b;
         i += 1;
     }

@@ -7,9 +7,11 @@ use native.Mathlib.Omega.{arith}
 use lib.Bits.{bitAnd, and-mask}
 use lib.Pow.{shr-shr}
 use lib.Dec.{eqb}
+use lib.ListN.{length}
 use borrow.Author.Tests.{eq-eqb, ne-eqb}
 use Rattle.meaning.specs.Base.{keep, admit, upFrom, bit}
 use Rattle.meaning.specs.Image.{names, slotsIn}
+use Rattle.laws.specs.BaseLaws.{by-lt}
 
 pub bit-is : (m b : ℕ) → bit m b ≡ eqb (m / 2 ^ b % 2) 1
 bit-is m zero = let e : m % 2 ≡ m / 1 % 2 = omega arith in ap (λ (n : ℕ). eqb n 1) e
@@ -46,6 +48,18 @@ rest-off m b h e = let g : 8 - b ≡ suc (8 - (b + 1)) = omega arith in rw (g, e
 pub rest-end : (m b : ℕ) → 8 ≤ b → rest m b ≡ []
 unfolding rest
 rest-end m b h = let e : 8 - b ≡ 0 = omega arith in rw e
+
+-- no slot is left if as many as none are
+pub none-left : (m b : ℕ) → length (rest m b) ≡ 0 → rest m b ≡ []
+none-left m b e = go (rest m b) e
+  where
+    go : (l : List ℕ) → length l ≡ 0 → l ≡ []
+    go [] e = refl
+    go (x ∷ l) e = absurd (omega arith)
+
+-- a slot that is left is below eight
+pub some-left : (m b : ℕ) → 0 < length (rest m b) → b < 8
+some-left m b h = by-lt b 8 (λ l. l) (λ l. let none : length (rest m b) ≡ 0 = ap length (rest-end m b l) in absurd (omega arith))
 
 upFrom-more : (i n : ℕ) → upFrom i (n + 1) ≡ upFrom i n ++ ((i + n) ∷ [])
 upFrom-more i zero = let e : i + 0 ≡ i = omega arith in rw e

@@ -4,7 +4,7 @@ use mathlib.Core.Path.{_≡_, refl, sym, ap, ap₂, _∙_}
 use mathlib.Core.Bool.{Bool, true, false, not}
 use mathlib.Core.List.{List, [], _∷_, _++_, map, append-nil, append-assoc}
 use native.Mathlib.Omega.{arith}
-use lib.ListN.{length, getD, set}
+use lib.ListN.{length, getD, set, take}
 use lib.Seq.{getD-set-same, getD-set-other}
 use lib.Dec.{eqb, ltb}
 use borrow.Author.Tests.{ltb-false}
@@ -16,7 +16,8 @@ use Rattle.meaning.specs.Image.{names, slotsIn, terms, termOf, aTerm, aMask, ma
 use Rattle.layout.specs.declared.Walk.{Walk}
 use Rattle.layout.specs.declared.Walk.the-variants.{Next, Bad}
 use Rattle.layout.specs.Walks.{answer, mapped}
-use Rattle.layout.specs.Rows.{wordTerm, namedAt, namedBy}
+use Rattle.layout.specs.Rows.{wordTerm, namedAt, namedBy, maskedIn}
+use Rattle.layout.proofs.RowLaws.{masked-row}
 use Rattle.read_terms.proofs.MaskBits.{rest, below, rest-start, rest-on, rest-off, below-on, below-off, below-all}
 
 -- a term stored at b changes none below it
@@ -118,3 +119,17 @@ module _ (variables slots : ℕ) (s : List ℕ) (p : ℕ) where
   pub masked-on : (m q : ℕ) → field 8 (must bad-mask (aMask slots)) s p ≡ Got m q → terms finer variables (slotsIn m) s q ≡ masked finer variables slots s p
   unfolding masked
   masked-on m q e = rw e
+
+-- ---- a row whose third word is a mask and whose last eight were lent for its terms: what it says, and that its first two words stay
+
+pub lent-row : (row slots : List ℕ) (m : ℕ) → length row ≡ 11 → maskedIn (take 3 (set row 2 m) ++ slots) 0 ≡ namedBy m slots
+lent-row [] slots m e = absurd (omega arith)
+lent-row (x ∷ []) slots m e = absurd (omega arith)
+lent-row (x ∷ y ∷ []) slots m e = absurd (omega arith)
+lent-row (x ∷ y ∷ z ∷ row) slots m e = masked-row x y m slots
+
+pub lent-kept : (row slots : List ℕ) (m : ℕ) → length row ≡ 11 → take 2 (take 3 (set row 2 m) ++ slots) ≡ take 2 row
+lent-kept [] slots m e = absurd (omega arith)
+lent-kept (x ∷ []) slots m e = absurd (omega arith)
+lent-kept (x ∷ y ∷ []) slots m e = absurd (omega arith)
+lent-kept (x ∷ y ∷ z ∷ row) slots m e = refl

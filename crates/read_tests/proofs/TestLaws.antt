@@ -1,10 +1,11 @@
 -- A test, field by field, by what the code fetched; and the row that says it.
 use Prim.Native.Nat.{ℕ, suc, _%_, _<_}
-use mathlib.Core.Path.{_≡_, sym, ap, ap₂}
+use mathlib.Core.Path.{_≡_, refl, sym, ap₂, _∙_}
 use mathlib.Core.Bool.{_&&_}
-use mathlib.Core.List.{List, _∷_}
+use mathlib.Core.List.{List, [], _∷_}
 use native.Mathlib.Omega.{arith}
 use lib.Dec.{leb, ltb}
+use lib.ListN.{length, getD, set, take}
 use borrow.Author.Tests.{ltb-true}
 use Rattle.meaning.specs.Numbers.{finer, bad-buffer, bad-number}
 use Rattle.meaning.specs.Model.{Named, Test}
@@ -16,8 +17,8 @@ use Rattle.laws.specs.ReadLaws.{FieldRead, field-got, must-kept}
 use Rattle.layout.specs.declared.Walk.{Walk}
 use Rattle.layout.specs.declared.Walk.the-variants.{Next, Bad}
 use Rattle.layout.specs.Walks.{answer, inRange}
-use Rattle.layout.specs.Rows.{sizes, namedBy, testIn}
-use Rattle.layout.proofs.RowLaws.{masked-row}
+use Rattle.layout.specs.Rows.{sizes, maskedIn, testIn}
+use Rattle.layout.proofs.WordLaws.{below-get}
 
 -- a field that was read in a range is below its end
 pub range-below : (w number low end : ℕ) (s : List ℕ) (p n q : ℕ) → Got n q ≡ field w (must (suc number) (inRange low end)) s p → n < end
@@ -46,7 +47,16 @@ module _ (buffers : ℕ) (types : List ℕ) (variables least : ℕ) (s : List �
     test-on k o e₂ (Next r) ns e = rw (← e₁, ← e₂, ← e)
     test-on k o e₂ (Bad x y) ns e = rw (← e₁, ← e₂, ← e)
 
--- ---- the row of a test says that test
+-- ---- the row of a test says that test: its first two words were written, and stayed while the mask and its terms were
 
-pub test-row : (b k m : ℕ) (xs : List ℕ) → b < 8 → testIn (b ∷ k ∷ m ∷ xs) 0 ≡ aTest b k (namedBy m xs)
-test-row b k m xs h = let e : b % 8 ≡ b = omega arith in ap₂ (λ (x : ℕ) (l : List Named). aTest x k l) e (masked-row b k m xs)
+first-two : (row : List ℕ) (b k : ℕ) → length row ≡ 11 → let w = set (set row 0 b) 1 k in (getD w 0 0 ≡ b) × (getD w 1 0 ≡ k)
+first-two [] b k e = absurd (omega arith)
+first-two (x ∷ []) b k e = absurd (omega arith)
+first-two (x ∷ y ∷ row) b k e = (refl, refl)
+
+pub test-row : (row row′ : List ℕ) (b k : ℕ) → length row ≡ 11 → b < 8 → take 2 row′ ≡ take 2 (set (set row 0 b) 1 k) → testIn row′ 0 ≡ aTest b k (maskedIn row′ 0)
+test-row row row′ b k long h e =
+    let w : List ℕ = set (set row 0 b) 1 k in
+    let two = first-two row b k long in
+    let first : getD row′ 0 0 % 8 ≡ b = omega (arith, below-get 2 w row′ e 0 (omega arith), two .0) in
+    ap₂ (λ (x y : ℕ). aTest x y (maskedIn row′ 0)) first (below-get 2 w row′ e 1 (omega arith) ∙ two .1)

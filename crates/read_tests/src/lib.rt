@@ -7,22 +7,29 @@ ghost use Rattle.meaning.specs.Image.{test, tests};
 ghost use Rattle.layout.specs.Walks.{answer, Within};
 ghost use Rattle.layout.specs.Rows.{sizes, testIn, testsIn};
 use layout::ROW_WORDS;
-use layout::RowRead;
 use layout::Walk;
 use meaning::numbers::BAD_BUFFER;
 
-// One test: a buffer from `least` to below `buffers`, a type, a mask within the type's slots and its terms.
-fn test(image: &[u8], p: usize, buffers: u16, types: &[u16], variables: u16, least: u16) -> RowRead
-    requires { ⌜ (length (now image) ≤ 65536) × (p ≤ 8 * length (now image)) × (buffers ≤ 8) × (variables ≤ 8) × (0 < length (now types)) ⌝ }
-    ensures { λ r. ⌜ answer (r .walk) (testIn (r .words) 0) ≡ test finer (sizes buffers (now (types .entry))) variables least (now (image .entry)) p ⌝ }
-    ensures within { λ r. ⌜ Within (r .walk) (8 * length (now (image .entry))) ⌝ }
+// One test, into a row: a buffer from `least` to below `buffers`, a type, a mask within the type's slots and its terms.
+fn test(
+    image: &[u8],
+    p: usize,
+    buffers: u16,
+    types: &[u16],
+    variables: u16,
+    least: u16,
+    row: &mut [u16],
+) -> Walk
+    requires { ⌜ (length (now image) ≤ 65536) × (p ≤ 8 * length (now image)) × (buffers ≤ 8) × (variables ≤ 8) × (0 < length (now types)) × (length (now row) ≡ 11) ⌝ }
+    ensures { λ r. ⌜ answer r (testIn (now (row .exit)) 0) ≡ test finer (sizes buffers (now (types .entry))) variables least (now (image .entry)) p ⌝ }
+    ensures within { λ r. ⌜ Within r (8 * length (now (image .entry))) ⌝ }
 {
     let buffer = read_ranges::ranged(image, p, 3, least, buffers, BAD_BUFFER);
     let after_buffer = buffer.walk;
     let q = match after_buffer {
         Walk::Next(q) => q,
         Walk::Bad(number, at) => {
-            return layout::no_row(number, at);
+            return Walk::Bad(number, at);
         }
     };
     let isa = read_ranges::type_at(image, q, types, 0);
@@ -30,14 +37,13 @@ fn test(image: &[u8], p: usize, buffers: u16, types: &[u16], variables: u16, lea
     let o = match after_type {
         Walk::Next(o) => o,
         Walk::Bad(number, at) => {
-            return layout::no_row(number, at);
+            return Walk::Bad(number, at);
         }
     };
+    row[0] = buffer.value;
+    row[1] = isa.value;
     let k = isa.value as usize;
-    let named = read_terms::masked(image, o, types[k], variables);
-    let w = named.walk;
-    let xs = named.slots;
-    layout::row(w, buffer.value, isa.value, named.mask, xs)
+    read_terms::masked(image, o, types[k], variables, row)
 }
 
 // n tests into words, a row each, from o on; the buffers rise.
@@ -60,19 +66,25 @@ pub fn tests(
     let mut least = 0;
     let mut i = 0;
     while i < n {
-        let row = test(image, at, buffers, types, variables, least);
-        let walk = row.walk;
+        let q = o + ROW_WORDS * i;
+        let walk = test(
+            image,
+            at,
+            buffers,
+            types,
+            variables,
+            least,
+            &mut words[q..q + ROW_WORDS],
+        );
         match walk {
-            Walk::Next(q) => {
-                at = q;
+            Walk::Next(after) => {
+                at = after;
             }
             Walk::Bad(number, place) => {
                 return Walk::Bad(number, place);
             }
         }
-        layout::lay(words, o + ROW_WORDS * i, row);
-        let ws = row.words;
-        least = ws[0] % 8 + 1;
+        least = words[q] % 8 + 1;
         i += 1;
     }
     Walk::Next(at)

@@ -14,7 +14,7 @@ use Rattle.layout.specs.StateWords.{stateIn}
 use Rattle.match_best.specs.declared.Chosen.{Chosen}
 use Rattle.match_best.specs.Chosen.{candidateWith}
 use Rattle.match_best.proofs.TurnLaws.{Leads, leads-below, chosenFrom, chosen-end, chosen-skip, chosen-turn, chosen-kept}
-use Rattle.match_rule.proofs.MadeLaws.{all-copied}
+use Rattle.layout.proofs.WordLaws.{all-copied}
 use Rattle.fresh_best.specs.Matched.{entryIn, Entered}
 use Rattle.fresh_best.proofs.FreshLaws.{fresh-start}
 use Rattle.fresh_best.proofs.best.Statement.{statement}

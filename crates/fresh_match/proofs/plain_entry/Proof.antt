@@ -2,7 +2,7 @@
 use mathlib.Core.Path.{_∙_}
 use mathlib.Core.List.{_∷_}
 use lib.ListN.{replicate}
-use Rattle.match_rule.proofs.MadeLaws.{all-copied}
+use Rattle.layout.proofs.WordLaws.{all-copied}
 use borrow.Author.Needs.{needs}
 use Rattle.fresh_match.proofs.plain_entry.Statement.{statement}
 use Rattle.fresh_match.proofs.plain_entry.Tie as tie

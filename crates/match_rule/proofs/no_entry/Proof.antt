@@ -1,7 +1,7 @@
 -- `match_rule::no_entry` meets its contract: nine zeros over nine words.
 use lib.ListN.{replicate}
 use mathlib.Core.Path.{_∙_}
-use Rattle.match_rule.proofs.MadeLaws.{all-copied}
+use Rattle.layout.proofs.WordLaws.{all-copied}
 use borrow.Author.Needs.{needs}
 use Rattle.match_rule.proofs.no_entry.Statement.{statement}
 use Rattle.match_rule.proofs.no_entry.Tie as tie

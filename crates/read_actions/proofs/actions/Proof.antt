@@ -1,13 +1,15 @@
 -- `read_actions::actions` meets its contract: the actions laid so far, and those that are left from here, are the whole; the tests below them stay.
-use Prim.Native.Nat.{_≤_, _-_, _*_, _+_}
-use mathlib.Core.Path.{_≡_, refl, ap, _∙_}
+use Prim.Native.Nat.{ℕ, _≤_, _-_, _*_, _+_}
+use mathlib.Core.Path.{_≡_, refl, _∙_}
+use mathlib.Core.List.{List}
 use native.Mathlib.Omega.{arith}
 use lib.ListN.{length, take}
+use Rattle.meaning.specs.Model.{Action}
 use Rattle.meaning.specs.Numbers.{finer}
 use Rattle.meaning.specs.Image.{actions}
-use Rattle.layout.specs.Rows.{sizes, testsIn}
+use Rattle.layout.specs.Rows.{sizes, actionIn, testsIn}
 use Rattle.layout.proofs.WalkLaws.{bad-within, next-within}
-use Rattle.layout.proofs.WordLaws.{sets-take}
+use Rattle.layout.proofs.KeptLaws.{begin-alike}
 use Rattle.read_actions.proofs.ActionLaws.{acting, acting-start, acting-end, acting-bad, acting-turn}
 use borrow.Author.Needs.{needs}
 use Rattle.read_actions.proofs.actions.Statement.{statement}
@@ -29,11 +31,28 @@ start c = c .before .before .before .before
 abbrev turn : tie.After-action Inv-loop μ-loop → tie.In-loop Inv-loop μ-loop
 turn c = c .before .before
 
-abbrev read : tie.After-known-told Inv-loop μ-loop → tie.After-action Inv-loop μ-loop
-read c = c .before .before .before
+abbrev back : tie.After-slice-known2 Inv-loop μ-loop → tie.After-action Inv-loop μ-loop
+back c = c .before .before
 
-abbrev known : tie.After-ws Inv-loop μ-loop → tie.After-known-told Inv-loop μ-loop
-known c = c .before .before .before .before .before
+abbrev known : tie.After-known-told Inv-loop μ-loop → tie.After-w Inv-loop μ-loop
+known c = c .before
+
+abbrev read : tie.After-known-told Inv-loop μ-loop → tie.After-action Inv-loop μ-loop
+read c = back (known c .before .before)
+
+-- the place of the action's row, the rule's words as they came back, and the action that stands in them
+abbrev place : tie.After-action Inv-loop μ-loop → ℕ
+place c = 88 + 11 * turn c .before .loop .i
+
+abbrev laid : tie.After-action Inv-loop μ-loop → List ℕ
+laid c = c .action .last .1 .1 .1 .1 .1 .0
+
+abbrev acted : tie.After-action Inv-loop μ-loop → Action
+acted c = actionIn (laid c) (place c)
+
+-- the tests stay, whatever the action is
+tests-stay : (c : tie.After-action Inv-loop μ-loop) → take 88 (laid c) ≡ take 88 (start (turn c .before) .args .rule .now)
+tests-stay c = let l = turn c .before .loop in begin-alike 88 (place c) (l .rule) (laid c) (omega arith) (c .action .ensures .1 .1) ∙ l .inv .3
 
 -- ---- what is asked
 
@@ -41,6 +60,12 @@ loop-holds : tie.Need-loop-holds Inv-loop μ-loop
 loop-holds c =
     let a = c .before .before .before .args in
     (search needs, search needs, refl, refl, acting-start (sizes (a .buffers) (a .types .now)) (a .variables) (a .image .now) (a .rule .now) 0 (a .n) (a .m) (a .p))
+
+mul-o : tie.Need-mul-o Inv-loop μ-loop
+mul-o c = search needs
+
+add-o : tie.Need-add-o Inv-loop μ-loop
+add-o c = search needs
 
 action-requires : tie.Need-action-requires Inv-loop μ-loop
 action-requires c κs = search needs
@@ -56,27 +81,20 @@ same-length c = search needs
 
 returns : tie.Need-returns Inv-loop μ-loop
 returns c =
-    let d = c .before .before .before in
+    let d = back (c .before .before .before) in
     let t = turn d in
     let l = t .before .loop in
     let a = start (t .before) .args in
-    let r = d .action .result in
     let bad =
     acting-bad (sizes (a .buffers) (a .types .now)) (a .variables) (a .image .now) (a .rule .now) 0 (a .n) (a .m) (l .rule) (l .i) (l .least) (l .at)
-    (t .loop-test .taken) (search needs) (l .inv .3) (r .walk) (r .words) (d .action .ensures .0) _ _ (c .before .w2 .given .1) in
-    (bad ∙ l .inv .4, (bad-within _ _ _ _ refl, l .inv .3))
+    (t .loop-test .taken) (search needs) (l .inv .3) (d .action .result) (acted d) (d .action .ensures .0) _ _ (c .before .w2 .given .1) in
+    (bad ∙ l .inv .4, (bad-within _ _ _ _ refl, tests-stay d))
 
-mul-lay : tie.Need-mul-lay Inv-loop μ-loop
-mul-lay c = search needs
+mul-least : tie.Need-mul-least Inv-loop μ-loop
+mul-least c = search needs
 
-add-lay : tie.Need-add-lay Inv-loop μ-loop
-add-lay c = search needs
-
-lay-requires : tie.Need-lay-requires Inv-loop μ-loop
-lay-requires c κs = search needs
-
-array-read-least : tie.Need-array-read-least Inv-loop μ-loop
-array-read-least c = search needs
+slice-read-least : tie.Need-slice-read-least Inv-loop μ-loop
+slice-read-least c = search needs
 
 add-least : tie.Need-add-least Inv-loop μ-loop
 add-least c = search needs
@@ -89,22 +107,16 @@ loop-less c = search needs
 
 loop-again : tie.Need-loop-again Inv-loop μ-loop
 loop-again c =
-    let l = turn (read (known c)) .before .loop in
-    let a = start (turn (read (known c)) .before) .args in
-    let below = turn (read (known c)) .loop-test .taken in
-    let r = read (known c) .action .result in
-    let reads = read (known c) .action .ensures in
-    let next = known c .before .w .given .1 in
-    let laid = c .before .before .before .lay .ensures in
+    let d = read (c .before) in
+    let t = turn d in
+    let l = t .before .loop in
+    let a = start (t .before) .args in
+    let reads = d .action .ensures in
+    let next = known (c .before) .w .given .1 in
     let on =
     acting-turn (sizes (a .buffers) (a .types .now)) (a .variables) (a .image .now) (a .rule .now) 0 (a .n) (a .m) (l .rule) (l .i) (l .least) (l .at)
-    below (search needs) (l .inv .3) (r .walk) (r .words) (reads .0) _ _ next laid (search needs) (search needs) in (
-      search needs,
-      reads .1 _ next,
-      search needs,
-      ap (take 88) laid ∙ sets-take 88 (l .rule) (88 + 11 * l .i) (r .words) (omega arith) ∙ l .inv .3,
-      on ∙ l .inv .4,
-    )
+    (t .loop-test .taken) (search needs) (l .inv .3) (d .action .result) (acted d) (reads .0) (laid d) _ next refl (reads .1 .1) in
+    (search needs, reads .1 .0 _ next, search needs, tests-stay d, on ∙ l .inv .4)
 
 same-length-2 : tie.Need-same-length-2 Inv-loop μ-loop
 same-length-2 c = search needs
@@ -124,15 +136,15 @@ actions-spec =
     Inv-loop
     μ-loop
     loop-holds
+    mul-o
+    add-o
     action-requires
     enum-known-w
     enum-known-w-2
     same-length
     returns
-    mul-lay
-    add-lay
-    lay-requires
-    array-read-least
+    mul-least
+    slice-read-least
     add-least
     add-i
     loop-less

@@ -1,5 +1,7 @@
 -- `read_facts::chunk` meets its contract: the type is read first, and then as many values as it has slots.
+use Prim.Native.Nat.{ℕ}
 use mathlib.Core.Path.{_≡_, refl, sym, _∙_}
+use mathlib.Core.List.{List}
 use Rattle.meaning.specs.Numbers.{bad-number}
 use Rattle.meaning.specs.Read.{Got, field, must}
 use Rattle.meaning.specs.Image.{aType}
@@ -12,10 +14,17 @@ use Rattle.read_facts.proofs.chunk.Tie as tie
 -- ---- the places of the code, each named once
 
 abbrev start : tie.After-type-at → tie.Start
-start c = c .before .before .before
+start c = c .before .before .before .before
 
 abbrev typed : tie.After-known-told → tie.After-type-at
 typed c = c .before .before .before
+
+abbrev filled : tie.After-slice-known2 → tie.After-values
+filled c = c .before .before
+
+-- the slot values, as they came back
+abbrev own : tie.After-values → List ℕ
+own c = c .values .last .1 .1 .1 .0
 
 -- the type that was read
 read-type : (c : tie.After-known-told)
@@ -44,17 +53,20 @@ shared-slice-read-values c =
     type-there (a .types .now) (a .least) (a .image .now) (a .p) _ _ (read-type k)
 
 values-requires : tie.Need-values-requires
-values-requires c κs = let k = c .before .before in (search needs, typed k .type-at .ensures .1 _ (k .before .w .given .1), start (typed k) .pre .2 _)
+values-requires c κs = let k = c .before .before .before in (search needs, typed k .type-at .ensures .1 _ (k .before .w .given .1), start (typed k) .pre .2 _, start (typed k) .pre .5)
 
 enum-known-w-2 : tie.Need-enum-known-w-2
 enum-known-w-2 c = search needs
 
+same-length : tie.Need-same-length
+same-length c = search needs
+
 returns : tie.Need-returns
 returns c =
-    let v = c .before .values in
-    let k = c .before .before .before .before in
+    let v = filled c .values in
+    let k = filled c .before .before .before .before in
     let a = start (typed k) .args in
-    (chunk-on (a .types .now) (a .least) (a .image .now) (a .p) _ _ (v .result .walk) (v .result .slots) (read-type k) (v .ensures .0), v .ensures .1)
+    (chunk-on (a .types .now) (a .least) (a .image .now) (a .p) _ _ (v .result) (own (filled c)) (read-type k) (v .ensures .0), v .ensures .1)
 
 returns-2 : tie.Need-returns-2
 returns-2 c =
@@ -74,5 +86,6 @@ chunk-spec =
     shared-slice-read-values
     values-requires
     enum-known-w-2
+    same-length
     returns
     returns-2)

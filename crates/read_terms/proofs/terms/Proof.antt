@@ -1,37 +1,34 @@
--- `read_terms::terms` meets its contract: what was read stands at its slots, and what is left of the mask is read from here.
-use Prim.Native.Nat.{ℕ, suc, _≤_, _<_, _-_, _*_, _+_}
+-- `read_terms::terms` meets its contract: what was read stands at its slots, what is left of the mask is read from here, and the ones count it.
+use Prim.Native.Nat.{suc, _≤_, _<_, _-_, _*_, _+_}
 use mathlib.Core.Path.{_≡_, refl, sym, ap, _∙_}
 use mathlib.Core.Bool.{true}
-use mathlib.Core.List.{List}
 use mathlib.Core.Logic.{⊎-elim}
 use borrow.Author.Needs.{needs}
 use native.Mathlib.Omega.{arith}
-use lib.Count.{ones}
 use lib.ListN.{length, length-set}
-use Rattle.meaning.specs.Read.{Got, must}
+use Rattle.meaning.specs.Read.{must}
 use Rattle.meaning.specs.Numbers.{finer, bad-variable}
 use Rattle.meaning.specs.Image.{aTerm, names, terms, slotsIn}
 use Rattle.laws.specs.ImageLaws.{slots-ones}
-use Rattle.layout.specs.Rows.{namedBy}
 use Rattle.layout.proofs.WalkLaws.{bad-within, next-within}
 use Rattle.layout.proofs.FieldReads.{there, read-short, read-kept, read-broken, term-kept, term-big}
-use Rattle.read_terms.proofs.MaskBits.{rest, rest-start, rest-on, rest-off}
-use Rattle.read_terms.proofs.MaskWalk.{Walk, walk-start, walk-next, walk-on, walk-off, walk-end}
+use Rattle.read_terms.proofs.MaskBits.{rest, rest-start, rest-on, rest-off, none-left, some-left}
+use Rattle.read_terms.proofs.MaskWalk.{Walk, walk-start, walk-next, walk-on, walk-off}
 use Rattle.read_terms.proofs.TermLaws.{onTo, on-start, on-skip, on-bad, on-turn, on-end}
 use Rattle.read_terms.proofs.terms.Statement.{statement}
 use Rattle.read_terms.proofs.terms.Tie as tie
 
 abbrev Inv-loop : tie.InvT-loop
-Inv-loop image p mask variables xs₀ at₀ r₀ b₀ xs at r b = Walk mask b r × (at ≤ 8 * length image) × (length xs ≡ 8) ×
-    (onTo mask variables image xs b at ≡ terms finer variables (slotsIn mask) image p) × (at + 13 * length (rest mask b) ≡ p + 13 * length (slotsIn mask))
+Inv-loop image p mask variables slots₀ at₀ r₀ n₀ b₀ slots at r n b = Walk mask b r × (at ≤ 8 * length image) × (length slots ≡ 8) ×
+    (onTo mask variables image slots b at ≡ terms finer variables (slotsIn mask) image p) × (n ≡ length (rest mask b))
 
 abbrev μ-loop : tie.MeasureT-loop
-μ-loop image p mask variables xs₀ at₀ r₀ b₀ xs at r b = 8 - b
+μ-loop image p mask variables slots₀ at₀ r₀ n₀ b₀ slots at r n b = 8 - b
 
 -- ---- the places of the code, each named once
 
 abbrev start : tie.At-loop Inv-loop μ-loop → tie.Start Inv-loop μ-loop
-start c = c .before .before
+start c = c .before .before .before
 
 abbrev turn : tie.After-field-at Inv-loop μ-loop → tie.In-loop Inv-loop μ-loop
 turn c = c .before .before
@@ -41,20 +38,22 @@ fetched c = c .before .before .before
 
 -- a slot is left
 low : (c : tie.In-loop Inv-loop μ-loop) → c .before .loop .b < 8
-low c = omega (arith, c .loop-test .taken, c .before .loop .inv .0 .small)
+low c = let l = c .before .loop in some-left (start (c .before) .args .mask) (l .b) (omega (arith, c .loop-test .taken, l .inv .4))
 
 -- where a term is fetched, the mask names the slot
 named : (c : tie.After-field-at Inv-loop μ-loop) → names (start (turn c .before) .args .mask) (turn c .before .loop .b) ≡ true
 named c = walk-on (turn c .before .loop .inv .0) (low (turn c)) (c .before .if1 .taken)
 
 loop-holds : tie.Need-loop-holds Inv-loop μ-loop
-loop-holds c = let a = c .before .args in (
-  walk-start (a .mask),
-  search needs,
-  refl,
-  on-start (a .mask) (a .variables) (a .image .now) _ (a .p),
-  ap (λ (l : List ℕ). a .p + 13 * length l) (rest-start (a .mask)),
-)
+loop-holds c =
+    let s = c .before .before in
+    let a = s .args in (
+      walk-start (a .mask),
+      search needs,
+      search needs,
+      on-start (a .mask) (a .variables) (a .image .now) _ (a .p),
+      sym (slots-ones (a .mask) (s .pre .2)) ∙ ap length (sym (rest-start (a .mask))),
+    )
 
 field-at-requires : tie.Need-field-at-requires Inv-loop μ-loop
 field-at-requires c κs = search needs
@@ -65,12 +64,15 @@ enum-known-t c = search needs
 enum-told : tie.Need-enum-told Inv-loop μ-loop
 enum-told c = search needs
 
+same-length : tie.Need-same-length Inv-loop μ-loop
+same-length c = search needs
+
 returns : tie.Need-returns Inv-loop μ-loop
 returns c =
     let d = c .before .before in
     let l = turn d .before .loop in
     let a = start (turn d .before) .args in (
-      on-bad (a .mask) (a .variables) (a .image .now) (l .xs) (l .xs) (l .b) (l .at) (l .at) (low (turn d)) (named d) _ _
+      on-bad (a .mask) (a .variables) (a .image .now) (l .slots) (l .slots) (l .b) (l .at) (l .at) (low (turn d)) (named d) _ _
           (read-short (a .image .now) 13 (l .at) (must bad-variable (aTerm (a .variables))) (rw (c .enum-told .given .1) at (d .field-at .ensures))) ∙ l .inv .3,
       bad-within _ _ _ _ refl,
     )
@@ -78,34 +80,40 @@ returns c =
 add-if2 : tie.Need-add-if2 Inv-loop μ-loop
 add-if2 c = search needs
 
+same-length-2 : tie.Need-same-length-2 Inv-loop μ-loop
+same-length-2 c = search needs
+
 returns-2 : tie.Need-returns-2 Inv-loop μ-loop
 returns-2 c =
     let d = c .before .before .before .before in
     let e = rw (c .before .before .t .given .1) at (d .field-at .ensures) in
     let l = turn d .before .loop in
     let a = start (turn d .before) .args in (
-      on-bad (a .mask) (a .variables) (a .image .now) (l .xs) (l .xs) (l .b) (l .at) (l .at) (low (turn d)) (named d) _ _
+      on-bad (a .mask) (a .variables) (a .image .now) (l .slots) (l .slots) (l .b) (l .at) (l .at) (low (turn d)) (named d) _ _
           (read-broken (a .image .now) 13 (l .at) (must bad-variable (aTerm (a .variables))) _ 11 e (term-big (a .variables) _ (c .if2 .taken))) ∙ l .inv .3,
       bad-within _ _ _ _ refl,
     )
 
-mul-xs : tie.Need-mul-xs Inv-loop μ-loop
-mul-xs c = let h = low (turn (fetched (c .before))) in search needs
+mul-slots : tie.Need-mul-slots Inv-loop μ-loop
+mul-slots c = let h = low (turn (fetched (c .before))) in search needs
 
-array-write-xs : tie.Need-array-write-xs Inv-loop μ-loop
-array-write-xs c = let h = low (turn (fetched (c .before))) in search needs
+slice-write-slots : tie.Need-slice-write-slots Inv-loop μ-loop
+slice-write-slots c = let h = low (turn (fetched (c .before))) in search needs
 
 add-at : tie.Need-add-at Inv-loop μ-loop
 add-at c = search needs
+
+sub-left : tie.Need-sub-left Inv-loop μ-loop
+sub-left c = search needs
 
 mul-rest : tie.Need-mul-rest Inv-loop μ-loop
 mul-rest c = search needs
 
 add-b : tie.Need-add-b Inv-loop μ-loop
-add-b c = search needs
+add-b c = let h = low (c .before) in search needs
 
 loop-less : tie.Need-loop-less Inv-loop μ-loop
-loop-less c = search needs
+loop-less c = let h = low (c .before) in search needs
 
 loop-again : tie.Need-loop-again Inv-loop μ-loop
 loop-again c =
@@ -120,46 +128,30 @@ loop-again c =
     let k : length (rest (a .mask) (l .b)) ≡ suc (length (rest (a .mask) (l .b + 1))) = ap length (rest-on (a .mask) (l .b) h on) in (
       walk-next walk h,
       rw (w .7) (there (a .image .now) 13 (l .at) _ e),
-      ap length (w .6) ∙ length-set (l .xs) (l .b) _ ∙ l .inv .2,
-      on-turn (a .mask) (a .variables) (a .image .now) (l .xs) (c .if1 .xs) (l .b) (l .at) (c .if1 .at) h on _ _ (search needs) (w .5 .left) (l .inv .2)
+      ap length (w .6) ∙ length-set (l .slots) (l .b) _ ∙ l .inv .2,
+      on-turn (a .mask) (a .variables) (a .image .now) (l .slots) (c .if1 .slots) (l .b) (l .at) (c .if1 .at) h on _ _ (search needs) (w .5 .left) (l .inv .2)
           (read-kept (a .image .now) 13 (l .at) (must bad-variable (aTerm (a .variables))) _ e (term-kept (a .variables) _ (w .5 .left))) (w .6) (w .7) ∙ l .inv .3,
-      omega (arith, k, w .7, l .inv .4),
+      omega (arith, k, w .8, l .inv .4),
     ))
     (λ w.
     let off = walk-off walk h (w .0 .left) in (
       walk-next walk h,
       rw (w .2) (l .inv .1),
       ap length (w .1) ∙ l .inv .2,
-      on-skip (a .mask) (a .variables) (a .image .now) (l .xs) (c .if1 .xs) (l .b) (l .at) (c .if1 .at) h off (w .1) (w .2) ∙ l .inv .3,
-      rw (w .2) (ap (λ (n : List ℕ). l .at + 13 * length n) (sym (rest-off (a .mask) (l .b) h off)) ∙ l .inv .4),
+      on-skip (a .mask) (a .variables) (a .image .now) (l .slots) (c .if1 .slots) (l .b) (l .at) (c .if1 .at) h off (w .1) (w .2) ∙ l .inv .3,
+      w .3 ∙ l .inv .4 ∙ ap length (rest-off (a .mask) (l .b) h off),
     ))
     (c .if1 .came)
 
--- the ones of the mask tell where the terms end
-ends : (c : tie.After-loop Inv-loop μ-loop) → start (c .before) .args .p + 13 * ones (start (c .before) .args .mask) ≡ c .before .loop .at
-ends c =
-    let l = c .before .loop in
-    let a = start (c .before) .args in
-    let none : length (rest (a .mask) (l .b)) ≡ 0 = ap length (walk-end (l .inv .0) (omega arith)) in
-    omega (arith, none, l .inv .4, slots-ones (a .mask) (search needs))
-
-cast-ones : tie.Need-cast-ones Inv-loop μ-loop
-cast-ones c = record { fits = omega (arith, ends c, c .before .loop .inv .1, start (c .before) .pre .0) }
-
-mul-end : tie.Need-mul-end Inv-loop μ-loop
-mul-end c = record { fits = omega (arith, ends c, c .before .loop .inv .1, start (c .before) .pre .0) }
-
-add-end : tie.Need-add-end Inv-loop μ-loop
-add-end c = record { fits = omega (arith, ends c, c .before .loop .inv .1, start (c .before) .pre .0) }
+same-length-3 : tie.Need-same-length-3 Inv-loop μ-loop
+same-length-3 c = search needs
 
 returns-3 : tie.Need-returns-3 Inv-loop μ-loop
 returns-3 c =
     let l = c .before .loop in
-    let a = start (c .before) .args in (
-      ap (λ (n : ℕ). Got (namedBy (a .mask) (l .xs)) n) (ends c)
-          ∙ on-end (a .mask) (a .variables) (a .image .now) (l .xs) (l .b) (l .at) (l .inv .0 .within) (walk-end (l .inv .0) (omega arith)) ∙ l .inv .3,
-      next-within _ _ _ refl (omega (arith, ends c, l .inv .1)),
-    )
+    let a = start (c .before) .args in
+    let none = none-left (a .mask) (l .b) (omega (arith, l .inv .4, c .loop-test .left)) in
+    (on-end (a .mask) (a .variables) (a .image .now) (l .slots) (l .b) (l .at) (l .inv .0 .within) none ∙ l .inv .3, next-within _ _ _ refl (l .inv .1))
 
 pub terms-spec : {M : Type 1} → statement M
 terms-spec =
@@ -171,17 +163,18 @@ terms-spec =
     field-at-requires
     enum-known-t
     enum-told
+    same-length
     returns
     add-if2
+    same-length-2
     returns-2
-    mul-xs
-    array-write-xs
+    mul-slots
+    slice-write-slots
     add-at
+    sub-left
     mul-rest
     add-b
     loop-less
     loop-again
-    cast-ones
-    mul-end
-    add-end
+    same-length-3
     returns-3)

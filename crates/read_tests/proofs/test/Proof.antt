@@ -1,16 +1,14 @@
 -- `read_tests::test` meets its contract: buffer, type, mask with terms, each read from where the one before ends.
 use Prim.Native.Nat.{ℕ, _*_, _<_}
-use mathlib.Core.Path.{_≡_, sym, ap, ap₂, subst, _∙_}
+use mathlib.Core.Path.{_≡_, refl, sym, ap, _∙_}
 use mathlib.Core.List.{List}
 use native.Mathlib.Omega.{arith}
-use lib.ListN.{length}
+use lib.ListN.{length, set, length-set}
 use Rattle.meaning.specs.Numbers.{bad-buffer, bad-number}
-use Rattle.meaning.specs.Model.{Test}
 use Rattle.meaning.specs.Read.{Got, field, must}
 use Rattle.meaning.specs.Image.{aType}
-use Rattle.layout.specs.declared.Walk.{Walk}
-use Rattle.layout.specs.Walks.{answer, inRange, Within}
-use Rattle.layout.specs.Rows.{namedBy, testIn}
+use Rattle.layout.specs.Walks.{answer, inRange}
+use Rattle.layout.specs.Rows.{maskedIn}
 use Rattle.layout.proofs.WalkLaws.{answer-bad, answer-next, bad-within}
 use Rattle.read_tests.proofs.TestLaws.{range-below, test-first, test-second, test-on, test-row}
 use borrow.Author.Needs.{needs}
@@ -20,7 +18,7 @@ use Rattle.read_tests.proofs.test.Tie as tie
 -- ---- the places of the code, each named once
 
 abbrev start : tie.After-ranged → tie.Start
-start c = c .before .before .before
+start c = c .before .before .before .before
 
 abbrev judged : tie.After-known-told → tie.After-ranged
 judged c = c .before .before .before
@@ -40,6 +38,13 @@ read-type : (c : tie.After-known-told3)
     Got (typed c .type-at .result .value) (c .before .after-type .given .0 .0) ≡ field 6 (must bad-number (aType (a .types .now) 0)) (a .image .now) (k .before .after-buffer .given .0 .0)
 read-type c = let t = typed c .type-at in sym (answer-next _ (t .result .value) _ (c .before .after-type .given .1)) ∙ t .ensures .0
 
+-- the row with its first two words, as long as it was
+abbrev begun : tie.After-known-told3 → List ℕ
+begun c = set (set (start (judged (typed c .before)) .args .row .now) 0 (judged (typed c .before) .ranged .result .value)) 1 (typed c .type-at .result .value)
+
+as-long : (c : tie.After-known-told3) → length (begun c) ≡ 11
+as-long c = length-set (set (start (judged (typed c .before)) .args .row .now) 0 _) 1 _ ∙ length-set (start (judged (typed c .before)) .args .row .now) 0 _ ∙ start (judged (typed c .before)) .pre .5
+
 -- ---- what is asked
 
 ranged-requires : tie.Need-ranged-requires
@@ -51,17 +56,12 @@ enum-known-after-buffer c = search needs
 enum-known-after-buffer-2 : tie.Need-enum-known-after-buffer-2
 enum-known-after-buffer-2 c = search needs
 
-no-row-requires : tie.Need-no-row-requires
-no-row-requires c κs = search needs
-
 returns : tie.Need-returns
 returns c =
-    let r = c .before .before .before .before in
+    let r = c .before .before .before in
     let a = start r .args in
-    let bad = sym (answer-bad _ (r .ranged .result .value) _ _ (c .before .before .after-buffer2 .given .1)) ∙ r .ranged .ensures .0 in (
-      answer-bad _ _ _ _ (c .no-row .ensures) ∙ test-first (a .buffers) (a .types .now) (a .variables) (a .least) (a .image .now) (a .p) _ _ bad,
-      bad-within _ _ _ _ (c .no-row .ensures),
-    )
+    let bad = sym (answer-bad _ (r .ranged .result .value) _ _ (c .before .after-buffer2 .given .1)) ∙ r .ranged .ensures .0 in
+    (test-first (a .buffers) (a .types .now) (a .variables) (a .least) (a .image .now) (a .p) _ _ bad, bad-within _ _ _ _ refl)
 
 type-at-requires : tie.Need-type-at-requires
 type-at-requires c κs = (search needs, judged c .ranged .ensures .1 _ (c .before .after-buffer .given .1), search needs, search needs)
@@ -72,17 +72,18 @@ enum-known-after-type c = search needs
 enum-known-after-type-2 : tie.Need-enum-known-after-type-2
 enum-known-after-type-2 c = search needs
 
-no-row-requires-2 : tie.Need-no-row-requires-2
-no-row-requires-2 c κs = search needs
-
 returns-2 : tie.Need-returns-2
 returns-2 c =
-    let t = c .before .before .before .before in
+    let t = c .before .before .before in
     let a = start (judged (t .before)) .args in
-    let bad = sym (answer-bad _ (t .type-at .result .value) _ _ (c .before .before .after-type2 .given .1)) ∙ t .type-at .ensures .0 in (
-      answer-bad _ _ _ _ (c .no-row2 .ensures) ∙ test-second (a .buffers) (a .types .now) (a .variables) (a .least) (a .image .now) (a .p) _ _ (read-buffer (t .before)) _ _ bad,
-      bad-within _ _ _ _ (c .no-row2 .ensures),
-    )
+    let bad = sym (answer-bad _ (t .type-at .result .value) _ _ (c .before .after-type2 .given .1)) ∙ t .type-at .ensures .0 in
+    (test-second (a .buffers) (a .types .now) (a .variables) (a .least) (a .image .now) (a .p) _ _ (read-buffer (t .before)) _ _ bad, bad-within _ _ _ _ refl)
+
+slice-write-row : tie.Need-slice-write-row
+slice-write-row c = search needs
+
+slice-write-row-2 : tie.Need-slice-write-row-2
+slice-write-row-2 c = search needs
 
 cast-k : tie.Need-cast-k
 cast-k c = search needs
@@ -97,24 +98,30 @@ shared-slice-read-masked c =
     omega (arith, range-below 6 2 0 (length (a .types .now)) (a .image .now) _ _ _ (read-type k))
 
 masked-requires : tie.Need-masked-requires
-masked-requires c κs = let k = c .before .before in (search needs, typed k .type-at .ensures .1 _ (k .before .after-type .given .1), search needs)
+masked-requires c κs =
+    let k = c .before .before .before in
+    (search needs, typed k .type-at .ensures .1 _ (k .before .after-type .given .1), search needs, as-long k)
 
-row-requires : tie.Need-row-requires
-row-requires c κs = search needs
+same-length : tie.Need-same-length
+same-length c =
+    let m = c .before .before in
+    let k = m .before .before .before .before in
+    m .masked .kept .1 .1 .1 .1 .0 ∙ as-long k ∙ sym (start (judged (typed k .before)) .pre .5)
 
 returns-3 : tie.Need-returns-3
 returns-3 c =
     let m = c .before .before .masked in
-    let k = c .before .before .before .before .before in
+    let k = c .before .before .before .before .before .before in
     let d = typed k .before in
-    let a = start (judged d) .args in
+    let s = start (judged d) in
+    let a = s .args in
     let b = judged d .ranged .result .value in
     let isa = typed k .type-at .result .value in
-    let r = m .result in
-    let h : b < 8 = omega (arith, range-below 3 12 (a .least) (a .buffers) (a .image .now) (a .p) _ _ (read-buffer d), start (judged d) .pre .2) in (
-      ap₂ (λ (w : Walk) (l : List ℕ). answer w (testIn l 0)) (c .row .ensures .0) (c .row .ensures .1) ∙ ap (λ (t : Test). answer (r .walk) t) (test-row b isa (r .mask) (r .slots) h)
-          ∙ test-on (a .buffers) (a .types .now) (a .variables) (a .least) (a .image .now) (a .p) b _ (read-buffer d) isa _ (read-type k) (r .walk) (namedBy (r .mask) (r .slots)) (m .ensures .0),
-      subst (λ (w : Walk). Within w (8 * length (a .image .now))) (sym (c .row .ensures .0)) (m .ensures .1),
+    let row = m .last .1 .1 .1 .1 .0 in
+    let h : b < 8 = omega (arith, range-below 3 12 (a .least) (a .buffers) (a .image .now) (a .p) _ _ (read-buffer d), s .pre .2) in (
+      ap (answer (m .result)) (test-row (a .row .now) row b isa (s .pre .5) h (m .ensures .1 .1))
+          ∙ test-on (a .buffers) (a .types .now) (a .variables) (a .least) (a .image .now) (a .p) b _ (read-buffer d) isa _ (read-type k) (m .result) (maskedIn row 0) (m .ensures .0),
+      m .ensures .1 .0,
     )
 
 pub test-spec : {M : Type 1} → statement M
@@ -124,16 +131,16 @@ test-spec =
     ranged-requires
     enum-known-after-buffer
     enum-known-after-buffer-2
-    no-row-requires
     returns
     type-at-requires
     enum-known-after-type
     enum-known-after-type-2
-    no-row-requires-2
     returns-2
+    slice-write-row
+    slice-write-row-2
     cast-k
     mul-masked
     shared-slice-read-masked
     masked-requires
-    row-requires
+    same-length
     returns-3)
