@@ -11,6 +11,7 @@ ghost use Rattle.read_image.specs.Whole.{Begun};
 ghost use Rattle.call_open.specs.Answers.{openedIn};
 use call_accept::Taken;
 use layout::LARGE_TAPE;
+use layout::MIDDLE_TAPE;
 use layout::OPENING_AT;
 use layout::Plan;
 use layout::PlanRead;
@@ -75,6 +76,10 @@ pub fn open(image: &[u8], table: &mut [u16]) -> OpenDone
     let plan = begun.plan;
     if plan.end <= SMALL_TAPE {
         let mut tape = [0u16; SMALL_TAPE];
+        return open_on(image, begun, table, &mut tape);
+    }
+    if plan.end <= MIDDLE_TAPE {
+        let mut tape = [0u16; MIDDLE_TAPE];
         return open_on(image, begun, table, &mut tape);
     }
     let mut tape = [0u16; LARGE_TAPE];

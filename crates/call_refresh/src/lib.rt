@@ -10,6 +10,7 @@ ghost use Rattle.read_image.specs.Whole.{Begun};
 ghost use Rattle.call_refresh.specs.Answers.{refreshedIn};
 use call_accept::Taken;
 use layout::LARGE_TAPE;
+use layout::MIDDLE_TAPE;
 use layout::Plan;
 use layout::PlanRead;
 use layout::SMALL_TAPE;
@@ -98,6 +99,10 @@ pub fn refresh(image: &[u8], state: State, mark: u16, table: &mut [u16]) -> Refr
     let plan = begun.plan;
     if plan.end <= SMALL_TAPE {
         let mut tape = [0u16; SMALL_TAPE];
+        return refresh_on(image, begun, state, mark, table, &mut tape);
+    }
+    if plan.end <= MIDDLE_TAPE {
+        let mut tape = [0u16; MIDDLE_TAPE];
         return refresh_on(image, begun, state, mark, table, &mut tape);
     }
     let mut tape = [0u16; LARGE_TAPE];

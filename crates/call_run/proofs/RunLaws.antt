@@ -9,7 +9,7 @@ use Rattle.meaning.specs.Model.{Model}
 use Rattle.meaning.specs.State.{wellFormed}
 use Rattle.meaning.specs.Read.{Read, Refused, Got}
 use Rattle.meaning.specs.Run.{going, ends}
-use Rattle.meaning.specs.Calls.{placeOf, ranBy, accepted, tracedBy}
+use Rattle.meaning.specs.Calls.{placeOf, ranBy, accepted, tracedBy, traceOf, runOf}
 use Rattle.layout.specs.StateWords.{buffersIn, stateIn}
 use Rattle.layout.specs.declared.Plan.{Plan}
 use Rattle.layout.specs.Plans.{modelOn}
@@ -23,7 +23,7 @@ use Rattle.call_accept.specs.declared.Taken.the-variants as taken
 use Rattle.call_accept.specs.Acceptance.{settled, TakenMet}
 use Rattle.call_accept.proofs.TakenLaws.{place-settled, by-refused, by-accepted}
 use Rattle.call_run.specs.declared.RunDone.{RunDone}
-use Rattle.call_run.specs.Answers.{RunMet}
+use Rattle.call_run.specs.Answers.{RunMet, ranBack}
 
 abbrev done : ℕ → ℕ → State → ℕ → RunDone
 done number at s made = record { number = number; position = at; state = s; made = made }
@@ -52,6 +52,12 @@ module _ (s : State) (steps : ℕ) (t : Taken) (p : Plan) (image table tape : Li
       → RunMet r (accepted image table) s table table′ steps lent lent′
   run-accepted e r table′ lent lent′ g =
       rw (by-accepted placeOf place-settled t p image table tape met e, by-accepted (tracedBy (going s table) steps) ran-settled t p image table tape met e) at g
+
+-- what is met of an image is the run that is asked for, with its events
+pub as-asked : (image table table′ lent lent′ : List ℕ) (s : State) (steps : ℕ) (r : RunDone) → RunMet r (accepted image table) s table table′ steps lent lent′
+    → (ranBack r table′ ≡ runOf image s table steps) × (lent′ ≡ inscribed lent 0 (traceOf image s table steps .events))
+unfolding runOf traceOf
+as-asked image table table′ lent lent′ s steps r met = (met .is-run, met .events)
 
 -- ---- of a model with these buffers and types, whose state stands in the words w
 

@@ -11,6 +11,7 @@ ghost use Rattle.step_note.specs.Events.{inscribed};
 ghost use Rattle.call_run.specs.Answers.{RunMet, ranBack};
 use call_accept::Taken;
 use layout::LARGE_TAPE;
+use layout::MIDDLE_TAPE;
 use layout::Plan;
 use layout::PlanRead;
 use layout::SMALL_TAPE;
@@ -110,6 +111,84 @@ fn run_on(
     run_for(table, plan, tape, state, steps, events, sets)
 }
 
+// Running on the small tape, with sets for few rules. Each way is a function, so that the stack holds one tape at a time.
+fn run_small(
+    image: &[u8],
+    begun: PlanRead,
+    state: State,
+    table: &mut [u16],
+    steps: u16,
+    events: &mut [u32],
+) -> RunDone
+    requires { ⌜ Begun begun (now image) × (begun .plan .end ≤ 3904) ⌝ }
+    ensures { λ r. ⌜ RunMet r (accepted (now (image .entry)) (now (table .entry))) state (now (table .entry)) (now (table .exit)) steps (now (events .entry)) (now (events .exit)) ⌝ }
+{
+    let mut tape = [0u16; SMALL_TAPE];
+    let mut sets = [0u64; SMALL_SETS];
+    run_on(
+        image,
+        begun,
+        state,
+        table,
+        steps,
+        events,
+        &mut tape,
+        &mut sets,
+    )
+}
+
+// Running on the middle tape, with sets for the most rules.
+fn run_middle(
+    image: &[u8],
+    begun: PlanRead,
+    state: State,
+    table: &mut [u16],
+    steps: u16,
+    events: &mut [u32],
+) -> RunDone
+    requires { ⌜ Begun begun (now image) × (begun .plan .end ≤ 13312) ⌝ }
+    ensures { λ r. ⌜ RunMet r (accepted (now (image .entry)) (now (table .entry))) state (now (table .entry)) (now (table .exit)) steps (now (events .entry)) (now (events .exit)) ⌝ }
+{
+    let mut tape = [0u16; MIDDLE_TAPE];
+    let mut sets = [0u64; LARGE_SETS];
+    run_on(
+        image,
+        begun,
+        state,
+        table,
+        steps,
+        events,
+        &mut tape,
+        &mut sets,
+    )
+}
+
+// Running on the large tape, which has room for every image, with sets for the most rules.
+fn run_large(
+    image: &[u8],
+    begun: PlanRead,
+    state: State,
+    table: &mut [u16],
+    steps: u16,
+    events: &mut [u32],
+) -> RunDone
+    requires { ⌜ Begun begun (now image) ⌝ }
+    ensures { λ r. ⌜ RunMet r (accepted (now (image .entry)) (now (table .entry))) state (now (table .entry)) (now (table .exit)) steps (now (events .entry)) (now (events .exit)) ⌝ }
+{
+    let mut tape = [0u16; LARGE_TAPE];
+    let mut sets = [0u64; LARGE_SETS];
+    run_on(
+        image,
+        begun,
+        state,
+        table,
+        steps,
+        events,
+        &mut tape,
+        &mut sets,
+    )
+}
+
 // Runs as `run` does, and notes each step in three lent words, as long as there is room: the clock after it, 0 and the rule that fired or 1 and the ms waited.
 pub fn trace(
     image: &[u8],
@@ -124,31 +203,12 @@ pub fn trace(
     let begun = read_image::begin(image);
     let plan = begun.plan;
     if plan.end <= SMALL_TAPE {
-        let mut tape = [0u16; SMALL_TAPE];
-        let mut sets = [0u64; SMALL_SETS];
-        return run_on(
-            image,
-            begun,
-            state,
-            table,
-            steps,
-            events,
-            &mut tape,
-            &mut sets,
-        );
+        return run_small(image, begun, state, table, steps, events);
     }
-    let mut tape = [0u16; LARGE_TAPE];
-    let mut sets = [0u64; LARGE_SETS];
-    run_on(
-        image,
-        begun,
-        state,
-        table,
-        steps,
-        events,
-        &mut tape,
-        &mut sets,
-    )
+    if plan.end <= MIDDLE_TAPE {
+        return run_middle(image, begun, state, table, steps, events);
+    }
+    run_large(image, begun, state, table, steps, events)
 }
 
 // Runs at most `steps` steps from a state: the number, the position of a refused field, the state and the steps made; the table is refreshed after each step.

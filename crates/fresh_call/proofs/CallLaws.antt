@@ -9,7 +9,7 @@ use Rattle.meaning.specs.State.{wellFormed}
 use Rattle.meaning.specs.Read.{Refused, Got}
 use Rattle.meaning.specs.Image.{decode}
 use Rattle.meaning.specs.Run.{ends}
-use Rattle.meaning.specs.Fresh.{freshRanBy}
+use Rattle.meaning.specs.Fresh.{freshRanBy, freshTraceOf, freshOf}
 use Rattle.layout.specs.declared.Walk.{Walk}
 use Rattle.layout.specs.declared.Walk.the-variants.{Next, Bad}
 use Rattle.layout.specs.declared.Plan.{Plan}
@@ -19,12 +19,12 @@ use Rattle.layout.proofs.WalkLaws.{answer-bad, answer-next}
 use Rattle.layout_state.specs.Words.{wellIn}
 use Rattle.layout_state.proofs.ValueLaws.{state-is, well-by}
 use Rattle.read_image.specs.Whole.{LaidOut}
-use Rattle.step_note.specs.Events.{Tells}
+use Rattle.step_note.specs.Events.{inscribed, Tells}
 use Rattle.step_note.proofs.TurnLaws.{nothing-done}
 use Rattle.fresh_run.specs.declared.Went.{Went}
 use Rattle.fresh_run.specs.Went.{WentMet}
 use Rattle.fresh_call.specs.declared.FreshDone.{FreshDone}
-use Rattle.fresh_call.specs.Answers.{FreshMet}
+use Rattle.fresh_call.specs.Answers.{FreshMet, freshBack}
 
 abbrev done : ℕ → ℕ → State → ℕ → FreshDone
 done number at s made = record { number = number; position = at; state = s; made = made }
@@ -47,6 +47,12 @@ module _ (s : State) (steps : ℕ) (w : Walk) (p : Plan) (image tape : List ℕ)
   fresh-accepted q e r lent lent′ g =
       let reads : Got (modelOn p tape) q ≡ decode image = sym (answer-next w (modelOn p tape) q e) ∙ met .reads in
       rw (← reads) g
+
+-- what is met of an image is the run that is asked for, with its events
+pub as-asked : (image lent lent′ : List ℕ) (s : State) (steps : ℕ) (r : FreshDone) → FreshMet r (decode image) s steps lent lent′
+    → (freshBack r ≡ freshOf image s steps) × (lent′ ≡ inscribed lent 0 (freshTraceOf image s steps .events))
+unfolding freshOf freshTraceOf
+as-asked image lent lent′ s steps r met = (met .is-run, met .events)
 
 -- ---- of a model with these buffers and types, whose state stands in the words w
 

@@ -10,6 +10,7 @@ ghost use Rattle.read_image.specs.Whole.{Begun};
 ghost use Rattle.step_note.specs.Events.{inscribed};
 ghost use Rattle.fresh_call.specs.Answers.{FreshMet, freshBack};
 use layout::LARGE_TAPE;
+use layout::MIDDLE_TAPE;
 use layout::Plan;
 use layout::PlanRead;
 use layout::SMALL_TAPE;
@@ -80,6 +81,51 @@ fn run_on(
     run_for(plan, tape, state, steps, events)
 }
 
+// Running on the small tape. Each way is a function, so that the stack holds one tape at a time.
+fn run_small(
+    image: &[u8],
+    begun: PlanRead,
+    state: State,
+    steps: u16,
+    events: &mut [u32],
+) -> FreshDone
+    requires { ⌜ Begun begun (now image) × (begun .plan .end ≤ 3904) ⌝ }
+    ensures { λ r. ⌜ FreshMet r (decode (now (image .entry))) state steps (now (events .entry)) (now (events .exit)) ⌝ }
+{
+    let mut tape = [0u16; SMALL_TAPE];
+    run_on(image, begun, state, steps, events, &mut tape)
+}
+
+// Running on the middle tape.
+fn run_middle(
+    image: &[u8],
+    begun: PlanRead,
+    state: State,
+    steps: u16,
+    events: &mut [u32],
+) -> FreshDone
+    requires { ⌜ Begun begun (now image) × (begun .plan .end ≤ 13312) ⌝ }
+    ensures { λ r. ⌜ FreshMet r (decode (now (image .entry))) state steps (now (events .entry)) (now (events .exit)) ⌝ }
+{
+    let mut tape = [0u16; MIDDLE_TAPE];
+    run_on(image, begun, state, steps, events, &mut tape)
+}
+
+// Running on the large tape, which has room for every image.
+fn run_large(
+    image: &[u8],
+    begun: PlanRead,
+    state: State,
+    steps: u16,
+    events: &mut [u32],
+) -> FreshDone
+    requires { ⌜ Begun begun (now image) ⌝ }
+    ensures { λ r. ⌜ FreshMet r (decode (now (image .entry))) state steps (now (events .entry)) (now (events .exit)) ⌝ }
+{
+    let mut tape = [0u16; LARGE_TAPE];
+    run_on(image, begun, state, steps, events, &mut tape)
+}
+
 // Runs as `run_fresh` does, and notes each step in three lent words, as long as there is room: the clock after it, 0 and the rule that fired or 1 and the ms waited.
 pub fn trace_fresh(image: &[u8], state: State, steps: u16, events: &mut [u32]) -> FreshDone
     ensures { λ r. ⌜ (freshBack r ≡ freshOf (now (image .entry)) state steps)
@@ -88,11 +134,12 @@ pub fn trace_fresh(image: &[u8], state: State, steps: u16, events: &mut [u32]) -
     let begun = read_image::begin(image);
     let plan = begun.plan;
     if plan.end <= SMALL_TAPE {
-        let mut tape = [0u16; SMALL_TAPE];
-        return run_on(image, begun, state, steps, events, &mut tape);
+        return run_small(image, begun, state, steps, events);
     }
-    let mut tape = [0u16; LARGE_TAPE];
-    run_on(image, begun, state, steps, events, &mut tape)
+    if plan.end <= MIDDLE_TAPE {
+        return run_middle(image, begun, state, steps, events);
+    }
+    run_large(image, begun, state, steps, events)
 }
 
 // Runs at most `steps` steps from a state, with every rule matched afresh at each step: the number, the position of a refused field, the state and the steps made.

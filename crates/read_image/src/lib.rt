@@ -14,6 +14,7 @@ ghost use Rattle.read_image.specs.Whole.{contentsOn, InBounds, Begun, Op
 use layout::FACTS_AT;
 use layout::HEAD_WORDS;
 use layout::LARGE_TAPE;
+use layout::MIDDLE_TAPE;
 use layout::OPENING_AT;
 use layout::Plan;
 use layout::PlanRead;
@@ -153,6 +154,10 @@ pub fn check(image: &[u8], begun: PlanRead) -> Walk
     let plan = begun.plan;
     if plan.end <= SMALL_TAPE {
         let mut tape = [0u16; SMALL_TAPE];
+        return lay_out(image, begun, &mut tape);
+    }
+    if plan.end <= MIDDLE_TAPE {
+        let mut tape = [0u16; MIDDLE_TAPE];
         return lay_out(image, begun, &mut tape);
     }
     let mut tape = [0u16; LARGE_TAPE];

@@ -1,5 +1,5 @@
--- `fresh_call::trace_fresh` meets its contract: on either tape, the run that is asked for.
-use Rattle.meaning.specs.Fresh.{freshTraceOf, freshOf}
+-- `fresh_call::trace_fresh` meets its contract: on each tape, the run that is asked for.
+use Rattle.fresh_call.proofs.CallLaws.{as-asked}
 use borrow.Author.Needs.{needs}
 use Rattle.fresh_call.proofs.trace_fresh.Statement.{statement}
 use Rattle.fresh_call.proofs.trace_fresh.Tie as tie
@@ -9,42 +9,44 @@ use Rattle.fresh_call.proofs.trace_fresh.Tie as tie
 begin-requires : tie.Need-begin-requires
 begin-requires c κs = search needs
 
-slice-aggregate-run-on : tie.Need-slice-aggregate-run-on
-slice-aggregate-run-on c = search needs
-
-run-on-requires : tie.Need-run-on-requires
-run-on-requires c κs = search needs
+run-small-requires : tie.Need-run-small-requires
+run-small-requires c κs = search needs
 
 same-length : tie.Need-same-length
 same-length c = search needs
 
 returns : tie.Need-returns
-unfolding freshOf freshTraceOf
-returns c = let met = c .before .before .before .run-on .ensures in (met .is-run, met .events)
+returns c = as-asked _ _ _ _ _ _ (c .before .before .run-small .ensures)
 
-slice-aggregate-run-on-2 : tie.Need-slice-aggregate-run-on-2
-slice-aggregate-run-on-2 c = search needs
-
-run-on-requires-2 : tie.Need-run-on-requires-2
-run-on-requires-2 c κs = search needs
+run-middle-requires : tie.Need-run-middle-requires
+run-middle-requires c κs = search needs
 
 same-length-2 : tie.Need-same-length-2
 same-length-2 c = search needs
 
 returns-2 : tie.Need-returns-2
-unfolding freshOf freshTraceOf
-returns-2 c = let met = c .before .before .before .run-on2 .ensures in (met .is-run, met .events)
+returns-2 c = as-asked _ _ _ _ _ _ (c .before .before .run-middle .ensures)
+
+run-large-requires : tie.Need-run-large-requires
+run-large-requires c κs = search needs
+
+same-length-3 : tie.Need-same-length-3
+same-length-3 c = search needs
+
+returns-3 : tie.Need-returns-3
+returns-3 c = as-asked _ _ _ _ _ _ (c .before .before .run-large .ensures)
 
 pub trace-fresh-spec : {M : Type 1} → statement M
 trace-fresh-spec =
     tie.close
     (tie.spec
     begin-requires
-    slice-aggregate-run-on
-    run-on-requires
+    run-small-requires
     same-length
     returns
-    slice-aggregate-run-on-2
-    run-on-requires-2
+    run-middle-requires
     same-length-2
-    returns-2)
+    returns-2
+    run-large-requires
+    same-length-3
+    returns-3)
