@@ -12,7 +12,7 @@
 
 MODEL = examples/counting
 PREFIX = /usr/local
-BENCH = cargo run --offline --release --manifest-path host/Cargo.toml -p jirvuntsag-bench
+BENCH = cargo run --offline --release --manifest-path host/Cargo.toml -p jirvuntsag-bench --features fetches
 
 .PHONY: run explain test lib wheel install dist bench help
 
@@ -39,6 +39,7 @@ dist:
 
 bench:
 	@tools/archive
+	@tools/bench-archive
 	@$(BENCH)
 	@$(if $(PEERS),$(BENCH) -- --peers)
 

@@ -2,6 +2,8 @@
 
 mod clips;
 mod engine;
+#[cfg(feature = "fetches")]
+mod fetching;
 mod figures;
 mod growth;
 mod keeping;
@@ -9,6 +11,7 @@ mod models;
 mod opened;
 mod peers;
 mod progress;
+mod reading;
 mod specs;
 mod stored;
 mod tables;
@@ -20,7 +23,8 @@ use std::process::ExitCode;
 
 const USAGE: &str = "usage: jirvuntsag-bench [--peers]
 Measures calls of the proved library beside those of the reference engine, in turn, and prints tables in Markdown: medians
-over many short rounds, and the quartiles of the ratios. Takes about a minute.
+over many short rounds, and the quartiles of the ratios. As `make bench` builds it, it also measures a fetch of fields that takes
+one bit at a time beside the library's own. Takes about two minutes.
 
   --peers   instead runs the same models in CLIPS (Debian's package clips), holds every step of its trace to ours, and prints
             both times and their ratios: of the whole way from a stored model to the last step, of a run call, and of a step

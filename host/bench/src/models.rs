@@ -15,6 +15,9 @@ const STEPS: u16 = 1_000;
 /// Steps of a run in which a step's own cost counts, and reading the image hardly does.
 const MANY: u16 = 10_000;
 
+/// Bits of the fields whose fetch is timed by itself: from the narrowest to the widest.
+pub const WIDTHS: [usize; 8] = [1, 3, 4, 6, 8, 12, 13, 16];
+
 /// A model and the steps of a measured run.
 pub struct Measured {
     /// What the table calls it.

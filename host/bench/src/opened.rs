@@ -24,22 +24,32 @@ pub struct Opened<'a> {
 }
 
 impl<'a> Opened<'a> {
-    /// Opens a model and runs it once on both engines, kept and fresh, so that nothing is measured that is not the same.
+    /// Opens a model and runs it on both engines, one step and all, so that nothing is measured that is not the same.
     pub fn new(model: &'a Measured) -> Opened<'a> {
         let decoded = reference::Model::decode(&model.image).expect("a valid model");
         let mut fresh = vec![0; decoded.table_len()];
         let (_, _, state) = reference::open(&model.image, &mut fresh);
-        let mut tables = [fresh.clone(), fresh.clone()];
-        let (_, proved) = proved::calls::open(&model.image, &mut tables[0]);
-        let kept = proved::calls::run(&model.image, &proved, &mut tables[0], model.steps);
-        let there = reference::run(&model.image, state, &mut tables[1], model.steps);
+        let mut table = vec![0; fresh.len()];
+        let (_, proved) = proved::calls::open(&model.image, &mut table);
+        assert!(table == fresh, "{}", model.name);
+        let opened = Opened { model, decoded, proved, reference: state, fresh, made: model.steps };
+        opened.agree(1);
+        opened.agree(model.steps);
+        opened
+    }
+
+    /// Runs so many steps on both engines, kept and fresh, which must make them all, and leave the same.
+    fn agree(&self, steps: u16) {
+        let (image, name) = (&self.model.image, &self.model.name);
+        let mut tables = [self.fresh.clone(), self.fresh.clone()];
+        let kept = proved::calls::run(image, &self.proved, &mut tables[0], steps);
+        let there = reference::run(image, self.reference, &mut tables[1], steps);
         let (number, after, made) = kept;
         let here = (number.number(), number.position(), after.clock, made);
-        assert_eq!(here, (there.0, there.1, there.2.clock, there.3), "{}", model.name);
-        assert!(tables[0] == tables[1] && made == model.steps, "{}", model.name);
-        assert_eq!(proved::calls::run_fresh(&model.image, &proved, model.steps), kept, "{}", model.name);
-        assert_eq!(reference::run_fresh(&model.image, state, model.steps), there, "{}", model.name);
-        Opened { model, decoded, proved, reference: state, fresh, made }
+        assert_eq!(here, (there.0, there.1, there.2.clock, there.3), "{name}");
+        assert!(tables[0] == tables[1] && made == steps, "{name}");
+        assert_eq!(proved::calls::run_fresh(image, &self.proved, steps), kept, "{name}");
+        assert_eq!(reference::run_fresh(image, self.reference, steps), there, "{name}");
     }
 
     /// The steps of the measured run, by the reference engine.

@@ -14,9 +14,14 @@ impl Progress {
         Progress { done: 0, all }
     }
 
-    /// The next begins.
+    /// The next begins, which is of a model.
     pub fn next(&mut self, what: &str, model: &Measured) {
+        self.tell(&format!("{what}, {}", model.name));
+    }
+
+    /// The next begins.
+    pub fn tell(&mut self, what: &str) {
         self.done += 1;
-        eprintln!("{} of {}: {what}, {}", self.done, self.all, model.name);
+        eprintln!("{} of {}: {what}", self.done, self.all);
     }
 }

@@ -7,9 +7,10 @@ use jirvuntsag_reference as reference;
 
 use crate::growth::print_growing;
 use crate::keeping::print_kept;
-use crate::models::{growing, models};
+use crate::models::{growing, models, WIDTHS};
 use crate::opened::{by_proved, by_reference, Opened};
 use crate::progress::Progress;
+use crate::reading::{print_one_step, print_reading};
 use crate::timing::Times;
 
 /// Opening and running, proved beside reference.
@@ -49,12 +50,26 @@ fn print_beside(all: &[Opened], progress: &mut Progress) {
     }
 }
 
-/// Measures and prints the three tables.
+/// Rows of the tables of both fetches, where these are linked.
+fn fetching_rows(models: usize) -> usize {
+    if cfg!(feature = "fetches") {
+        WIDTHS.len() + models
+    } else {
+        0
+    }
+}
+
+/// Measures and prints the tables.
 pub fn print_tables() {
     let (models, growing) = (models(), growing());
     let all: Vec<Opened> = models.iter().map(Opened::new).collect();
-    let mut progress = Progress::of(2 * all.len() + growing.iter().map(Vec::len).sum::<usize>());
+    let grown = growing.iter().map(Vec::len).sum::<usize>();
+    let mut progress = Progress::of(4 * all.len() + grown + fetching_rows(all.len()));
     print_beside(&all, &mut progress);
     print_kept(&all, &mut progress);
     print_growing(&growing, &mut progress);
+    print_reading(&all, &mut progress);
+    print_one_step(&all, &mut progress);
+    #[cfg(feature = "fetches")]
+    crate::fetching::print_fetching(&all, &mut progress);
 }

@@ -1,4 +1,5 @@
 //! The functions of `include/jirvuntsag.h`, each behind a safe one: a slice is handed over as its address and its length.
+//! And those that the benchmark times, of `crates/bench_fetch`, if they are asked for.
 #![allow(unsafe_code)]
 
 use crate::words::STATE;
@@ -80,4 +81,44 @@ pub fn run_fresh(image: &[u8], state: &mut [u32; STATE], steps: u16) -> u64 {
 
 pub fn trace_fresh(image: &[u8], state: &mut [u32; STATE], steps: u16, events: &mut [u32]) -> u64 {
     unsafe { jirvuntsag_trace_fresh(image.as_ptr(), image.len(), state, steps, events.as_mut_ptr(), events.len()) }
+}
+
+#[cfg(feature = "bench")]
+extern "C" {
+    fn jirvuntsag_bench_field(image: *const u8, image_len: usize, at: usize, width: usize) -> u32;
+    fn jirvuntsag_bench_field_singly(image: *const u8, image_len: usize, at: usize, width: usize) -> u32;
+    fn jirvuntsag_bench_open(
+        image: *const u8,
+        image_len: usize,
+        table: *mut u16,
+        table_len: usize,
+        state: *mut [u32; STATE],
+    ) -> u64;
+    fn jirvuntsag_bench_open_singly(
+        image: *const u8,
+        image_len: usize,
+        table: *mut u16,
+        table_len: usize,
+        state: *mut [u32; STATE],
+    ) -> u64;
+}
+
+#[cfg(feature = "bench")]
+pub fn bench_field(image: &[u8], at: usize, width: usize) -> u32 {
+    unsafe { jirvuntsag_bench_field(image.as_ptr(), image.len(), at, width) }
+}
+
+#[cfg(feature = "bench")]
+pub fn bench_field_singly(image: &[u8], at: usize, width: usize) -> u32 {
+    unsafe { jirvuntsag_bench_field_singly(image.as_ptr(), image.len(), at, width) }
+}
+
+#[cfg(feature = "bench")]
+pub fn bench_open(image: &[u8], table: &mut [u16], state: &mut [u32; STATE]) -> u64 {
+    unsafe { jirvuntsag_bench_open(image.as_ptr(), image.len(), table.as_mut_ptr(), table.len(), state) }
+}
+
+#[cfg(feature = "bench")]
+pub fn bench_open_singly(image: &[u8], table: &mut [u16], state: &mut [u32; STATE]) -> u64 {
+    unsafe { jirvuntsag_bench_open_singly(image.as_ptr(), image.len(), table.as_mut_ptr(), table.len(), state) }
 }

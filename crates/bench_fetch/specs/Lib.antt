@@ -1,0 +1,2 @@
+-- What the fetches that are timed answer.
+pub mod Asked
