@@ -40,8 +40,8 @@ extern "C" {
 /* The version of this header, and by a function that of the library that is linked. */
 #define JIRVUNTSAG_VERSION_MAJOR 0
 #define JIRVUNTSAG_VERSION_MINOR 5
-#define JIRVUNTSAG_VERSION_PATCH 0
-#define JIRVUNTSAG_VERSION "0.5.0"
+#define JIRVUNTSAG_VERSION_PATCH 1
+#define JIRVUNTSAG_VERSION "0.5.1"
 const char *jirvuntsag_version(void);
 
 #define JIRVUNTSAG_STATE_WORDS 81

@@ -1,4 +1,4 @@
-//! An independent engine for document 01 with change requests 2026-01 to 2026-03.
+//! An independent engine for document 01 with change requests 2026-01 to 2026-03; 2026-04 changes no answer.
 //!
 //! An image is decoded once into ordinary structs ([`Model`]); a run keeps the
 //! matches from step to step and matches again only the rules that test a marked
