@@ -69,6 +69,7 @@ module _ (s : State) (table : List ℕ) (steps : ℕ) (m : Model) (types : List 
   pub run-ill : well ≡ false → (r : RunDone) → r ≡ done 6 0 s 0 → (lent : List ℕ) → RunMet r (Got m 0) s table table steps lent lent
   run-ill g r e lent = rw (e, formed false g) (nothing-done 6 0 s table lent)
 
-  pub run-went : well ≡ true → (went : Went) (after : State) (w′ table′ lent lent′ : List ℕ) → after ≡ stateIn w′ (went .clock) → WentMet went m w w′ (s .clock) table table′ steps lent lent′
+  pub run-went : well ≡ true → (went : Went) (after : State) (w′ table′ lent lent′ : List ℕ)
+      → after ≡ stateIn w′ (went .clock) → WentMet went m w w′ (s .clock) table table′ steps lent lent′
       → RunMet (done (went .number) 0 after (went .made)) (Got m 0) s table table′ steps lent lent′
   run-went g went after w′ table′ lent lent′ e met = rw (e, formed true g) (rw (state-is w s stands) at met)

@@ -43,7 +43,8 @@ module _ (s : State) (steps : ℕ) (w : Walk) (p : Plan) (image tape : List ℕ)
       rw (g, ← reads) (none-made n at s lent)
 
   -- accepted: what is left, for the model that was laid out
-  pub fresh-accepted : (q : ℕ) → w ≡ Next q → (r : FreshDone) (lent lent′ : List ℕ) → FreshMet r (Got (modelOn p tape) 0) s steps lent lent′ → FreshMet r (decode image) s steps lent lent′
+  pub fresh-accepted : (q : ℕ) → w ≡ Next q → (r : FreshDone) (lent lent′ : List ℕ)
+      → FreshMet r (Got (modelOn p tape) 0) s steps lent lent′ → FreshMet r (decode image) s steps lent lent′
   fresh-accepted q e r lent lent′ g =
       let reads : Got (modelOn p tape) q ≡ decode image = sym (answer-next w (modelOn p tape) q e) ∙ met .reads in
       rw (← reads) g

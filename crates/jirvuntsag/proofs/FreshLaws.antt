@@ -29,7 +29,8 @@ fresh-near image s k r e = rw e (fresh-place image s k)
 
 module _ (image w : List ℕ) (k : ℕ) where
   fresh-by : (b : Bool) (r : FreshRan) → r ≡ freshOf image (if b then stateOf w else unfitState) k
-      → freshTold (answer (r .number) (r .made) (r .position)) (if b then wordsOf (r .state) else w) ≡ (if b then toldFresh (freshOf image (stateOf w) k) else freshTold (unfitAnswer (decode image)) w)
+      → freshTold (answer (r .number) (r .made) (r .position)) (if b then wordsOf (r .state) else w)
+      ≡ (if b then toldFresh (freshOf image (stateOf w) k) else freshTold (unfitAnswer (decode image)) w)
   unfolding freshOf freshTraceOf
   fresh-by true r e = ap toldFresh e
   fresh-by false r e = ap (λ (r : FreshRan). freshTold (answer (r .number) (r .made) (r .position)) w) (e ∙ ap (freshRanBy (placeOf (decode image))) (unfit-fresh k (decode image)))

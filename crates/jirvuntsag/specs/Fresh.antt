@@ -35,7 +35,8 @@ freshEventsIn image w steps = if fits w then freshTraceOf image (stateOf w) step
 
 -- ---- two results that meet the contract are the same: the answer, every word of the state, and of the events
 
-pub fresh-once : (image state : List ℕ) (steps a a′ : ℕ) (w w′ : List ℕ) → freshTold a w ≡ freshIn image state steps → freshTold a′ w′ ≡ freshIn image state steps → (a ≡ a′) × (w ≡ w′)
+pub fresh-once : (image state : List ℕ) (steps a a′ : ℕ) (w w′ : List ℕ)
+    → freshTold a w ≡ freshIn image state steps → freshTold a′ w′ ≡ freshIn image state steps → (a ≡ a′) × (w ≡ w′)
 fresh-once image state steps a a′ w w′ p q =
     let same : freshTold a w ≡ freshTold a′ w′ = p ∙ sym q in
     (ap (λ (o : FreshTold). o .answered) same, ap (λ (o : FreshTold). o .words) same)

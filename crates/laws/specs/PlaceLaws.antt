@@ -29,7 +29,8 @@ give-within A a =
     }
 
 module _ (A B : Type 0) (p : Reader A) (k : A → Reader B) (first : Within A p) (second : (a : A) → Within B (k a)) where
-  then-refused : (image : List ℕ) (at n x : ℕ) → at ≤ 8 * length image → (r : Read A) → p image at ≡ r → follow r (λ a after. k a image after) ≡ Refused n x → (at ≤ x) × (x ≤ 8 * length image)
+  then-refused : (image : List ℕ) (at n x : ℕ) → at ≤ 8 * length image → (r : Read A)
+      → p image at ≡ r → follow r (λ a after. k a image after) ≡ Refused n x → (at ≤ x) × (x ≤ 8 * length image)
   then-refused image at n x h (Refused n′ x′) q e = first .refused image at n x h (q ∙ cc)
   then-refused image at n x h (Got a next) q e =
       let f = first .got image at a next h q in

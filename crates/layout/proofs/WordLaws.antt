@@ -5,7 +5,8 @@ use mathlib.Core.List.{List, [], _∷_, _++_, append-nil, append-assoc}
 use native.Mathlib.Omega.{arith}
 use native.Mathlib.Numerals.{add-one}
 use lib.ListN.{length, getD, set, take, drop, length-set, length-drop, drop-of-length-le}
-use lib.Seq.{sets, drop-cons, getD-set-same, getD-set-other, getD-take, take-set-le, drop-set-lt, take-at, drop-at, length-take-le, drop-drop, sets-eq}
+use lib.Seq.{sets, drop-cons, getD-set-same, getD-set-other, getD-take, take-set-le, drop-set-lt, take-at, drop-at, length-take-le, sets-eq}
+use borrow.Rule.Slice.PartMut.{post-is}
 
 -- one word of a list more, in a loop that counts i up to its length
 pub sets-step : (w : List ℕ) (o i : ℕ) (xs : List ℕ) → i < length xs → sets (set w (o + i) (getD xs i 0)) (o + (i + 1)) (drop (i + 1) xs) ≡ sets w (o + i) (drop i xs)
@@ -62,8 +63,8 @@ module _ (o : ℕ) (w own : List ℕ) where
 -- a list of which n words from q on were lent, and came back as others: it is as if these had been written there
 pub lent-sets : (q n : ℕ) (w own : List ℕ) → q + n ≤ length w → length own ≡ n → take q w ++ (own ++ drop (q + n - q) (drop q w)) ≡ sets w q own
 lent-sets q n w own h e =
-    let z : q + (q + n - q) ≡ q + length own = omega arith in
-    ap (λ (l : List ℕ). take q w ++ (own ++ l)) (drop-drop (q + n - q) q w ∙ ap (λ (k : ℕ). drop k w) z)
+    let z : q + n ≡ q + length own = omega arith in
+    ap (λ (l : List ℕ). take q w ++ (own ++ l)) (post-is q (q + n) w (omega arith) ∙ ap (λ (k : ℕ). drop k w) z)
     ∙ sym (append-assoc (take q w) own (drop (q + length own) w)) ∙ sym (sets-eq own w q (omega arith))
 
 -- words copied over all words

@@ -4,7 +4,8 @@ use mathlib.Core.Path.{_≡_, sym, ap, ap₂, _∙_}
 use mathlib.Core.List.{List}
 use native.Mathlib.Omega.{arith}
 use lib.ListN.{length, getD, take, drop, length-drop, List·getD-eq-default}
-use lib.Seq.{getD-take, getD-drop, length-take-le, take-all}
+use lib.Seq.{getD-take, getD-drop, take-all}
+use borrow.Rule.Slice.PartMut.{mid-len}
 use lib.Bits.{bitAnd, bitOr, or-shifted, and-mask}
 use lib.Pow.{pow-mono}
 use Rattle.meaning.specs.Bits.{fieldAt}
@@ -17,12 +18,12 @@ module _ (i n : ℕ) (s : List ℕ) where
   part = take (i + n - i) (drop i s)
 
   pub part-long : i + n ≤ length s → length part ≡ n
-  part-long h = length-take-le (i + n - i) (drop i s) (omega (arith, length-drop i s)) ∙ omega arith
+  part-long h = mid-len i (i + n) s h ∙ omega arith
 
   pub part-get : (k : ℕ) → k < n → getD part k 0 ≡ getD s (i + k) 0
   part-get k h = getD-take (i + n - i) (drop i s) k 0 (omega arith) ∙ getD-drop i s k 0
 
--- ---- all elements from i on, as they are lent, and what is past the end
+-- ---- all elements from i on, as they are lent
 
 module _ (i : ℕ) (s : List ℕ) where
   abbrev pub rest : List ℕ
@@ -32,13 +33,10 @@ module _ (i : ℕ) (s : List ℕ) where
   rest-all = take-all (length s - i) (drop i s) (omega (arith, length-drop i s))
 
   pub rest-long : length rest ≡ length s - i
-  rest-long = ap length rest-all ∙ length-drop i s
+  rest-long = mid-len i (length s) s (omega arith)
 
   pub rest-get : (k : ℕ) → getD rest k 0 ≡ getD s (i + k) 0
   rest-get k = ap (λ (l : List ℕ). getD l k 0) rest-all ∙ getD-drop i s k 0
-
-pub past-end : (s : List ℕ) (k : ℕ) → length s ≤ k → getD s k 0 ≡ 0
-past-end s k h = List·getD-eq-default s 0 h
 
 -- ---- three bytes, put together and cut
 
@@ -68,7 +66,7 @@ together s i a b c ha hb hc =
 pub together-last : (s : List ℕ) (a b : ℕ) → length s ≤ 2 → (a ≡ getD s 0 0) × (a < 256) → (b ≡ getD s 1 0) × (b < 256)
     → bitOr (a * 65536 % 4294967296) (b * 256 % 4294967296) ≡ window s 0
 together-last s a b h ha hb =
-    let none : getD s 2 0 ≡ 0 = past-end s 2 h in
+    let none : getD s 2 0 ≡ 0 = List·getD-eq-default s 0 {n = 2} h in
     let e : a * 2 ^ 16 % 2 ^ 32 ≡ a * 2 ^ 16 = omega (arith, ha .1) in
     let f : b * 2 ^ 8 % 2 ^ 32 ≡ b * 2 ^ 8 = omega (arith, hb .1) in
     let g : a * 2 ^ 16 + b * 2 ^ 8 ≡ window s 0 = omega (arith, ha .0, hb .0, none) in

@@ -7,7 +7,7 @@ use native.Mathlib.Omega.{arith}
 use lib.Bits.{bitAnd, and-mask}
 use lib.Pow.{shr-shr}
 use lib.Dec.{eqb}
-use lib.ListN.{length}
+use lib.ListN.{length, drop-of-length-le}
 use borrow.Author.Tests.{eq-eqb, ne-eqb}
 use Rattle.meaning.specs.Base.{keep, admit, upFrom, bit}
 use Rattle.meaning.specs.Image.{names, slotsIn}
@@ -51,11 +51,7 @@ rest-end m b h = let e : 8 - b ≡ 0 = omega arith in rw e
 
 -- no slot is left if as many as none are
 pub none-left : (m b : ℕ) → length (rest m b) ≡ 0 → rest m b ≡ []
-none-left m b e = go (rest m b) e
-  where
-    go : (l : List ℕ) → length l ≡ 0 → l ≡ []
-    go [] e = refl
-    go (x ∷ l) e = absurd (omega arith)
+none-left m b e = drop-of-length-le (rest m b) {i = 0} (omega arith)
 
 -- a slot that is left is below eight
 pub some-left : (m b : ℕ) → 0 < length (rest m b) → b < 8

@@ -11,7 +11,8 @@ use Rattle.actr_lines.proofs.put_steps.Statement.{statement}
 use Rattle.actr_lines.proofs.put_steps.Tie as tie
 
 abbrev Inv-loop : tie.InvT-loop
-Inv-loop text₀ at events made many end₀ k₀ text end k = (k ≤ made) × (many ≡ made) × (length text ≡ length text₀) × Written text₀ at text end (27 * k) (Text·text (linesIn events 0 k))
+Inv-loop text₀ at events made many end₀ k₀ text end k =
+    (k ≤ made) × (many ≡ made) × (length text ≡ length text₀) × Written text₀ at text end (27 * k) (Text·text (linesIn events 0 k))
 
 abbrev μ-loop : tie.MeasureT-loop
 μ-loop text₀ at events made many end₀ k₀ text end k = made - k

@@ -1,6 +1,7 @@
 -- `read_fields::joined_last` meets its contract: the bytes that are there, and zeros after them.
 use native.Mathlib.Omega.{arith}
-use Rattle.read_fields.proofs.Laws.{past-end, together-last}
+use lib.ListN.{List·getD-eq-default}
+use Rattle.read_fields.proofs.Laws.{together-last}
 use borrow.Author.Needs.{needs}
 use Rattle.read_fields.proofs.joined_last.Statement.{statement}
 use Rattle.read_fields.proofs.joined_last.Tie as tie
@@ -19,7 +20,7 @@ returns c =
     let second = c .byte-or-zero2 .ensures in (
       together-last bytes _ _ (s .pre) first second,
       omega (arith, second .0, second .1),
-      omega (arith, past-end bytes 2 (s .pre)),
+      omega (arith, List·getD-eq-default bytes 0 {n = 2} (s .pre)),
     )
 
 pub joined-last-spec : {M : Type 1} → statement M

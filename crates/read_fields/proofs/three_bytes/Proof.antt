@@ -2,7 +2,8 @@
 use Prim.Native.Nat.{_+_}
 use mathlib.Core.Path.{_∙_}
 use native.Mathlib.Omega.{arith}
-use Rattle.read_fields.proofs.Laws.{part, part-long, part-get, rest, rest-long, rest-get, past-end, window-of}
+use lib.ListN.{List·getD-eq-default}
+use Rattle.read_fields.proofs.Laws.{part, part-long, part-get, rest, rest-long, rest-get, window-of}
 use borrow.Author.Needs.{needs}
 use Rattle.read_fields.proofs.three_bytes.Statement.{statement}
 use Rattle.read_fields.proofs.three_bytes.Tie as tie
@@ -60,9 +61,9 @@ returns-2 c =
 returns-3 : tie.Need-returns-3
 returns-3 c =
     let a = c .before .before .before .args in
-    let first = past-end (a .image .now) (a .i) (c .if2 .left) in
-    let second = past-end (a .image .now) (a .i + 1) (omega (arith, c .if2 .left)) in
-    let third = past-end (a .image .now) (a .i + 2) (omega (arith, c .if2 .left)) in
+    let first = List·getD-eq-default (a .image .now) 0 {n = a .i} (c .if2 .left) in
+    let second = List·getD-eq-default (a .image .now) 0 {n = a .i + 1} (omega (arith, c .if2 .left)) in
+    let third = List·getD-eq-default (a .image .now) 0 {n = a .i + 2} (omega (arith, c .if2 .left)) in
     (omega (arith, first, second, third), omega (arith, second), omega (arith, third))
 
 pub three-bytes-spec : {M : Type 1} → statement M
