@@ -1,4 +1,4 @@
--- What follows from the definitions: laws on meaning's X stand in XLaws here.
+-- What follows from the definitions: laws on meaning's X stand in XLaws here. Besides, laws of parts of a list that are lent.
 pub mod BaseLaws
 pub mod HighestLaws
 pub mod BitsLaws
@@ -13,3 +13,4 @@ pub mod MarkLaws
 pub mod RefreshLaws
 pub mod RunLaws
 pub mod CallsLaws
+pub mod PartLaws

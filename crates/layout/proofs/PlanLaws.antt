@@ -1,10 +1,9 @@
 -- Where the sections of a plan stand: each begins within the tape, and those whose length the plan gives end there too.
-use Prim.Native.Nat.{ℕ, _+_, _-_, _*_, _≤_}
+use Prim.Native.Nat.{ℕ, _+_, _*_, _≤_}
 use mathlib.Core.Path.{_≡_, ap}
 use mathlib.Core.List.{List}
 use native.Mathlib.Omega.{arith}
-use lib.ListN.{length, take, drop, length-drop}
-use Rattle.read_fields.proofs.Laws.{rest-all}
+use lib.ListN.{length, drop, length-drop}
 use Rattle.layout.specs.declared.Plan.{Plan}
 use Rattle.layout.specs.Plans.{Planned}
 
@@ -32,7 +31,3 @@ sections {p} {tape} planned =
       chains-end = omega (arith, planned .room);
       order-end = omega (arith, planned .room);
     }
-
--- a part that goes to the tape's end, as a section is handed on, is what the section's start leaves
-pub to-end : (at : ℕ) (tape : List ℕ) → take (length tape - at) (drop at tape) ≡ drop at tape
-to-end at tape = rest-all at tape

@@ -16,7 +16,7 @@ use Rattle.layout.specs.declared.Walk.the-variants.{Next, Bad}
 use Rattle.layout.specs.Walks.{answer}
 use Rattle.layout.specs.Rows.{rowsIn, testIn, actionIn, testsIn, actionsIn}
 use Rattle.layout.proofs.WalkLaws.{answer-bad, answer-next}
-use Rattle.read_fields.proofs.Laws.{part, part-long, part-get}
+use Rattle.laws.specs.PartLaws.{part, part-long, part-get}
 use Rattle.layout.proofs.WordLaws.{sets-take, lent-sets, below-get}
 use Rattle.layout.proofs.RowLaws.{written-like, in-same, in-next, test-like, action-like}
 use Rattle.layout.proofs.LoopLaws.{onward, onward-start, onward-end, onward-bad, onward-turn}

@@ -1,44 +1,13 @@
--- A part of a list that is lent; and what the code computes from three bytes by shifts and masks is the field that the window law cuts out of them.
+-- What the code computes from three bytes by shifts and masks is the field that the window law cuts out of them.
 use Prim.Native.Nat.{ℕ, _+_, _*_, _-_, _/_, _%_, _^_, _≤_, _<_}
 use mathlib.Core.Path.{_≡_, sym, ap, ap₂, _∙_}
 use mathlib.Core.List.{List}
 use native.Mathlib.Omega.{arith}
-use lib.ListN.{length, getD, take, drop, length-drop, List·getD-eq-default}
-use lib.Seq.{getD-take, getD-drop, take-all}
-use borrow.Rule.Slice.PartMut.{mid-len}
+use lib.ListN.{length, getD, List·getD-eq-default}
 use lib.Bits.{bitAnd, bitOr, or-shifted, and-mask}
 use lib.Pow.{pow-mono}
 use Rattle.meaning.specs.Bits.{fieldAt}
 use Rattle.laws.specs.BitsLaws.{window, field-in}
-
--- ---- n elements from i on, as they are lent
-
-module _ (i n : ℕ) (s : List ℕ) where
-  abbrev pub part : List ℕ
-  part = take (i + n - i) (drop i s)
-
-  pub part-long : i + n ≤ length s → length part ≡ n
-  part-long h = mid-len i (i + n) s h ∙ omega arith
-
-  pub part-get : (k : ℕ) → k < n → getD part k 0 ≡ getD s (i + k) 0
-  part-get k h = getD-take (i + n - i) (drop i s) k 0 (omega arith) ∙ getD-drop i s k 0
-
--- ---- all elements from i on, as they are lent
-
-module _ (i : ℕ) (s : List ℕ) where
-  abbrev pub rest : List ℕ
-  rest = take (length s - i) (drop i s)
-
-  pub rest-all : rest ≡ drop i s
-  rest-all = take-all (length s - i) (drop i s) (omega (arith, length-drop i s))
-
-  pub rest-long : length rest ≡ length s - i
-  rest-long = mid-len i (length s) s (omega arith)
-
-  pub rest-get : (k : ℕ) → getD rest k 0 ≡ getD s (i + k) 0
-  rest-get k = ap (λ (l : List ℕ). getD l k 0) rest-all ∙ getD-drop i s k 0
-
--- ---- three bytes, put together and cut
 
 -- the window of what is lent is that of the image from there on
 pub window-of : (i : ℕ) (s l : List ℕ) → ((k : ℕ) → k < 3 → getD l k 0 ≡ getD s (i + k) 0) → window l 0 ≡ window s i

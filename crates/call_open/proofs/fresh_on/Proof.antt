@@ -2,7 +2,8 @@
 use Prim.Native.Nat.{ℕ, _≤_, _*_}
 use native.Mathlib.Omega.{arith}
 use lib.ListN.{length, drop, length-drop}
-use Rattle.layout.proofs.PlanLaws.{sections, to-end}
+use Rattle.laws.specs.PartLaws.{to-end}
+use Rattle.layout.proofs.PlanLaws.{sections}
 use borrow.Author.Needs.{needs}
 use Rattle.call_open.proofs.fresh_on.Statement.{statement}
 use Rattle.call_open.proofs.fresh_on.Tie as tie

@@ -4,7 +4,8 @@ use mathlib.Core.List.{List}
 use native.Mathlib.Omega.{arith}
 use lib.ListN.{length, drop, length-drop}
 use Rattle.layout.specs.Plans.{Planned}
-use Rattle.layout.proofs.PlanLaws.{sections, to-end}
+use Rattle.laws.specs.PartLaws.{to-end}
+use Rattle.layout.proofs.PlanLaws.{sections}
 use Rattle.call_open.proofs.OpenLaws.{open-refused, open-accepted}
 use borrow.Author.Needs.{needs}
 use Rattle.call_open.proofs.open_on.Statement.{statement}

@@ -7,7 +7,8 @@ use native.Mathlib.Omega.{arith}
 use lib.ListN.{length, take}
 use lib.Seq.{length-take-le}
 use Rattle.layout.specs.Plans.{rulesOn, modelOn}
-use Rattle.layout.proofs.PlanLaws.{sections, to-end}
+use Rattle.laws.specs.PartLaws.{to-end}
+use Rattle.layout.proofs.PlanLaws.{sections}
 use Rattle.call_refresh.proofs.RefreshLaws.{refresh-ill, refresh-mark, refresh-done}
 use borrow.Author.Needs.{needs}
 use Rattle.call_refresh.proofs.refresh_for.Statement.{statement}

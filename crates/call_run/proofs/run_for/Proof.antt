@@ -7,7 +7,8 @@ use native.Mathlib.Omega.{arith}
 use lib.ListN.{length, take}
 use lib.Seq.{length-take-le}
 use Rattle.layout.specs.Plans.{rowsOn, modelOn}
-use Rattle.layout.proofs.PlanLaws.{Sections, sections, to-end}
+use Rattle.laws.specs.PartLaws.{to-end}
+use Rattle.layout.proofs.PlanLaws.{Sections, sections}
 use Rattle.call_run.proofs.RunLaws.{run-ill, run-went}
 use borrow.Author.Needs.{needs}
 use Rattle.call_run.proofs.run_for.Statement.{statement}

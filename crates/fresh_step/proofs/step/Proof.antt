@@ -7,7 +7,8 @@ use Rattle.meaning.specs.Choice.{utilities}
 use Rattle.meaning.specs.Fresh.{chooseFresh}
 use Rattle.layout.specs.StateWords.{stateIn}
 use Rattle.layout.specs.Plans.{headsOn, rowsOn, rulesOn}
-use Rattle.layout.proofs.PlanLaws.{sections, to-end}
+use Rattle.laws.specs.PartLaws.{to-end}
+use Rattle.layout.proofs.PlanLaws.{sections}
 use Rattle.fresh_best.specs.Matched.{matchedOf, Entered}
 use Rattle.fresh_step.proofs.MoveLaws.{rule-below, step-fires, step-waits}
 use Rattle.fresh_step.proofs.step.Statement.{statement}

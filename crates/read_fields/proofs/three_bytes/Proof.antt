@@ -3,7 +3,8 @@ use Prim.Native.Nat.{_+_}
 use mathlib.Core.Path.{_∙_}
 use native.Mathlib.Omega.{arith}
 use lib.ListN.{List·getD-eq-default}
-use Rattle.read_fields.proofs.Laws.{part, part-long, part-get, rest, rest-long, rest-get, window-of}
+use Rattle.laws.specs.PartLaws.{part, part-long, part-get, rest, rest-long, rest-get}
+use Rattle.read_fields.proofs.Laws.{window-of}
 use borrow.Author.Needs.{needs}
 use Rattle.read_fields.proofs.three_bytes.Statement.{statement}
 use Rattle.read_fields.proofs.three_bytes.Tie as tie

@@ -16,7 +16,7 @@ use Rattle.layout.specs.Plans.{factsOn, headsOn, rowsOn, rulesOn}
 use Rattle.layout.specs.Walks.{answer}
 use Rattle.layout.proofs.WalkLaws.{answer-bad, answer-next, bad-never}
 use Rattle.layout.proofs.WordLaws.{part-put, part-below, part-own}
-use Rattle.layout.proofs.PlanLaws.{to-end}
+use Rattle.laws.specs.PartLaws.{to-end}
 use Rattle.layout.proofs.KeptLaws.{facts-kept}
 use Rattle.read_image.proofs.WholeLaws.{someContents, contents-first, contents-second, contents-on}
 use borrow.Author.Needs.{needs}

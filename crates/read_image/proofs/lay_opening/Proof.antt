@@ -16,7 +16,7 @@ use Rattle.layout.specs.StateWords.{buffersIn, stateIn}
 use Rattle.layout.specs.Plans.{chunkIn, typesOn, openingOn}
 use Rattle.layout.proofs.WalkLaws.{answer-bad, answer-next, bad-within, bad-never}
 use Rattle.layout.proofs.WordLaws.{part-put, part-own}
-use Rattle.layout.proofs.PlanLaws.{to-end}
+use Rattle.laws.specs.PartLaws.{to-end}
 use Rattle.read_opening.specs.Parts.{headerIn, openingState}
 use Rattle.read_image.proofs.WholeLaws.{aBeginning, chunksIn, begin-second, begin-on, small-take, opened-chunks, opened-state}
 use Rattle.read_image.proofs.TapeLaws.{types-laid}

@@ -13,7 +13,7 @@ use Rattle.meaning.specs.Image.{rule}
 use Rattle.layout.specs.Rows.{sizes, rowsIn, rulesIn, Laid}
 use Rattle.layout.proofs.WalkLaws.{answer-bad, answer-next, bad-within, bad-never, next-within}
 use Rattle.layout.proofs.WordLaws.{part-put}
-use Rattle.layout.proofs.PlanLaws.{to-end}
+use Rattle.laws.specs.PartLaws.{to-end}
 use Rattle.layout.proofs.LoopLaws.{along, along-start, along-bad, along-turn, along-end}
 use Rattle.read_rules.specs.Heads.{ruleBy}
 use Rattle.read_rules.proofs.RowsOfRules.{tape-more, tape-laid, laid-none}

@@ -14,7 +14,7 @@ use Rattle.layout.proofs.FieldReads.{there, is, read-short, read-kept, read-bro
 use Rattle.layout.specs.Walks.{answer}
 use Rattle.layout.specs.Rows.{maskedIn}
 use Rattle.layout.proofs.WordLaws.{part-put}
-use Rattle.layout.proofs.PlanLaws.{to-end}
+use Rattle.laws.specs.PartLaws.{to-end}
 use Rattle.read_terms.proofs.TermLaws.{mask-past, mask-kept, masked-bad, masked-on, lent-row, lent-kept}
 use borrow.Author.Needs.{needs}
 use Rattle.read_terms.proofs.masked.Statement.{statement}

@@ -12,7 +12,7 @@ use Rattle.meaning.specs.Numbers.{finer}
 use Rattle.meaning.specs.Image.{test, tests}
 use Rattle.layout.specs.Rows.{rowsIn, sizes, testIn, testsIn}
 use Rattle.layout.proofs.WalkLaws.{answer-bad, answer-next, bad-within, next-within}
-use Rattle.read_fields.proofs.Laws.{part-long}
+use Rattle.laws.specs.PartLaws.{part-long}
 use Rattle.layout.proofs.WordLaws.{sets-take, sets-at, lent-sets}
 use Rattle.layout.proofs.RowLaws.{test-like, in-more}
 use Rattle.layout.proofs.LoopLaws.{onward, onward-start, onward-end, onward-bad, onward-turn}

@@ -4,7 +4,8 @@ use mathlib.Core.Path.{_≡_, sym, _∙_}
 use native.Mathlib.Omega.{arith}
 use lib.ListN.{length, take, drop, length-drop}
 use Rattle.layout.specs.Plans.{headsOn}
-use Rattle.layout.proofs.PlanLaws.{Sections, sections, to-end}
+use Rattle.laws.specs.PartLaws.{to-end}
+use Rattle.layout.proofs.PlanLaws.{Sections, sections}
 use Rattle.match_order.proofs.CountLaws.{ranked-same}
 use Rattle.step_aids.proofs.AidLaws.{order-laid}
 use borrow.Author.Needs.{needs}

@@ -4,7 +4,8 @@ use mathlib.Core.Path.{sym}
 use mathlib.Core.List.{List}
 use native.Mathlib.Omega.{arith}
 use lib.Seq.{length-take-le}
-use Rattle.layout.proofs.PlanLaws.{sections, to-end}
+use Rattle.laws.specs.PartLaws.{to-end}
+use Rattle.layout.proofs.PlanLaws.{sections}
 use Rattle.step_chains.proofs.ChainLaws.{chains-laid}
 use borrow.Author.Needs.{needs}
 use Rattle.step_chains.proofs.lay_chains.Statement.{statement}

@@ -3,7 +3,8 @@ use borrow.Author.Needs.{needs}
 use Prim.Native.Nat.{_+_, _*_, _≤_}
 use native.Mathlib.Omega.{arith}
 use lib.ListN.{length, drop}
-use Rattle.layout.proofs.PlanLaws.{sections, to-end}
+use Rattle.laws.specs.PartLaws.{to-end}
+use Rattle.layout.proofs.PlanLaws.{sections}
 use Rattle.step_effect.proofs.FoundLaws.{fact-below, fact-made, none-made}
 use Rattle.step_effect.proofs.request.Statement.{statement}
 use Rattle.step_effect.proofs.request.Tie as tie

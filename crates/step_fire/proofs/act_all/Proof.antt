@@ -6,7 +6,8 @@ use native.Mathlib.Omega.{arith}
 use Rattle.meaning.specs.Mark.{actedOn}
 use Rattle.layout.specs.Rows.{actionsIn}
 use Rattle.layout.specs.Plans.{factsOn, rowsOn}
-use Rattle.layout.proofs.PlanLaws.{sections, to-end}
+use Rattle.laws.specs.PartLaws.{to-end}
+use Rattle.layout.proofs.PlanLaws.{sections}
 use Rattle.step_fire.proofs.ActLaws.{acted-low}
 use Rattle.step_fire.proofs.FireLaws.{Acting, acting-start, acting-turn, acting-end}
 use Rattle.step_fire.proofs.act_all.Statement.{statement}

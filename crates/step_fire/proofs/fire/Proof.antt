@@ -4,7 +4,8 @@ use mathlib.Core.Path.{_∙_}
 use native.Mathlib.Omega.{arith}
 use Rattle.layout.specs.Rows.{actionsIn}
 use Rattle.layout.specs.Plans.{factsOn, rowsOn}
-use Rattle.layout.proofs.PlanLaws.{sections, to-end}
+use Rattle.laws.specs.PartLaws.{to-end}
+use Rattle.layout.proofs.PlanLaws.{sections}
 use Rattle.step_fire.specs.Acts.{ActedMask}
 use Rattle.step_fire.proofs.ActLaws.{acted-low}
 use Rattle.step_fire.proofs.FireLaws.{fired, fired-mark}

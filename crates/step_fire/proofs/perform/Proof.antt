@@ -5,7 +5,8 @@ use lib.ListN.{getD, length-drop}
 use Rattle.layout.specs.Rows.{maskedIn}
 use Rattle.layout.specs.StateWords.{bufferIn}
 use Rattle.layout.specs.Plans.{factsOn, rowsOn}
-use Rattle.layout.proofs.PlanLaws.{sections, to-end}
+use Rattle.laws.specs.PartLaws.{to-end}
+use Rattle.layout.proofs.PlanLaws.{sections}
 use Rattle.step_fire.proofs.ActLaws.{done-modify, done-request, done-clear}
 use Rattle.step_fire.proofs.perform.Statement.{statement}
 use Rattle.step_fire.proofs.perform.Tie as tie

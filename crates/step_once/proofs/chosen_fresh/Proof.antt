@@ -10,7 +10,8 @@ use Rattle.meaning.specs.Match.{entryOf}
 use Rattle.layout.specs.Rows.{testsIn}
 use Rattle.layout.specs.Plans.{headsOn, rowsOn}
 use Rattle.layout.specs.StateWords.{stateIn}
-use Rattle.layout.proofs.PlanLaws.{Sections, sections, to-end}
+use Rattle.laws.specs.PartLaws.{to-end}
+use Rattle.layout.proofs.PlanLaws.{Sections, sections}
 use Rattle.match_rule.proofs.Agree.{same-refl}
 use Rattle.match_rest.specs.Rest.{entryAt}
 use Rattle.step_once.specs.Choosing.{ruleOn}

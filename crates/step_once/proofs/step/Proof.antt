@@ -4,7 +4,8 @@ use borrow.Author.Needs.{needs}
 use native.Mathlib.Omega.{arith}
 use Rattle.meaning.specs.Choice.{choose, utilities}
 use Rattle.layout.specs.Plans.{headsOn, rowsOn, orderOn, rulesOn}
-use Rattle.layout.proofs.PlanLaws.{sections, to-end}
+use Rattle.laws.specs.PartLaws.{to-end}
+use Rattle.layout.proofs.PlanLaws.{sections}
 use Rattle.match_choice.specs.Chosen.{candidateOf}
 use Rattle.match_best.specs.Chosen.{Below}
 use lib.Seq.{getD-drop}

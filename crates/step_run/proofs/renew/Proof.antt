@@ -2,7 +2,8 @@
 use Prim.Native.Nat.{_≤_}
 use borrow.Author.Needs.{needs}
 use Rattle.layout.specs.Plans.{modelOn}
-use Rattle.layout.proofs.PlanLaws.{Sections, sections, to-end}
+use Rattle.laws.specs.PartLaws.{to-end}
+use Rattle.layout.proofs.PlanLaws.{Sections, sections}
 use Rattle.step_run.proofs.renew.Statement.{statement}
 use Rattle.step_run.proofs.renew.Tie as tie
 
