@@ -29,6 +29,12 @@ pub struct RunDone {
     pub made: u16,
 }
 
+// What is asked: the state to run from, and the steps at most.
+struct Asked {
+    state: State,
+    steps: u16,
+}
+
 // A refusal: the number and the position, the state as it was handed in, and no step made.
 fn no_run(number: u8, position: usize, state: State) -> RunDone
     ensures { λ r. ⌜ r ≡ record { number = number; position = position; state = state; made = 0 } ⌝ }
@@ -93,100 +99,70 @@ fn run_for(
 fn run_on(
     image: &[u8],
     begun: PlanRead,
-    state: State,
+    asked: Asked,
     table: &mut [u16],
-    steps: u16,
     events: &mut [u32],
     tape: &mut [u16],
     sets: &mut [u64],
 ) -> RunDone
     requires { ⌜ Begun begun (now image) × (begun .plan .end ≤ length (now tape)) × Roomy (begun .plan .rules) (now sets) × Cleared (now sets) ⌝ }
-    ensures { λ r. ⌜ RunMet r (accepted (now (image .entry)) (now (table .entry))) state (now (table .entry)) (now (table .exit)) steps (now (events .entry)) (now (events .exit)) ⌝ }
+    ensures { λ r. ⌜ RunMet r (accepted (now (image .entry)) (now (table .entry))) (asked .state) (now (table .entry)) (now (table .exit)) (asked .steps) (now (events .entry)) (now (events .exit)) ⌝ }
 {
     let taken = call_accept::accept(image, begun, table.len(), tape);
+    let state = asked.state;
     if let Taken::Refused(number, at) = taken {
         return no_run(number, at, state);
     }
     let plan = begun.plan;
-    run_for(table, plan, tape, state, steps, events, sets)
+    run_for(table, plan, tape, state, asked.steps, events, sets)
 }
 
 // Running on the small tape, with sets for few rules. Each way is a function, so that the stack holds one tape at a time.
 fn run_small(
     image: &[u8],
     begun: PlanRead,
-    state: State,
+    asked: Asked,
     table: &mut [u16],
-    steps: u16,
     events: &mut [u32],
 ) -> RunDone
     requires { ⌜ Begun begun (now image) × (begun .plan .end ≤ 3904) ⌝ }
-    ensures { λ r. ⌜ RunMet r (accepted (now (image .entry)) (now (table .entry))) state (now (table .entry)) (now (table .exit)) steps (now (events .entry)) (now (events .exit)) ⌝ }
+    ensures { λ r. ⌜ RunMet r (accepted (now (image .entry)) (now (table .entry))) (asked .state) (now (table .entry)) (now (table .exit)) (asked .steps) (now (events .entry)) (now (events .exit)) ⌝ }
 {
     let mut tape = [0u16; SMALL_TAPE];
     let mut sets = [0u64; SMALL_SETS];
-    run_on(
-        image,
-        begun,
-        state,
-        table,
-        steps,
-        events,
-        &mut tape,
-        &mut sets,
-    )
+    run_on(image, begun, asked, table, events, &mut tape, &mut sets)
 }
 
 // Running on the middle tape, with sets for the most rules.
 fn run_middle(
     image: &[u8],
     begun: PlanRead,
-    state: State,
+    asked: Asked,
     table: &mut [u16],
-    steps: u16,
     events: &mut [u32],
 ) -> RunDone
     requires { ⌜ Begun begun (now image) × (begun .plan .end ≤ 13312) ⌝ }
-    ensures { λ r. ⌜ RunMet r (accepted (now (image .entry)) (now (table .entry))) state (now (table .entry)) (now (table .exit)) steps (now (events .entry)) (now (events .exit)) ⌝ }
+    ensures { λ r. ⌜ RunMet r (accepted (now (image .entry)) (now (table .entry))) (asked .state) (now (table .entry)) (now (table .exit)) (asked .steps) (now (events .entry)) (now (events .exit)) ⌝ }
 {
     let mut tape = [0u16; MIDDLE_TAPE];
     let mut sets = [0u64; LARGE_SETS];
-    run_on(
-        image,
-        begun,
-        state,
-        table,
-        steps,
-        events,
-        &mut tape,
-        &mut sets,
-    )
+    run_on(image, begun, asked, table, events, &mut tape, &mut sets)
 }
 
 // Running on the large tape, which has room for every image, with sets for the most rules.
 fn run_large(
     image: &[u8],
     begun: PlanRead,
-    state: State,
+    asked: Asked,
     table: &mut [u16],
-    steps: u16,
     events: &mut [u32],
 ) -> RunDone
     requires { ⌜ Begun begun (now image) ⌝ }
-    ensures { λ r. ⌜ RunMet r (accepted (now (image .entry)) (now (table .entry))) state (now (table .entry)) (now (table .exit)) steps (now (events .entry)) (now (events .exit)) ⌝ }
+    ensures { λ r. ⌜ RunMet r (accepted (now (image .entry)) (now (table .entry))) (asked .state) (now (table .entry)) (now (table .exit)) (asked .steps) (now (events .entry)) (now (events .exit)) ⌝ }
 {
     let mut tape = [0u16; LARGE_TAPE];
     let mut sets = [0u64; LARGE_SETS];
-    run_on(
-        image,
-        begun,
-        state,
-        table,
-        steps,
-        events,
-        &mut tape,
-        &mut sets,
-    )
+    run_on(image, begun, asked, table, events, &mut tape, &mut sets)
 }
 
 // Runs as `run` does, and notes each step in three lent words, as long as there is room: the clock after it, 0 and the rule that fired or 1 and the ms waited.
@@ -202,13 +178,17 @@ pub fn trace(
 {
     let begun = read_image::begin(image);
     let plan = begun.plan;
+    let asked = Asked {
+        state: state,
+        steps: steps,
+    };
     if plan.end <= SMALL_TAPE {
-        return run_small(image, begun, state, table, steps, events);
+        return run_small(image, begun, asked, table, events);
     }
     if plan.end <= MIDDLE_TAPE {
-        return run_middle(image, begun, state, table, steps, events);
+        return run_middle(image, begun, asked, table, events);
     }
-    run_large(image, begun, state, table, steps, events)
+    run_large(image, begun, asked, table, events)
 }
 
 // Runs at most `steps` steps from a state: the number, the position of a refused field, the state and the steps made; the table is refreshed after each step.

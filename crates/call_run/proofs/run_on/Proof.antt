@@ -12,7 +12,7 @@ abbrev start : tie.After-accept → tie.Start
 start c = c .before .before .before .before .before .before .before
 
 abbrev taken : tie.After-enum-told → tie.After-accept
-taken c = c .before .before .before .before
+taken c = c .before .before .before .before .before
 
 abbrev told : tie.After-run-for → tie.After-enum-told
 told c = c .before .before .before .before .before .before
@@ -36,9 +36,9 @@ same-length c = search needs
 
 returns : tie.Need-returns
 returns c =
-    let t = c .before .before .before .before .before .before in
+    let t = c .before .before .before .before .before .before .before in
     let a = start t .args in
-    run-refused (a .state) (a .steps) (t .accept .result) (a .begun .plan) (a .image .now) (a .table .now) (tape t) (t .accept .ensures) _ _
+    run-refused (a .asked .state) (a .asked .steps) (t .accept .result) (a .begun .plan) (a .image .now) (a .table .now) (tape t) (t .accept .ensures) _ _
     (c .before .before .taken .given .1) (c .no-run .result) (c .no-run .ensures) (a .events .now)
 
 enum-told : tie.Need-enum-told
@@ -69,7 +69,7 @@ returns-2 c =
     let d = told r in
     let t = taken d in
     let a = start t .args in
-    run-accepted (a .state) (a .steps) (t .accept .result) (a .begun .plan) (a .image .now) (a .table .now) (tape t) (t .accept .ensures) (d .enum-told .given .1)
+    run-accepted (a .asked .state) (a .asked .steps) (t .accept .result) (a .begun .plan) (a .image .now) (a .table .now) (tape t) (t .accept .ensures) (d .enum-told .given .1)
     (r .run-for .result) _ (a .events .now) _ (r .run-for .ensures)
 
 pub run-on-spec : {M : Type 1} → statement M
