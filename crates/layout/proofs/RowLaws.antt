@@ -111,7 +111,8 @@ written-like w q ws e h j l = let z : 0 + j ≡ j = omega arith in rw z (sets-at
 -- ---- what stands below a place says the same after words were written from there on
 
 module _ {A : Type 0} (thing : List ℕ → ℕ → A) (like : (w w′ : List ℕ) (o o′ : ℕ) → Alike w o w′ o′ → thing w o ≡ thing w′ o′) where
-  pub in-same : (w w′ : List ℕ) (o n : ℕ) → ((j : ℕ) → j < o + 11 * n → getD w j 0 ≡ getD w′ j 0) → rowsIn (λ k. thing w (o + 11 * k)) 0 n ≡ rowsIn (λ k. thing w′ (o + 11 * k)) 0 n
+  pub in-same : (w w′ : List ℕ) (o n : ℕ) → ((j : ℕ) → j < o + 11 * n → getD w j 0 ≡ getD w′ j 0)
+      → rowsIn (λ k. thing w (o + 11 * k)) 0 n ≡ rowsIn (λ k. thing w′ (o + 11 * k)) 0 n
   in-same w w′ o n h =
       rows-same (λ k. thing w (o + 11 * k)) (λ k. thing w′ (o + 11 * k)) 0 n (λ k a b. like w w′ (o + 11 * k) (o + 11 * k) (λ j l. h (o + 11 * k + j) (omega arith)))
 

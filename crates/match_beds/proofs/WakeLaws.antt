@@ -155,7 +155,8 @@ module _ (state sets : List ℕ) (mark x b : ℕ) (is : x ≡ mark % 256) (h m :
       (λ l. absurd (unmarked (c .buffer) (c .low) l (c .below) (c .marked)))
 
 -- the places of a buffer are used or not as they were before some were woken
-pub called-kept : (state sets sets′ : List ℕ) (b i h : ℕ) → b < 8 → ((j k : ℕ) → 4 ≤ j → j < 52 → has sets′ j k ≡ has sets j k) → Called state sets b i h → Called state sets′ b i h
+pub called-kept : (state sets sets′ : List ℕ) (b i h : ℕ) → b < 8 → ((j k : ℕ) → 4 ≤ j → j < 52 → has sets′ j k ≡ has sets j k)
+    → Called state sets b i h → Called state sets′ b i h
 called-kept state sets sets′ b i h low kept c =
     record {
       at = c .at;

@@ -60,7 +60,8 @@ module _ (table order sets sets′ : List ℕ) (k : ℕ) (so-far : Hitting table
   hit-more : (p : ℕ) → HitAt table order k p → HitAt table order (k + 1) p
   hit-more p h = record { rule = h .rule; below = omega (arith, h .below); placed = h .placed; matching = h .matching }
 
-  pub hitting-put : Matching table k → ((j i : ℕ) → has sets′ j i ≡ (has sets j i || (eqb j (4 + placeOf order k / 64) && eqb i (placeOf order k % 64)))) → Hitting table order sets′ (k + 1)
+  pub hitting-put : Matching table k → ((j i : ℕ) → has sets′ j i ≡ (has sets j i || (eqb j (4 + placeOf order k / 64) && eqb i (placeOf order k % 64))))
+      → Hitting table order sets′ (k + 1)
   hitting-put m put =
       record {
         all = λ j h n. elim (ℕ-discrete j k) [
@@ -89,7 +90,8 @@ hitting-none table order sets none = record { all = λ j h m. absurd (omega arit
 -- ---- the places word by word
 
 -- no bit of an empty word
-pub none-before : (sets : List ℕ) (w : ℕ) → getD sets (4 + w) 0 ≡ 0 → ((p : ℕ) → p < 64 * w → member sets hits p ≡ false) → (p : ℕ) → p < 64 * (w + 1) → member sets hits p ≡ false
+pub none-before : (sets : List ℕ) (w : ℕ) → getD sets (4 + w) 0 ≡ 0 → ((p : ℕ) → p < 64 * w → member sets hits p ≡ false)
+    → (p : ℕ) → p < 64 * (w + 1) → member sets hits p ≡ false
 none-before sets w e none p h =
     by-lt p (64 * w) (λ l. none p l)
     (λ l. let q : p / 64 ≡ w = omega arith in rw (q, e) (bit-zero (p % 64)))

@@ -61,7 +61,8 @@ buffer-small rule s p v b q e h =
     let f : FieldRead 3 rule s p b q = field-got 3 rule s p b q (sym e ∙ answer-next v b q h) in
     omega (arith, f .is, fieldAt-lt s p 3)
 
-module _ (z : Sizes) (variables : ℕ) (ts : List Test) (least : ℕ) (s : List ℕ) (p : ℕ) (v : Walk) (b : ℕ) (e : answer v b ≡ field 3 (must bad-buffer (aBuffer (z .buffers) least)) s p) where
+module _ (z : Sizes) (variables : ℕ) (ts : List Test) (least : ℕ) (s : List ℕ) (p : ℕ) (v : Walk) (b : ℕ)
+    (e : answer v b ≡ field 3 (must bad-buffer (aBuffer (z .buffers) least)) s p) where
   pub action-bad : (x y : ℕ) → v ≡ Bad x y → Refused x y ≡ action finer z variables ts least s p
   unfolding action
   action-bad x y h = rw (← e, h)

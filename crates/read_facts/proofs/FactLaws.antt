@@ -39,7 +39,8 @@ module _ (types : List ℕ) (least : ℕ) (s : List ℕ) (p : ℕ) where
   unfolding chunk
   chunk-bad a b e = rw (← e)
 
-  pub chunk-on : (k q : ℕ) (w : Walk) (xs : List ℕ) → Got k q ≡ field 6 (must bad-number (aType types least)) s p → answer w xs ≡ mapped eight (times (getD types k 0) (field 12 anything) s q)
+  pub chunk-on : (k q : ℕ) (w : Walk) (xs : List ℕ) → Got k q ≡ field 6 (must bad-number (aType types least)) s p
+      → answer w xs ≡ mapped eight (times (getD types k 0) (field 12 anything) s q)
       → answer w (aChunk k xs) ≡ chunk finer types least s p
   unfolding chunk
   chunk-on k q w xs e g = rw (← e) (go w (times (getD types k 0) (field 12 anything) s q) g)
@@ -81,7 +82,8 @@ fact-row (x ∷ y ∷ z ∷ row) own isa a l e n = ap (λ (xs : List ℕ). aFact
 facts-from : (w : List ℕ) (n : ℕ) → factsIn w n ≡ rowsIn (λ k. factIn w (0 + 11 * k)) 0 n
 facts-from w n = rows-same (λ k. factIn w (11 * k)) (λ k. factIn w (0 + 11 * k)) 0 n (λ k a b. ap (factIn w) (omega arith))
 
-pub facts-more : (w w′ : List ℕ) (i : ℕ) (ws : List ℕ) → w′ ≡ sets w (11 * i) ws → length ws ≡ 11 → 11 * i + 11 ≤ length w → factsIn w′ (i + 1) ≡ factsIn w i ++ (factIn ws 0 ∷ [])
+pub facts-more : (w w′ : List ℕ) (i : ℕ) (ws : List ℕ) → w′ ≡ sets w (11 * i) ws → length ws ≡ 11 → 11 * i + 11 ≤ length w
+    → factsIn w′ (i + 1) ≡ factsIn w i ++ (factIn ws 0 ∷ [])
 facts-more w w′ i ws e l h =
     let z : 0 + 11 * i ≡ 11 * i = omega arith in
     let k : w′ ≡ sets w (0 + 11 * i) ws = rw z e in

@@ -80,7 +80,8 @@ module _ (m variables : ℕ) (s : List ℕ) where
       unfolding onTo terms
       on-bad x y g = rw (rest-on m b h e, g)
 
-      pub on-turn : (t q : ℕ) → variables ≤ 8 → t < 4096 + variables → length xs ≡ 8 → field 13 (must bad-variable (aTerm variables)) s at ≡ Got t q → xs′ ≡ set xs b t → at′ ≡ q
+      pub on-turn : (t q : ℕ) → variables ≤ 8 → t < 4096 + variables → length xs ≡ 8
+          → field 13 (must bad-variable (aTerm variables)) s at ≡ Got t q → xs′ ≡ set xs b t → at′ ≡ q
           → onTo m variables s xs′ (b + 1) at′ ≡ onTo m variables s xs b at
       unfolding onTo terms
       on-turn t q hn ht hl g ex ea =

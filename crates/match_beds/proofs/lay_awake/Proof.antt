@@ -11,7 +11,8 @@ use Rattle.match_beds.proofs.lay_awake.Statement.{statement}
 use Rattle.match_beds.proofs.lay_awake.Tie as tie
 
 abbrev Inv-loop : tie.InvT-loop
-Inv-loop sets₀ w₀ sets w = (w ≤ 4) × (length sets ≡ length sets₀) × ((j i : ℕ) → j < w → i < 64 → has sets j i ≡ true) × ((j i : ℕ) → 4 ≤ j → has sets j i ≡ has sets₀ j i)
+Inv-loop sets₀ w₀ sets w =
+    (w ≤ 4) × (length sets ≡ length sets₀) × ((j i : ℕ) → j < w → i < 64 → has sets j i ≡ true) × ((j i : ℕ) → 4 ≤ j → has sets j i ≡ has sets₀ j i)
 
 abbrev μ-loop : tie.MeasureT-loop
 μ-loop sets₀ w₀ sets w = 4 - w

@@ -43,7 +43,9 @@ abbrev begun : tie.After-known-told3 → List ℕ
 begun c = set (set (start (judged (typed c .before)) .args .row .now) 0 (judged (typed c .before) .ranged .result .value)) 1 (typed c .type-at .result .value)
 
 as-long : (c : tie.After-known-told3) → length (begun c) ≡ 11
-as-long c = length-set (set (start (judged (typed c .before)) .args .row .now) 0 _) 1 _ ∙ length-set (start (judged (typed c .before)) .args .row .now) 0 _ ∙ start (judged (typed c .before)) .pre .5
+as-long c =
+    let s = start (judged (typed c .before)) in
+    length-set (set (s .args .row .now) 0 _) 1 _ ∙ length-set (s .args .row .now) 0 _ ∙ s .pre .5
 
 -- ---- what is asked
 
