@@ -136,11 +136,9 @@ returns-2 : tie.Need-returns-2 Inv-loop μ-loop
 returns-2 c =
     let l = c .before .loop in
     let a = start (c .before) .args in
-    let e : a .n ≡ l .i = omega arith in (
-      ap (λ (k : ℕ). Got (factsIn (l .words) k) (l .at)) e
-      ∙ along-end (fact finer (a .types .now)) (a .image .now) (a .n) (factsIn (l .words) (l .i)) (l .i) (l .at) (c .loop-test .left) ∙ l .inv .3,
-      next-within _ (l .at) _ refl (l .inv .1),
-    )
+    let e : a .n ≡ l .i = omega arith in
+    let all = along-end (fact finer (a .types .now)) (a .image .now) (a .n) (factsIn (l .words) (l .i)) (l .i) (l .at) (c .loop-test .left) in
+    (ap (λ (k : ℕ). Got (factsIn (l .words) k) (l .at)) e ∙ all ∙ l .inv .3, next-within _ (l .at) _ refl (l .inv .1))
 
 pub facts-spec : {M : Type 1} → statement M
 facts-spec =
