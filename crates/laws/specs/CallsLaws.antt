@@ -3,22 +3,24 @@
 use mathlib.Core.Path.{_≡_, refl, _∙_}
 use mathlib.Core.Bool.{Bool, true, false, not}
 use mathlib.Core.List.{List, _∷_, _++_, map}
+use mathlib.Core.Option.{Option, none}
 use Prim.Native.Nat.{ℕ, suc, _+_, _-_, _*_, _^_, _≤_}
 use native.Mathlib.Omega.{arith}
 use borrow.Author.Tests.{lt-ltb}
 use lib.Dec.{leb, eqb}
 use lib.ListN.{length, drop, replicate, length-map}
 use lib.Seq.{drop-at}
-use Rattle.meaning.specs.Numbers.{finer, wrong-table, ill-formed}
+use Rattle.meaning.specs.Numbers.{finer, wrong-table, ill-formed, bad-store}
 use Rattle.meaning.specs.declared.State.{State}
 use Rattle.meaning.specs.Base.{if_then_else_, every}
 use Rattle.meaning.specs.Model.{Model}
-use Rattle.meaning.specs.State.{nilAfter, wellBuffer, isNil, wellFormed}
+use Rattle.meaning.specs.State.{nilAfter, opens, wellBuffer, isNil, wellFormed}
 use Rattle.meaning.specs.Read.{Got, Read, Refused}
 use Rattle.meaning.specs.Image.{chunk, decode}
-use Rattle.meaning.specs.Calls.{fitting, accepted, placeOf, neededBy, neededOf, opens, openState, openedBy, openOf, tracedBy, traceOf, runOf, Refreshed, refreshedBy, refreshOf}
-use Rattle.meaning.specs.Fresh.{freshOf}
+use Rattle.meaning.specs.Calls.{fitting, accepted, placeOf, neededBy, neededOf, openState, openedBy, openOf, tracedBy, traceLent, runLent, runOf, Refreshed, refreshedBy, refreshOf}
+use Rattle.meaning.specs.Fresh.{freshLent, freshOf}
 use Rattle.meaning.specs.Run.{going, ends, runFrom}
+use Rattle.meaning.specs.Store.{lentBy, storeFits, storeOf}
 use Rattle.laws.specs.BaseLaws.{every-append, every-map, every-replicate}
 use Rattle.laws.specs.ReadLaws.{times-all}
 use Rattle.laws.specs.ImageLaws.{Parts, chunk-well, few-rules, parts}
@@ -56,17 +58,23 @@ table-most image = by (decode image) refl
     by (Refused n at) e = omega arith
     by (Got m at) e = omega (arith, few-rules image m at e)
 
-pub made-most : (image : List ℕ) (s : State) (table : List ℕ) (n : ℕ) → runOf image s table n .made ≤ n
-unfolding runOf traceOf
-made-most image s table n = by (accepted image table)
+-- of a run that is refused, or goes on
+pub traced-most : (s : State) (table : List ℕ) (lent : Option (List ℕ)) (n : ℕ) (r : Read Model) → length (tracedBy s table lent n r .events) ≤ n
+traced-most s table lent n (Refused k at) = omega arith
+traced-most s table lent n (Got m at) = by (not (wellFormed m s)) (not (storeFits (m .types) lent))
   where
-    by : (r : Read Model) → length (tracedBy (going s table) n r .events) ≤ n
-    by (Refused k at) = omega arith
-    by (Got m at) =
-        elim (wellFormed m s) as (λ t. length ((if t then runFrom m n (going s table) else (ends ill-formed (going s table))) .events) ≤ n) [
-          | true ↦ run-most m n (going s table)
-          | false ↦ omega arith
-        ]
+    by : (b c : Bool) → length ((if b then ends ill-formed (going s table none) else (if c then ends bad-store (going s table none) else runFrom m n (going s table (storeOf lent)))) .events) ≤ n
+    by true c = omega arith
+    by false true = omega arith
+    by false false = run-most m n (going s table (storeOf lent))
+
+pub made-most : (image : List ℕ) (s : State) (table : List ℕ) (n : ℕ) → runOf image s table n .made ≤ n
+unfolding runOf traceLent
+made-most image s table n = traced-most s table none n (accepted image table)
+
+pub lent-most : (image : List ℕ) (s : State) (table : List ℕ) (n lent : ℕ) (words : List ℕ) → runLent image s table n lent words .answer .made ≤ n
+unfolding runLent traceLent
+lent-most image s table n lent words = traced-most s table (lentBy lent words) n (accepted image table)
 
 -- ---- "from every call the position": it is that of the refused image or table, else 0 (`..-placed`), and at most 524,288, the bits of the longest image (`..-place`)
 
@@ -120,12 +128,20 @@ pub run-place : (image : List ℕ) (s : State) (table : List ℕ) (steps : ℕ) 
 unfolding runOf
 run-place image s table steps = accepted-place image table
 
+pub run-lent-place : (image : List ℕ) (s : State) (table : List ℕ) (steps lent : ℕ) (words : List ℕ) → runLent image s table steps lent words .answer .position ≤ 524288
+unfolding runLent
+run-lent-place image s table steps lent words = accepted-place image table
+
 pub refresh-place : (image : List ℕ) (s : State) (mark : ℕ) (table : List ℕ) → refreshOf image s mark table .position ≤ 524288
 refresh-place image s mark table = rw (refresh-placed image s mark table) (accepted-place image table)
 
 pub fresh-place : (image : List ℕ) (s : State) (steps : ℕ) → freshOf image s steps .position ≤ 524288
 unfolding freshOf
 fresh-place image s steps = decode-place image
+
+pub fresh-lent-place : (image : List ℕ) (s : State) (steps lent : ℕ) (words : List ℕ) → freshLent image s steps lent words .answer .position ≤ 524288
+unfolding freshLent
+fresh-lent-place image s steps lent words = decode-place image
 
 pub needed-place : (image : List ℕ) → neededOf image .position ≤ 524288
 needed-place image = rw (needed-placed image) (decode-place image)

@@ -14,8 +14,7 @@ use Rattle.meaning.specs.Base.{if_then_else_, every, upFrom}
 use Rattle.meaning.specs.Read.{Refused, Got, must, field, times}
 use Rattle.meaning.specs.Image.{between, slotsIn, chunk, aType, anything, eight, decode, decodeBy, Header, header, fact, Head, head, rule, ending, beginning, contents, model}
 use Rattle.meaning.specs.Model.{Model, Chunk}
-use Rattle.meaning.specs.State.{slotCount, wellBuffer}
-use Rattle.meaning.specs.Calls.{opens}
+use Rattle.meaning.specs.State.{slotCount, wellBuffer, opens}
 use Rattle.laws.specs.BaseLaws.{and-left, and-right, every-append, every-upFrom}
 use Rattle.laws.specs.BitsLaws.{fieldAt-lt}
 use Rattle.laws.specs.ReadLaws.{FieldRead, field-got, follow-follow, must-kept, no-got, split, times-all}

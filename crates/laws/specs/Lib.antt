@@ -14,3 +14,4 @@ pub mod RefreshLaws
 pub mod RunLaws
 pub mod CallsLaws
 pub mod PartLaws
+pub mod StoreLaws

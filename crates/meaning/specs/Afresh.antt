@@ -2,6 +2,7 @@
 -- order". One table under a single statement.
 use mathlib.Core.Path.{_≡_, refl}
 use mathlib.Core.List.{List, [], _∷_, _++_, map}
+use mathlib.Core.Option.{none}
 use Prim.Native.Nat.{ℕ}
 use lib.ListN.{length, take, replicate}
 use lib.IntN.{ℤ, pos}
@@ -11,7 +12,7 @@ use Rattle.meaning.specs.State.{nilAfter, zeroState, bufferOf}
 use Rattle.meaning.specs.Step.{Event, Fired, Waited}
 use Rattle.meaning.specs.Run.{Timed, Run}
 use Rattle.meaning.specs.Calls.{openOf}
-use Rattle.meaning.specs.Fresh.{freshFrom, freshTraceOf, freshOf}
+use Rattle.meaning.specs.Fresh.{Moving, moving, freshFrom, freshTraceOf, freshOf}
 use Rattle.meaning.specs.Examples.{everything, Row, p1, modelA}
 use Rattle.meaning.specs.Telling.{holds, both, tests1, act, rule, fact, model, bufferWords, row, idle, asks, twice}
 
@@ -28,7 +29,7 @@ eventsWords [] = []
 eventsWords (e ∷ es) = eventWords e ++ eventsWords es
 
 -- a run in words: its number, and its events
-abbrev told : Run State → List ℕ
+abbrev told : Run Moving → List ℕ
 told r = r .number ∷ eventsWords (r .events)
 
 -- the rules of the cases: one that clears a buffer which holds a chunk
@@ -41,6 +42,10 @@ full = both (holds 6 6 0) (holds 7 8 0)
 abbrev at : ℕ → State → State
 at clock s = record { buffers = s .buffers; clock = clock }
 
+-- a run from a state where no store is lent
+abbrev alone : Model → ℕ → State → Run Moving
+alone m n s = freshFrom m n (moving s none)
+
 unfoldable pub rows : List Row
 unfolding everything p1 modelA
 rows =
@@ -50,24 +55,25 @@ rows =
     -- and what the call gives of it: the count, and the state after the last step
     ∷ row (freshOf modelA (openOf modelA (replicate 27 0) .state) 1000 .made ∷ freshOf modelA (openOf modelA (replicate 27 0) .state) 1000 .state .clock ∷ []) (7 ∷ 550 ∷ [])
     -- "9 .. halted before the steps asked were made": 0 where all are made, though it has halted by then; a step that was asked and not made is 9
-    ∷ row (told (freshFrom (model [] (twice ∷ [])) 1 (both (holds 6 6 0) (nilAfter 0)))) (0 ∷ 1050 ∷ 1 ∷ 0 ∷ [])
-    ∷ row (told (freshFrom (model [] (twice ∷ [])) 2 (both (holds 6 6 0) (nilAfter 0)))) (9 ∷ 1050 ∷ 1 ∷ 0 ∷ [])
-    ∷ row (told (freshFrom (model [] (twice ∷ [])) 0 (both (holds 6 6 0) (nilAfter 0)))) (0 ∷ [])
+    ∷ row (told (alone (model [] (twice ∷ [])) 1 (both (holds 6 6 0) (nilAfter 0)))) (0 ∷ 1050 ∷ 1 ∷ 0 ∷ [])
+    ∷ row (told (alone (model [] (twice ∷ [])) 2 (both (holds 6 6 0) (nilAfter 0)))) (9 ∷ 1050 ∷ 1 ∷ 0 ∷ [])
+    ∷ row (told (alone (model [] (twice ∷ [])) 0 (both (holds 6 6 0) (nilAfter 0)))) (0 ∷ [])
     -- a cleared buffer sets off no rule again; a rule on a buffer that no step has touched is matched all the same
-    ∷ row (told (freshFrom (model [] (clears 0 (pos 5) ∷ clears 1 (pos 0) ∷ [])) 9 full)) (9 ∷ 1050 ∷ 1 ∷ 0 ∷ 1100 ∷ 1 ∷ 1 ∷ [])
+    ∷ row (told (alone (model [] (clears 0 (pos 5) ∷ clears 1 (pos 0) ∷ [])) 9 full)) (9 ∷ 1050 ∷ 1 ∷ 0 ∷ 1100 ∷ 1 ∷ 1 ∷ [])
     -- a chunk that arrives within a firing is seen by the next step
-    ∷ row (told (freshFrom (model [] (clears 0 (pos 0) ∷ clears 1 (pos 5) ∷ [])) 9 (both (holds 6 6 0) (holds 7 8 50)))) (9 ∷ 1050 ∷ 1 ∷ 0 ∷ 1100 ∷ 1 ∷ 1 ∷ [])
+    ∷ row (told (alone (model [] (clears 0 (pos 0) ∷ clears 1 (pos 5) ∷ [])) 9 (both (holds 6 6 0) (holds 7 8 50)))) (9 ∷ 1050 ∷ 1 ∷ 0 ∷ 1100 ∷ 1 ∷ 1 ∷ [])
     -- "the highest utility is chosen, then the lowest number"
-    ∷ row (told (freshFrom (model [] (idle (pos 3) ∷ idle (pos 4) ∷ idle (pos 4) ∷ [])) 1 full)) (0 ∷ 1050 ∷ 1 ∷ 1 ∷ [])
+    ∷ row (told (alone (model [] (idle (pos 3) ∷ idle (pos 4) ∷ idle (pos 4) ∷ [])) 1 full)) (0 ∷ 1050 ∷ 1 ∷ 1 ∷ [])
     -- "8 .. clock would pass 4,294,967,295", in a firing and in a wait; nothing pending is 9, whatever the clock
-    ∷ row (told (freshFrom (model [] (idle (pos 0) ∷ [])) 1 (at 4294967245 full))) (0 ∷ 4294967295 ∷ 1 ∷ 0 ∷ [])
-    ∷ row (told (freshFrom (model [] (idle (pos 0) ∷ [])) 1 (at 4294967246 full))) (8 ∷ [])
-    ∷ row (told (freshFrom (model [] []) 1 (at 4294967295 (both (nilAfter 1) (nilAfter 0))))) (8 ∷ [])
-    ∷ row (told (freshFrom (model [] []) 1 (at 4294967295 full))) (9 ∷ [])
+    ∷ row (told (alone (model [] (idle (pos 0) ∷ [])) 1 (at 4294967245 full))) (0 ∷ 4294967295 ∷ 1 ∷ 0 ∷ [])
+    ∷ row (told (alone (model [] (idle (pos 0) ∷ [])) 1 (at 4294967246 full))) (8 ∷ [])
+    ∷ row (told (alone (model [] []) 1 (at 4294967295 (both (nilAfter 1) (nilAfter 0))))) (8 ∷ [])
+    ∷ row (told (alone (model [] []) 1 (at 4294967295 full))) (9 ∷ [])
     -- "8 and 9 return the state .. after the steps already made; the step in question changes nothing"
-    ∷ row (freshFrom (model [] (idle (pos 0) ∷ [])) 2 (at 4294967245 full) .number ∷ freshFrom (model [] (idle (pos 0) ∷ [])) 2 (at 4294967245 full) .left .clock ∷ []) (8 ∷ 4294967295 ∷ [])
+    ∷ row (alone (model [] (idle (pos 0) ∷ [])) 2 (at 4294967245 full) .number ∷ alone (model [] (idle (pos 0) ∷ [])) 2 (at 4294967245 full) .left .state .clock ∷ [])
+    (8 ∷ 4294967295 ∷ [])
     -- a request that no fact fits
-    ∷ row (bufferWords (bufferOf (freshFrom (model (fact 4 9 1 120 ∷ []) (asks ∷ [])) 1 (both (holds 5 6 0) (nilAfter 0)) .left) 1)) (0 ∷ 0 ∷ 0 ∷ 70 ∷ [])
+    ∷ row (bufferWords (bufferOf (alone (model (fact 4 9 1 120 ∷ []) (asks ∷ [])) 1 (both (holds 5 6 0) (nilAfter 0)) .left .state) 1)) (0 ∷ 0 ∷ 0 ∷ 70 ∷ [])
     -- P1 to P6: 9; no step asked 0; cut short 2; a ninth byte 4; a pad bit 4; type 1 where T is 0 is 3
     ∷ row (freshOf p1 zeroState 5 .number ∷ freshOf p1 zeroState 0 .number ∷ freshOf (take 7 p1) zeroState 5 .number ∷ freshOf (p1 ++ (0 ∷ [])) zeroState 5 .number
     ∷ freshOf (take 7 p1 ++ (0x10 ∷ [])) zeroState 5 .number ∷ freshOf (take 7 p1 ++ (0x20 ∷ [])) zeroState 5 .number ∷ [])

@@ -1,20 +1,21 @@
 -- "Calls and their numbers": open, run and refresh, for all that they could be handed.
 use mathlib.Core.Bool.{Bool, not}
-use mathlib.Core.List.{List, _++_, map}
+use mathlib.Core.List.{List, [], _++_, map}
+use mathlib.Core.Option.{Option, none}
 use Prim.Native.Nat.{ℕ, _-_, _*_, _^_}
 use lib.Dec.{leb, eqb}
 use lib.ListN.{length, replicate}
-use Rattle.meaning.specs.declared.Buffer.{Buffer}
 use Rattle.meaning.specs.declared.State.{State}
 use Rattle.meaning.specs.Base.{if_then_else_}
-use Rattle.meaning.specs.Numbers.{all-done, wrong-table, ill-formed, bad-mark}
-use Rattle.meaning.specs.Model.{Model, Chunk}
-use Rattle.meaning.specs.State.{nilAfter, zeroState, wellFormed}
+use Rattle.meaning.specs.Numbers.{all-done, wrong-table, ill-formed, bad-mark, bad-store}
+use Rattle.meaning.specs.Model.{Model}
+use Rattle.meaning.specs.State.{nilAfter, opens, zeroState, wellFormed}
 use Rattle.meaning.specs.Read.{Read, Refused, Got}
 use Rattle.meaning.specs.Image.{decode}
 use Rattle.meaning.specs.Match.{freshTable}
 use Rattle.meaning.specs.Refresh.{refresh, refreshCount}
 use Rattle.meaning.specs.Run.{Going, going, Run, ends, runFrom}
+use Rattle.meaning.specs.Store.{lentBy, storeFits, storeOf, storeLeft}
 
 -- "Order: 1; then 2 and 3, the earlier in reading order; 4; 5": what all three calls look at first
 abbrev pub fitting : List ℕ → Read Model → Read Model
@@ -53,9 +54,6 @@ pub record Opened : Type 0 where
   pub state : State
   pub table : List ℕ
 
-abbrev pub opens : Chunk → Buffer
-opens c = record { isa = c .isa; slots = c .slots; delay = 0 }
-
 -- "For each buffer, its opening chunk"; "buffers past the image's count hold nil"; "Opening delays and the opening clock are 0."
 unfoldable pub openState : Model → State
 openState m = record { buffers = map opens (m .opening) ++ replicate (8 - m .buffers) (nilAfter 0); clock = 0 }
@@ -70,14 +68,22 @@ openOf image table = openedBy table (accepted image table)
 
 -- ---- "Run: image, state, table, steps asked (0 to 65,535); gives a number, the state and the steps made."
 
--- the run that a call makes, with its events: "Numbers 1 to 6 and 10 return count 0, the state as handed in .. and an unaltered table."
--- "11 to 13 return and leave what 3 does". "Run with 0 steps asked answers 0 after checks 1 to 6."
-abbrev pub tracedBy : Going → ℕ → Read Model → Run Going
-tracedBy g steps (Refused n at) = ends n g
-tracedBy g steps (Got m at) = if wellFormed m (g .state) then runFrom m steps g else (ends ill-formed g)
+-- the run that a call makes, with its events, where a store may be lent in words: "Numbers 1 to 6 and 10 return count 0, the state as handed in ..
+-- and an unaltered table." "11 to 13 return and leave what 3 does". 15 is "after 6 and like it, the store unaltered".
+-- "Run with 0 steps asked answers 0 after checks 1 to 6."
+abbrev pub tracedBy : State → List ℕ → Option (List ℕ) → ℕ → Read Model → Run Going
+tracedBy s table lent steps (Refused n at) = ends n (going s table none)
+tracedBy s table lent steps (Got m at) =
+    if not (wellFormed m s) then ends ill-formed (going s table none)
+    else (if not (storeFits (m .types) lent) then ends bad-store (going s table none)
+    else runFrom m steps (going s table (storeOf lent)))
 
-unfoldable pub traceOf : List ℕ → State → List ℕ → ℕ → Run Going
-traceOf image s table steps = tracedBy (going s table) steps (accepted image table)
+unfoldable pub traceLent : List ℕ → State → List ℕ → ℕ → Option (List ℕ) → Run Going
+traceLent image s table steps lent = tracedBy s table lent steps (accepted image table)
+
+-- with nothing lent
+abbrev pub traceOf : List ℕ → State → List ℕ → ℕ → Run Going
+traceOf image s table steps = traceLent image s table steps none
 
 pub record Ran : Type 0 where
   pub number : ℕ
@@ -90,6 +96,18 @@ pub record Ran : Type 0 where
 abbrev pub ranBy : ℕ → Run Going → Ran
 ranBy position r = record { number = r .number; position = position; state = r .left .state; table = r .left .table; made = length (r .events) }
 
+-- an answer, and how the call leaves the words beside it, lent or not
+pub record WithStore (A : Type 0) : Type 0 where
+  pub answer : A
+  pub store : List ℕ
+
+-- the general call: a word says what is lent of the words
+unfoldable pub runLent : List ℕ → State → List ℕ → ℕ → ℕ → List ℕ → WithStore Ran
+runLent image s table steps lent words =
+    let r : Run Going = traceLent image s table steps (lentBy lent words) in
+    record { answer = ranBy (placeOf (accepted image table)) r; store = storeLeft words (r .left .store) }
+
+-- with nothing lent
 unfoldable pub runOf : List ℕ → State → List ℕ → ℕ → Ran
 runOf image s table steps = ranBy (placeOf (accepted image table)) (traceOf image s table steps)
 

@@ -23,16 +23,18 @@ use Rattle.meaning.specs.Mark.{markOf}
 use Rattle.meaning.specs.Step.{Event, Fired, Waited, fireStep, step}
 use Rattle.meaning.specs.Refresh.{refresh, refreshCount}
 use Rattle.meaning.specs.Run.{runFrom}
-use Rattle.meaning.specs.Calls.{accepted, neededOf, Opened, openState, openOf, traceOf, Ran, runOf, Refreshed, refreshOf}
-use Rattle.meaning.specs.Fresh.{matched, chooseFresh, move, freshFrom, freshTraceOf, freshOf}
+use Rattle.meaning.specs.Learning.{cleared, joining}
+use Rattle.meaning.specs.Store.{storeIn, storeFits, placesWords, storeLeft}
+use Rattle.meaning.specs.Calls.{accepted, neededOf, Opened, openState, openOf, traceLent, Ran, runLent, runOf, Refreshed, refreshOf}
+use Rattle.meaning.specs.Fresh.{matched, chooseFresh, move, freshFrom, freshTraceLent, freshLent, freshOf}
 use Rattle.meaning.specs.Print.{Line, Stepped, End, printed}
 
 -- `unfolding everything` opens each definition of document 01, and those of the run without a table
 unfoldable pub everything : Unit {0}
 unfolding wellFormed fieldAt field times rising header chunk fact slotsIn terms masked head test deed action body rule
     ending beginning contents model decodeBy places valueIn matches entryOf freshTable candidates choose
-    retrieve put done deedOn change fire soonest wait markOf fireStep step refresh refreshCount accepted neededOf openState openOf runFrom traceOf runOf refreshOf
-    matched chooseFresh move freshFrom freshTraceOf freshOf printed
+    retrieve put done deedOn change fire soonest wait markOf fireStep step refresh refreshCount accepted neededOf openState openOf runFrom traceLent runLent runOf refreshOf
+    matched chooseFresh move freshFrom freshTraceLent freshLent freshOf printed cleared joining storeIn storeFits placesWords storeLeft
 everything = tt
 
 -- P1's image

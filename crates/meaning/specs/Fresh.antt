@@ -1,4 +1,5 @@
--- The run without a table (request 2026-02): "matches every rule afresh at each step". Nothing goes from step to step but the state.
+-- The run without a table (request 2026-02): "matches every rule afresh at each step". Nothing goes from step to step but the state, and a store that is lent.
+use mathlib.Core.Bool.{not}
 use mathlib.Core.List.{List, [], _∷_}
 use mathlib.Core.Option.{Option, none, some}
 use Prim.Native.Nat.{ℕ, zero, suc, _+_}
@@ -8,8 +9,8 @@ use lib.IntN.{ℤ, pos}
 use Rattle.meaning.specs.declared.State.{State}
 use Rattle.meaning.specs.Base.{if_then_else_, keep}
 use Rattle.meaning.specs.Highest.{highest}
-use Rattle.meaning.specs.Numbers.{all-done, ill-formed, clock-full, halted}
-use Rattle.meaning.specs.Model.{Model, Rule, Fact}
+use Rattle.meaning.specs.Numbers.{all-done, ill-formed, clock-full, halted, store-full, bad-store}
+use Rattle.meaning.specs.Model.{Model, Rule, Chunk, Fact}
 use Rattle.meaning.specs.State.{wellFormed}
 use Rattle.meaning.specs.Read.{Read, Refused, Got}
 use Rattle.meaning.specs.Image.{decode}
@@ -18,8 +19,10 @@ use Rattle.meaning.specs.Choice.{Candidate, counts, lower, utilities}
 use Rattle.meaning.specs.Fire.{fire}
 use Rattle.meaning.specs.Wait.{soonest, wait}
 use Rattle.meaning.specs.Step.{Event, Fired, Waited, largest}
+use Rattle.meaning.specs.Learning.{knowing, storeAfter, overfull}
 use Rattle.meaning.specs.Run.{Run, ends, before}
-use Rattle.meaning.specs.Calls.{placeOf}
+use Rattle.meaning.specs.Store.{lentBy, storeFits, storeOf, storeLeft}
+use Rattle.meaning.specs.Calls.{placeOf, WithStore}
 
 -- ---- the choice
 
@@ -64,28 +67,52 @@ moveOf m s = move m (m .facts) (utilities (m .rules)) s
 
 -- ---- the run
 
+-- what goes from step to step: the state, and the store if one is lent
+pub record Moving : Type 0 where
+  pub state : State
+  pub store : Option (List Chunk)
+
+abbrev pub moving : State → Option (List Chunk) → Moving
+moving s store = record { state = s; store = store }
+
+-- "14, a step whose new facts would make more than 256, after 8"
+abbrev pub ifRoomFresh : Model → Option (List Chunk) → State → Move → Move
+ifRoomFresh m store s (Stays n) = Stays n
+ifRoomFresh m store s (Moves e s′) = if overfull (storeAfter m s e store) then Stays store-full else (Moves e s′)
+
+-- the step of a model with what the store knows
+abbrev pub moveWith : Model → Option (List Chunk) → State → Move
+moveWith m store s = ifRoomFresh m store s (moveOf (knowing m store) s)
+
 -- "the state .. and count after the steps already made; the step in question changes nothing"
-abbrev pub moveOn : State → (State → Run State) → Move → Run State
-moveOn s next (Stays n) = ends n s
-moveOn s next (Moves e s′) = before (record { clock = s′ .clock; event = e }) (next s′)
+abbrev pub moveOn : Model → Moving → (Moving → Run Moving) → Move → Run Moving
+moveOn m g next (Stays n) = ends n g
+moveOn m g next (Moves e s′) = before (record { clock = s′ .clock; event = e }) (next (moving s′ (storeAfter m (g .state) e (g .store))))
 
 -- so many steps at most ("Run with 0 steps asked answers 0"),
--- each from the state that the one before it left,
+-- each from the state and the store that the one before it left,
 -- and from nothing else
-unfoldable pub freshFrom : Model → ℕ → State → Run State
-freshFrom m zero s = ends all-done s
-freshFrom m (suc n) s = moveOn s (λ s′. freshFrom m n s′) (moveOf m s)
+unfoldable pub freshFrom : Model → ℕ → Moving → Run Moving
+freshFrom m zero g = ends all-done g
+freshFrom m (suc n) g = moveOn m g (λ g′. freshFrom m n g′) (moveWith m (g .store) (g .state))
 
 -- ---- the call: "a run that takes image, state and steps and no table"
 
--- "Refusals: 1 to 4, 6, 8 and 9 in 01's order"; refused by 1 to 4, 6 or 11 to 13 it gives "the state as handed in" and makes no step
-abbrev pub freshBy : State → ℕ → Read Model → Run State
-freshBy s steps (Refused n at) = ends n s
-freshBy s steps (Got m at) = if wellFormed m s then freshFrom m steps s else (ends ill-formed s)
+-- "Refusals: 1 to 4, 6, 8 and 9 in 01's order"; refused by 1 to 4, 6, 11 to 13 or 15 it gives "the state as handed in" and makes no step
+abbrev pub freshBy : State → Option (List ℕ) → ℕ → Read Model → Run Moving
+freshBy s lent steps (Refused n at) = ends n (moving s none)
+freshBy s lent steps (Got m at) =
+    if not (wellFormed m s) then ends ill-formed (moving s none)
+    else (if not (storeFits (m .types) lent) then ends bad-store (moving s none)
+    else freshFrom m steps (moving s (storeOf lent)))
 
 -- with its events
-unfoldable pub freshTraceOf : List ℕ → State → ℕ → Run State
-freshTraceOf image s steps = freshBy s steps (decode image)
+unfoldable pub freshTraceLent : List ℕ → State → ℕ → Option (List ℕ) → Run Moving
+freshTraceLent image s steps lent = freshBy s lent steps (decode image)
+
+-- with nothing lent
+abbrev pub freshTraceOf : List ℕ → State → ℕ → Run Moving
+freshTraceOf image s steps = freshTraceLent image s steps none
 
 pub record FreshRan : Type 0 where
   pub number : ℕ
@@ -94,8 +121,15 @@ pub record FreshRan : Type 0 where
   pub made : ℕ
 
 -- "the number, state and count"
-abbrev pub freshRanBy : ℕ → Run State → FreshRan
-freshRanBy position r = record { number = r .number; position = position; state = r .left; made = length (r .events) }
+abbrev pub freshRanBy : ℕ → Run Moving → FreshRan
+freshRanBy position r = record { number = r .number; position = position; state = r .left .state; made = length (r .events) }
 
+-- the general call: a word says what is lent of the words
+unfoldable pub freshLent : List ℕ → State → ℕ → ℕ → List ℕ → WithStore FreshRan
+freshLent image s steps lent words =
+    let r : Run Moving = freshTraceLent image s steps (lentBy lent words) in
+    record { answer = freshRanBy (placeOf (decode image)) r; store = storeLeft words (r .left .store) }
+
+-- with nothing lent
 unfoldable pub freshOf : List ℕ → State → ℕ → FreshRan
 freshOf image s steps = freshRanBy (placeOf (decode image)) (freshTraceOf image s steps)

@@ -14,8 +14,10 @@ pub mod Fire
 pub mod Wait
 pub mod Mark
 pub mod Step
+pub mod Learning
 pub mod Refresh
 pub mod Run
+pub mod Store
 pub mod Calls
 pub mod Fresh
 pub mod Print
@@ -24,3 +26,4 @@ pub mod Telling
 pub mod EmptySlots
 pub mod Afresh
 pub mod BadImages
+pub mod Clearing

@@ -59,6 +59,16 @@ bad-variable = 12
 abbrev pub bad-buffer : ℕ
 bad-buffer = 13
 
+-- ---- request 2026-05: "A cleared chunk is remembered"
+
+-- "14, a step whose new facts would make more than 256"
+abbrev pub store-full : ℕ
+store-full = 14
+
+-- "15, not 256 places, a count over 256 or a fact that the image could not hold"
+abbrev pub bad-store : ℕ
+bad-store = 15
+
 -- the numbers that the rules of fields go by, one for each thing that a rule is about
 pub record RuleNumbers : Type 0 where
   -- a version, count, type or action kind

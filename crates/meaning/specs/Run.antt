@@ -1,19 +1,22 @@
 -- One step after the other: a run, its events and its end together.
 use mathlib.Core.List.{List, [], _∷_}
+use mathlib.Core.Option.{Option}
 use Prim.Native.Nat.{ℕ, zero, suc}
 use Rattle.meaning.specs.declared.State.{State}
 use Rattle.meaning.specs.Numbers.{all-done}
-use Rattle.meaning.specs.Model.{Model}
-use Rattle.meaning.specs.Step.{Event, Step, Stopped, Made, stepOf}
+use Rattle.meaning.specs.Model.{Model, Chunk}
+use Rattle.meaning.specs.Step.{Event, Step, Stopped, Made}
+use Rattle.meaning.specs.Learning.{storeAfter, stepWith}
 use Rattle.meaning.specs.Refresh.{refresh}
 
--- what goes from step to step
+-- what goes from step to step: state and table, and the store if one is lent
 pub record Going : Type 0 where
   pub state : State
   pub table : List ℕ
+  pub store : Option (List Chunk)
 
-abbrev pub going : State → List ℕ → Going
-going s table = record { state = s; table = table }
+abbrev pub going : State → List ℕ → Option (List Chunk) → Going
+going s table store = record { state = s; table = table; store = store }
 
 -- a step that was made, and the clock after it
 pub record Timed : Type 0 where
@@ -36,12 +39,13 @@ module _ {Left : Type 0} where
   before e r = record { events = e ∷ r .events; number = r .number; left = r .left }
 
 -- "After each step the table is refreshed with that mark." "Numbers 7, 8 and 9 return the state, table and count after the steps already made;
--- the step in question changes nothing."
+-- the step in question changes nothing." 14 is "like 8 in all it leaves".
 abbrev pub goOn : Model → Going → (Going → Run Going) → Step → Run Going
 goOn m g next (Stopped n) = ends n g
-goOn m g next (Made e s′ mark) = before (record { clock = s′ .clock; event = e }) (next (going s′ (refresh (m .rules) s′ mark (g .table))))
+goOn m g next (Made e s′ mark) =
+    before (record { clock = s′ .clock; event = e }) (next (going s′ (refresh (m .rules) s′ mark (g .table)) (storeAfter m (g .state) e (g .store))))
 
 -- so many steps at most
 unfoldable pub runFrom : Model → ℕ → Going → Run Going
 runFrom m zero g = ends all-done g
-runFrom m (suc n) g = goOn m g (λ g′. runFrom m n g′) (stepOf m (g .state) (g .table))
+runFrom m (suc n) g = goOn m g (λ g′. runFrom m n g′) (stepWith m (g .store) (g .state) (g .table))

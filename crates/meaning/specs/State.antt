@@ -7,11 +7,15 @@ use lib.ListN.{length, getD, drop, replicate}
 use Rattle.meaning.specs.declared.Buffer.{Buffer}
 use Rattle.meaning.specs.declared.State.{State}
 use Rattle.meaning.specs.Base.{every}
-use Rattle.meaning.specs.Model.{Model}
+use Rattle.meaning.specs.Model.{Model, Chunk}
 
 -- "The nil chunk is type 0 with all slots 0."
 abbrev pub nilAfter : ℕ → Buffer
 nilAfter delay = record { isa = 0; slots = replicate 8 0; delay = delay }
+
+-- a chunk in a buffer, visible at once
+abbrev pub opens : Chunk → Buffer
+opens c = record { isa = c .isa; slots = c .slots; delay = 0 }
 
 -- "an all-zero state"
 abbrev pub zeroState : State

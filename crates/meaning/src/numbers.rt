@@ -26,3 +26,7 @@ pub const BAD_MASK: u8 = 11;
 pub const BAD_VARIABLE: u8 = 12;
 
 pub const BAD_BUFFER: u8 = 13;
+
+pub const STORE_FULL: u8 = 14;
+
+pub const BAD_STORE: u8 = 15;
