@@ -5,8 +5,8 @@ use lib.ListN.{getD, take, drop, replicate}
 use Rattle.meaning.specs.declared.Buffer.{Buffer}
 use Rattle.meaning.specs.declared.State.{State}
 use Rattle.meaning.specs.Step.{Fired, Waited}
-use Rattle.meaning.specs.Calls.{Opened, openOf, Ran, runOf, Refreshed, refreshOf}
-use Rattle.meaning.specs.Fresh.{FreshRan, freshOf}
+use Rattle.meaning.specs.Calls.{Opened, openOf, Ran, WithStore, runLent, Refreshed, refreshOf}
+use Rattle.meaning.specs.Fresh.{FreshRan, freshLent}
 use Rattle.meaning.specs.Print.{Line, Stepped, End, printed}
 use Rattle.meaning.specs.Examples.{Row}
 
@@ -49,6 +49,10 @@ ran r = r .number ∷ r .position ∷ stateWords (r .state) ++ r .table ++ (r .m
 abbrev ranFresh : FreshRan → List ℕ
 ranFresh r = r .number ∷ r .position ∷ stateWords (r .state) ++ (r .made ∷ [])
 
+-- and the words of the store after them, as they are left
+abbrev left : {A : Type 0} → (A → List ℕ) → WithStore A → List ℕ
+left words w = words (w .answer) ++ w .store
+
 abbrev refreshed : Refreshed → List ℕ
 refreshed r = r .number ∷ r .position ∷ r .count ∷ r .table
 
@@ -59,16 +63,16 @@ output (Stepped clock (Fired k) ∷ ls) = 1 ∷ clock ∷ k ∷ output ls
 output (Stepped clock (Waited ms) ∷ ls) = 2 ∷ clock ∷ ms ∷ output ls
 output (End number made ∷ ls) = 3 ∷ number ∷ made ∷ output ls
 
--- ---- the five calls, with what is said
+-- ---- the five calls, with what is said; both runs are lent a store, which 1 says
 
 abbrev pub opens : List ℕ → List ℕ → List ℕ → Row
 opens image table said = record { given = opened (openOf image table); said = said }
 
-abbrev pub runs : List ℕ → List ℕ → List ℕ → ℕ → List ℕ → Row
-runs image state table steps said = record { given = ran (runOf image (stateOf state) table steps); said = said }
+abbrev pub runs : List ℕ → List ℕ → List ℕ → ℕ → List ℕ → List ℕ → Row
+runs image state table steps store said = record { given = left ran (runLent image (stateOf state) table steps 1 store); said = said }
 
-abbrev pub freshes : List ℕ → List ℕ → ℕ → List ℕ → Row
-freshes image state steps said = record { given = ranFresh (freshOf image (stateOf state) steps); said = said }
+abbrev pub freshes : List ℕ → List ℕ → ℕ → List ℕ → List ℕ → Row
+freshes image state steps store said = record { given = left ranFresh (freshLent image (stateOf state) steps 1 store); said = said }
 
 abbrev pub refreshes : List ℕ → List ℕ → ℕ → List ℕ → List ℕ → Row
 refreshes image state mark table said = record { given = refreshed (refreshOf image (stateOf state) mark table); said = said }
