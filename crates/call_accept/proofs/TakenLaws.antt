@@ -1,6 +1,6 @@
 -- What is taken, by how the image was laid out and how long the table is; and what that says of a call.
 use Prim.Native.Nat.{ℕ, _*_}
-use mathlib.Core.Path.{_≡_, refl, sym, _∙_}
+use mathlib.Core.Path.{_≡_, refl, sym, ap, _∙_}
 use mathlib.Core.Bool.{Bool, true, false}
 use mathlib.Core.List.{List}
 use native.Mathlib.Omega.{arith}
@@ -11,14 +11,17 @@ use Rattle.meaning.specs.Model.{Model}
 use Rattle.meaning.specs.Read.{Read, Refused, Got}
 use Rattle.meaning.specs.Image.{decode}
 use Rattle.meaning.specs.Calls.{accepted, placeOf}
+use Rattle.laws.specs.ReadLaws.{no-got}
 use Rattle.layout.specs.declared.Walk.{Walk}
 use Rattle.layout.specs.declared.Walk.the-variants.{Next, Bad}
 use Rattle.layout.specs.declared.Plan.{Plan}
+use Rattle.layout.specs.declared.PlanRead.{PlanRead}
 use Rattle.layout.specs.Rows.{ruleIn}
 use Rattle.layout.specs.Plans.{headsOn, rowsOn, modelOn}
 use Rattle.layout.proofs.RowLaws.{rows-length}
 use Rattle.layout.proofs.WalkLaws.{answer-bad, answer-next}
-use Rattle.read_image.specs.Whole.{LaidOut}
+use Rattle.read_image.specs.Whole.{Begun, LaidOut}
+use Rattle.read_image.proofs.WholeLaws.{begun-next}
 use Rattle.call_accept.specs.declared.Taken.{Taken}
 use Rattle.call_accept.specs.declared.Taken.the-variants as taken
 use Rattle.call_accept.specs.Acceptance.{settled, takenBy, TakenMet}
@@ -77,6 +80,14 @@ module _ (p : Plan) (image tape : List ℕ) (w : Walk) (met : LaidOut w p image 
           planned = λ x. met .planned q e;
           right-length = λ x. g;
         }
+
+-- of an accepted image the header was read, and its plan is the one that was made for it
+pub taken-next : {C : Type 0} (b : PlanRead) (r : Taken) (image table tape : List ℕ) → Begun b image → TakenMet r (b .plan) image (length table) tape → r ≡ taken.Accepted
+    → ((q : ℕ) → b .walk ≡ Next q → C) → C
+taken-next b r image table tape begun met e on-next =
+    let m = modelOn (b .plan) tape in
+    let got : Got m 0 ≡ settled (accepted image table) = sym (ap (λ (x : Taken). takenBy x m) e) ∙ met .is-taken table refl in
+    begun-next b image begun (λ x y g. no-got x y m 0 (accepted-bad image table x y g ∙ sym got)) on-next
 
 -- an accepted image has no place
 pub place-settled : (a : Read Model) → placeOf a ≡ placeOf (settled a)

@@ -72,7 +72,7 @@ fn open_on(image: &[u8], begun: PlanRead, table: &mut [u16], tape: &mut [u16]) -
 pub fn open(image: &[u8], table: &mut [u16]) -> OpenDone
     ensures { λ r. ⌜ openedIn r (now (table .exit)) ≡ openOf (now (image .entry)) (now (table .entry)) ⌝ }
 {
-    let begun = read_image::begin(image);
+    let begun = read_image::begin(image, false);
     let plan = begun.plan;
     if plan.end <= SMALL_TAPE {
         let mut tape = [0u16; SMALL_TAPE];

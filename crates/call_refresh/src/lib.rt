@@ -95,7 +95,7 @@ fn refresh_on(
 pub fn refresh(image: &[u8], state: State, mark: u16, table: &mut [u16]) -> RefreshDone
     ensures { λ r. ⌜ refreshedIn r (now (table .exit)) ≡ refreshOf (now (image .entry)) state mark (now (table .entry)) ⌝ }
 {
-    let begun = read_image::begin(image);
+    let begun = read_image::begin(image, false);
     let plan = begun.plan;
     if plan.end <= SMALL_TAPE {
         let mut tape = [0u16; SMALL_TAPE];

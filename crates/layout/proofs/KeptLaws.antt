@@ -1,20 +1,21 @@
 -- What stands on a tape stays while words after it are written, and so does the model that it means.
-use Prim.Native.Nat.{ℕ, _+_, _*_, _≤_, _<_}
+use Prim.Native.Nat.{ℕ, _+_, _-_, _*_, _≤_, _<_}
 use mathlib.Core.Path.{_≡_, refl, sym, ap, ap₂, _∙_, subst}
 use mathlib.Core.List.{List, map}
 use native.Mathlib.Omega.{arith}
 use lib.ListN.{length, getD, take, drop, length-drop}
-use lib.Seq.{sets, take-take, getD-take, getD-drop, length-take-le}
+use lib.Seq.{sets, drop-drop, take-take, getD-take, getD-drop, length-take-le}
 use Rattle.meaning.specs.declared.Buffer.{Buffer}
 use Rattle.meaning.specs.declared.State.{State}
 use Rattle.meaning.specs.Model.{Model, Chunk, Fact, Test, Action, Rule}
 use Rattle.meaning.specs.Image.{utilityOf}
+use Rattle.meaning.specs.Learning.{chunkOf}
 use Rattle.meaning.specs.Calls.{openState}
 use Rattle.layout.specs.declared.Plan.{Plan}
 use Rattle.layout.specs.Walks.{Small}
 use Rattle.layout.specs.Rows.{factIn, testIn, actionIn, testsIn, actionsIn, ruleIn, rulesIn, testedMask, Laid}
 use Rattle.layout.specs.StateWords.{bufferIn, buffersIn, stateIn}
-use Rattle.layout.specs.Plans.{chunkIn, typesOn, openingOn, factsOn, headsOn, rowsOn, rulesOn, modelOn, Planned}
+use Rattle.layout.specs.Plans.{typesOn, openingOn, factsOn, headsOn, rowsOn, rulesOn, modelOn, Planned}
 use Rattle.layout.proofs.WordLaws.{below-get, sets-at}
 use Rattle.layout.proofs.RowLaws.{rows-same, in-same, fact-like, test-like, action-like}
 use Rattle.layout.proofs.StateLaws.{buffer-like}
@@ -29,6 +30,12 @@ SameTo m w w′ = (j : ℕ) → j < m → getD w′ j 0 ≡ getD w j 0
 -- two lists that begin alike
 pub begin-alike : (m o : ℕ) (w w′ : List ℕ) → m ≤ o → take o w′ ≡ take o w → take m w′ ≡ take m w
 begin-alike m o w w′ h e = sym (take-take m o w′ h) ∙ ap (take m) e ∙ take-take m o w h
+
+-- two lists that end alike
+pub drop-alike : (m o : ℕ) (w w′ : List ℕ) → m ≤ o → drop m w′ ≡ drop m w → drop o w′ ≡ drop o w
+drop-alike m o w w′ h e =
+    let on : m + (o - m) ≡ o = omega arith in
+    ap (λ (i : ℕ). drop i w′) (sym on) ∙ sym (drop-drop (o - m) m w′) ∙ ap (drop (o - m)) e ∙ drop-drop (o - m) m w ∙ ap (λ (i : ℕ). drop i w) on
 
 -- words of a list that begins as another does
 pub same-below : (r m : ℕ) (w w′ : List ℕ) → take (r + m) w′ ≡ take (r + m) w → SameTo m (drop r w) (drop r w′)
@@ -56,7 +63,7 @@ module _ (p : Plan) (tape tape′ : List ℕ) (kept : take 144 tape′ ≡ take 
   state-kept = ap (λ (bs : List Buffer). record { buffers = bs; clock = 0 }) buffers-kept
 
   pub opening-kept : openingOn p tape′ ≡ openingOn p tape
-  opening-kept = ap (λ (bs : List Buffer). map chunkIn (take (p .buffers) bs)) buffers-kept
+  opening-kept = ap (λ (bs : List Buffer). map chunkOf (take (p .buffers) bs)) buffers-kept
 
 -- ---- facts stay while words from their end on are written
 
@@ -101,40 +108,64 @@ module _ (heads heads′ words words′ : List ℕ) (n : ℕ) (laid : Laid heads
 -- ---- where the sections of a plan begin: each where the one before it ends
 
 pub record Follows (p : Plan) : Type 0 where
-  pub heads-at : p .heads ≡ 144 + 11 * p .facts
+  pub chains-at : p .chains ≡ 144 + 11 * p .places
+  pub heads-at : p .heads ≡ p .chains + 64 + p .places
   pub rows-at : p .rows ≡ p .heads + 4 * p .rules
-  pub chains-at : p .chains ≡ p .rows + 176 * p .rules
-  pub order-at : p .order ≡ p .chains + 64 + p .facts
+  pub order-at : p .order ≡ p .rows + 176 * p .rules
 
 pub follows : {p : Plan} {tape : List ℕ} → Planned p tape → Follows p
 follows planned =
     let e = planned .starts in
+    let chains = ap (λ (p : Plan). p .chains) e in
     let heads = ap (λ (p : Plan). p .heads) e in
     let rows = ap (λ (p : Plan). p .rows) e in
-    let chains = ap (λ (p : Plan). p .chains) e in
     let order = ap (λ (p : Plan). p .order) e in
-    record { heads-at = heads; rows-at = omega arith; chains-at = omega arith; order-at = omega arith }
+    record { chains-at = chains; heads-at = omega arith; rows-at = omega arith; order-at = omega arith }
 
--- ---- the model stays while words after its sections are written
+-- ---- the model stays while words outside its sections are written
 
 abbrev modelBy : Plan → List ℕ → List Chunk → List Fact → List Rule → Model
 modelBy p types opening facts rules = record { buffers = p .buffers; types = types; failure = p .failure; opening = opening; facts = facts; rules = rules }
 
-module _ (p : Plan) (tape tape′ : List ℕ) (planned : Planned p tape) (o : ℕ) (after : p .chains ≤ o) (below : take o tape′ ≡ take o tape) (as-long : length tape′ ≡ length tape) where
-  kept-to : (m : ℕ) → m ≤ p .chains → take m tape′ ≡ take m tape
-  kept-to m h = begin-alike m o tape tape′ (omega arith) below
+-- types, opening and facts are as they were, and so are the heads and the rows of the rules
+pub record Stays (p : Plan) (tape tape′ : List ℕ) : Type 0 where
+  pub begins : take (144 + 11 * p .facts) tape′ ≡ take (144 + 11 * p .facts) tape
+  pub heads : SameTo (4 * p .rules) (headsOn p tape) (headsOn p tape′)
+  pub rows : SameTo (176 * p .rules) (rowsOn p tape) (rowsOn p tape′)
+  pub as-long : length tape′ ≡ length tape
 
+module _ (p : Plan) (tape tape′ : List ℕ) (planned : Planned p tape) (as-long : length tape′ ≡ length tape) where
+  -- while words from a place after the rows on are written
+  pub stays-below : (o : ℕ) → p .order ≤ o → take o tape′ ≡ take o tape → Stays p tape tape′
+  stays-below o after below =
+      let f = follows planned in
+      let fit = planned .facts-placed in
+      let kept-to : (m : ℕ) → m ≤ p .order → take m tape′ ≡ take m tape = λ m h. begin-alike m o tape tape′ (omega arith) below in
+      record {
+        begins = kept-to (144 + 11 * p .facts) (omega arith);
+        heads = same-below (p .heads) (4 * p .rules) tape tape′ (kept-to (p .heads + 4 * p .rules) (omega arith));
+        rows = same-below (p .rows) (176 * p .rules) tape tape′ (kept-to (p .rows + 176 * p .rules) (omega arith));
+        as-long = as-long;
+      }
+
+  -- while words after the facts and before the heads are written
+  pub stays-apart : take (144 + 11 * p .facts) tape′ ≡ take (144 + 11 * p .facts) tape → drop (p .heads) tape′ ≡ drop (p .heads) tape → Stays p tape tape′
+  stays-apart begins apart =
+      let f = follows planned in
+      let at : (q : ℕ) → p .heads ≤ q → drop q tape′ ≡ drop q tape = λ q h. drop-alike (p .heads) q tape tape′ h apart in
+      record {
+        begins = begins;
+        heads = λ j h. ap (λ (w : List ℕ). getD w j 0) (at (p .heads) (omega arith));
+        rows = λ j h. ap (λ (w : List ℕ). getD w j 0) (at (p .rows) (omega arith));
+        as-long = as-long;
+      }
+
+module _ (p : Plan) (tape tape′ : List ℕ) (planned : Planned p tape) (stays : Stays p tape tape′) where
   pub same-facts : SameTo (11 * p .facts) (drop 144 tape) (drop 144 tape′)
-  same-facts = let f = follows planned in same-below 144 (11 * p .facts) tape tape′ (kept-to (144 + 11 * p .facts) (omega arith))
-
-  pub same-heads : SameTo (4 * p .rules) (headsOn p tape) (headsOn p tape′)
-  same-heads = let f = follows planned in same-below (p .heads) (4 * p .rules) tape tape′ (kept-to (p .heads + 4 * p .rules) (omega arith))
-
-  pub same-rows : SameTo (176 * p .rules) (rowsOn p tape) (rowsOn p tape′)
-  same-rows = let f = follows planned in same-below (p .rows) (176 * p .rules) tape tape′ (kept-to (p .rows + 176 * p .rules) (omega arith))
+  same-facts = same-below 144 (11 * p .facts) tape tape′ (stays .begins)
 
   opening-below : take 144 tape′ ≡ take 144 tape
-  opening-below = let f = follows planned in kept-to 144 (omega arith)
+  opening-below = begin-alike 144 (144 + 11 * p .facts) tape tape′ (omega arith) (stays .begins)
 
   types-below : typesOn p tape′ ≡ typesOn p tape
   types-below = types-kept p tape tape′ opening-below (omega (arith, planned .most-declared))
@@ -142,15 +173,15 @@ module _ (p : Plan) (tape tape′ : List ℕ) (planned : Planned p tape) (o : �
   pub model-kept : modelOn p tape′ ≡ modelOn p tape
   unfolding modelOn
   model-kept =
-      let f = follows planned in
-      let facts = facts-kept p tape tape′ (kept-to (144 + 11 * p .facts) (omega arith)) in
-      let rules = rules-kept (headsOn p tape) (headsOn p tape′) (rowsOn p tape) (rowsOn p tape′) (p .rules) (planned .laid) same-heads same-rows in
+      let facts = facts-kept p tape tape′ (stays .begins) in
+      let rules = rules-kept (headsOn p tape) (headsOn p tape′) (rowsOn p tape) (rowsOn p tape′) (p .rules) (planned .laid) (stays .heads) (stays .rows) in
       ap₂ (λ (ts : List ℕ) (cs : List Chunk). modelBy p ts cs (factsOn p tape′) (rulesOn p tape′)) types-below (opening-kept p tape tape′ opening-below)
       ∙ ap₂ (λ (fs : List Fact) (rs : List Rule). modelBy p (typesOn p tape) (openingOn p tape) fs rs) facts rules
 
   pub planned-kept : Planned p tape′
   planned-kept =
       let s = sections planned in
+      let long = stays .as-long in
       let heads-fit : 4 * p .rules ≤ length (headsOn p tape′) = omega (arith, length-drop (p .heads) tape′) in
       let rows-fit : 176 * p .rules ≤ length (rowsOn p tape′) = omega (arith, length-drop (p .rows) tape′) in
       record {
@@ -159,8 +190,9 @@ module _ (p : Plan) (tape tape′ : List ℕ) (planned : Planned p tape) (o : �
         some-buffers = planned .some-buffers;
         most-buffers = planned .most-buffers;
         most-declared = planned .most-declared;
-        most-facts = planned .most-facts;
+        facts-placed = planned .facts-placed;
+        most-places = planned .most-places;
         small = subst (λ (ts : List ℕ). Small ts) (sym types-below) (planned .small);
-        laid = laid-kept (headsOn p tape) (headsOn p tape′) (rowsOn p tape) (rowsOn p tape′) (p .rules) (planned .laid) same-heads same-rows heads-fit rows-fit;
+        laid = laid-kept (headsOn p tape) (headsOn p tape′) (rowsOn p tape) (rowsOn p tape′) (p .rules) (planned .laid) (stays .heads) (stays .rows) heads-fit rows-fit;
         opens = state-kept p tape tape′ opening-below ∙ planned .opens ∙ ap openState (sym model-kept);
       }

@@ -8,3 +8,4 @@ pub mod StateLaws
 pub mod BestLaws
 pub mod PlanLaws
 pub mod KeptLaws
+pub mod GrowthLaws

@@ -9,10 +9,11 @@ use Rattle.layout.specs.Plans.{Planned}
 
 pub record Sections (p : Plan) (tape : List ℕ) : Type 0 where
   pub facts-end : 144 + 11 * p .facts ≤ length tape
+  pub places-end : 144 + 11 * p .places ≤ p .chains
   pub facts-room : 11 * p .facts ≤ length (drop 144 tape)
   pub heads-end : p .heads + 4 * p .rules ≤ length tape
   pub rows-end : p .rows + 176 * p .rules ≤ length tape
-  pub chains-end : p .chains + 64 + p .facts ≤ length tape
+  pub chains-end : p .chains + 64 + p .facts ≤ p .heads
   pub order-end : p .order + 2 * p .rules ≤ length tape
 
 pub sections : {p : Plan} {tape : List ℕ} → Planned p tape → Sections p tape
@@ -24,10 +25,11 @@ sections {p} {tape} planned =
     let order = ap (λ p. p .order) e in
     let end = ap (λ p. p .end) e in
     record {
-      facts-end = omega (arith, planned .room);
-      facts-room = omega (arith, planned .room, length-drop 144 tape);
+      facts-end = omega (arith, planned .room, planned .facts-placed);
+      places-end = omega arith;
+      facts-room = omega (arith, planned .room, planned .facts-placed, length-drop 144 tape);
       heads-end = omega (arith, planned .room);
       rows-end = omega (arith, planned .room);
-      chains-end = omega (arith, planned .room);
+      chains-end = omega (arith, planned .facts-placed);
       order-end = omega (arith, planned .room);
     }

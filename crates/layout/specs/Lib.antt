@@ -3,3 +3,4 @@ pub mod Walks
 pub mod Rows
 pub mod StateWords
 pub mod Plans
+pub mod Growth

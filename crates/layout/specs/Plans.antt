@@ -1,31 +1,39 @@
 -- A plan and a tape, and the model that they mean. Every plan and every tape mean some model, so that whoever reads them needs no fact that they are valid.
 use Prim.Native.Nat.{ℕ, _+_, _*_, _≤_}
 use mathlib.Core.Path.{_≡_}
+use mathlib.Core.Bool.{Bool}
 use mathlib.Core.List.{List, map}
 use lib.ListN.{length, take, drop}
-use Rattle.meaning.specs.declared.Buffer.{Buffer}
+use Rattle.meaning.specs.Base.{if_then_else_}
 use Rattle.meaning.specs.Model.{Model, Chunk, Fact, Rule}
+use Rattle.meaning.specs.Learning.{chunkOf}
 use Rattle.meaning.specs.Calls.{openState}
 use Rattle.layout.specs.Walks.{Small}
 use Rattle.layout.specs.Rows.{factsIn, rulesIn, Laid}
 use Rattle.layout.specs.StateWords.{buffersIn, stateIn}
 use Rattle.layout.specs.declared.Plan.{Plan}
 
--- the sections one after the other: 64 slot counts, 80 words of the opening state, a row for each fact, a head and sixteen rows for each rule;
--- and what a run lays out besides: 64 chains with a word for each fact, two words a rule for the order of rules
-abbrev pub planOf : ℕ → ℕ → ℕ → ℕ → ℕ → Plan
-planOf buffers declared rules facts failure =
+-- the places for facts where an image has so many: as many; and the 256 of a store, where one is lent
+abbrev pub placesFor : ℕ → Bool → ℕ
+placesFor facts learns = if learns then facts + 256 else facts
+
+-- the sections one after the other: 64 slot counts, 80 words of the opening state, a row for each place of a fact; 64 chains with a word for each place,
+-- which a run lays; a head and sixteen rows for each rule; and two words a rule for the order of rules, which a run lays too
+abbrev pub planOf : ℕ → ℕ → ℕ → ℕ → ℕ → ℕ → Bool → Plan
+planOf buffers declared rules facts failure places learns =
     record {
       buffers = buffers;
       declared = declared;
       rules = rules;
       facts = facts;
       failure = failure;
-      heads = 144 + 11 * facts;
-      rows = 144 + 11 * facts + 4 * rules;
-      chains = 144 + 11 * facts + 4 * rules + 176 * rules;
-      order = 144 + 11 * facts + 4 * rules + 176 * rules + 64 + facts;
-      end = 144 + 11 * facts + 4 * rules + 176 * rules + 64 + facts + 2 * rules;
+      places = places;
+      learns = learns;
+      chains = 144 + 11 * places;
+      heads = 144 + 11 * places + 64 + places;
+      rows = 144 + 11 * places + 64 + places + 4 * rules;
+      order = 144 + 11 * places + 64 + places + 4 * rules + 176 * rules;
+      end = 144 + 11 * places + 64 + places + 4 * rules + 176 * rules + 2 * rules;
     }
 
 -- ---- the model that stands on a tape
@@ -34,12 +42,8 @@ planOf buffers declared rules facts failure =
 abbrev pub typesOn : Plan → List ℕ → List ℕ
 typesOn p tape = take (p .declared + 1) tape
 
--- the chunk of a buffer
-abbrev pub chunkIn : Buffer → Chunk
-chunkIn b = record { isa = b .isa; slots = b .slots }
-
 abbrev pub openingOn : Plan → List ℕ → List Chunk
-openingOn p tape = map chunkIn (take (p .buffers) (buffersIn (drop 64 tape)))
+openingOn p tape = map chunkOf (take (p .buffers) (buffersIn (drop 64 tape)))
 
 abbrev pub factsOn : Plan → List ℕ → List Fact
 factsOn p tape = factsIn (drop 144 tape) (p .facts)
@@ -72,13 +76,14 @@ modelOn p tape =
 
 pub record Planned (p : Plan) (tape : List ℕ) : Type 0 where
   -- the sections follow each other, and the tape has room for them
-  pub starts : p ≡ planOf (p .buffers) (p .declared) (p .rules) (p .facts) (p .failure)
+  pub starts : p ≡ planOf (p .buffers) (p .declared) (p .rules) (p .facts) (p .failure) (p .places) (p .learns)
   pub room : p .end ≤ length tape
-  -- the counts are those that an image may have
+  -- the counts are those that an image and a store may have
   pub some-buffers : 1 ≤ p .buffers
   pub most-buffers : p .buffers ≤ 8
   pub most-declared : p .declared ≤ 63
-  pub most-facts : p .facts ≤ 512
+  pub facts-placed : p .facts ≤ p .places
+  pub most-places : p .places ≤ 768
   -- no type has more than eight slots
   pub small : Small (typesOn p tape)
   -- the rules stand in heads and rows

@@ -7,7 +7,7 @@ ghost use mathlib.Core.Path.{_≡_};
 ghost use Prim.Native.Nat.{_+_, _≤_};
 ghost use lib.ListN.{length};
 ghost use lib.Seq.{sets};
-ghost use Rattle.layout.specs.Plans.{planOf};
+ghost use Rattle.layout.specs.Plans.{placesFor, planOf};
 
 // How many words stand for one thing: a row; one side of a rule, its tests or its actions, eight rows; both sides; a rule's head; an entry of the table.
 pub const ROW_WORDS: usize = 11;
@@ -25,13 +25,15 @@ pub const BUFFER_WORDS: usize = 10;
 
 pub const STATE_WORDS: usize = 80;
 
-// Three tapes: one that costs little to clear, one with room for 64 rules and 120 facts, or for 38 rules and 512 facts,
-// and one with room for the most facts and rules that an image can have.
+// Four tapes: one that costs little to clear, one with room for a store besides, one with room for 64 rules and 120 facts, or for 38 rules and 512 facts, and a store,
+// and one with room for the most facts and rules that an image can have, and a store.
 pub const SMALL_TAPE: usize = 3904;
 
-pub const MIDDLE_TAPE: usize = 13312;
+pub const STORE_TAPE: usize = 6976;
 
-pub const LARGE_TAPE: usize = 52944;
+pub const MIDDLE_TAPE: usize = 16384;
+
+pub const LARGE_TAPE: usize = 56016;
 
 // Where the first sections of every tape begin: the slot counts of 64 types, the opening state, the facts.
 pub const TYPES_AT: usize = 0;
@@ -40,38 +42,67 @@ pub const OPENING_AT: usize = 64;
 
 pub const FACTS_AT: usize = 144;
 
-// A model's counts and failure latency, and where its sections begin on a tape: heads, rows, chains, order, and the end.
+// The words of a store: the count, and nine for each of its places.
+pub const STORE_WORDS: usize = 2305;
+
+pub const STORE_PLACES: u16 = 256;
+
+pub const PLACE_WORDS: usize = 9;
+
+// A model's counts and failure latency; how many facts there are places for, and whether the places past the image's facts are a store's;
+// and where its sections begin on a tape: chains, heads, rows, order, and the end.
 pub struct Plan {
     pub buffers: u16,
     pub declared: u16,
     pub rules: u16,
     pub facts: u16,
     pub failure: u16,
+    pub places: u16,
+    pub learns: bool,
+    pub chains: usize,
     pub heads: usize,
     pub rows: usize,
-    pub chains: usize,
     pub order: usize,
     pub end: usize,
 }
 
-// The plan for a model with these counts: each section as long as it must be, one after the other.
-pub fn plan_for(buffers: u16, declared: u16, rules: u16, facts: u16, failure: u16) -> Plan
-    ensures { λ r. ⌜ r ≡ planOf buffers declared rules facts failure ⌝ }
+// How many facts there are places for, where an image has so many: 256 more where a store is lent.
+fn places_for(facts: u16, learns: bool) -> u16
+    requires { ⌜ facts ≤ 1024 ⌝ }
+    ensures { λ r. ⌜ r ≡ placesFor facts learns ⌝ }
+{
+    if learns { facts + STORE_PLACES } else { facts }
+}
+
+// The plan for a model with these counts, and for a store if one is lent: each section as long as it must be, one after the other.
+pub fn plan_for(
+    buffers: u16,
+    declared: u16,
+    rules: u16,
+    facts: u16,
+    failure: u16,
+    learns: bool,
+) -> Plan
+    requires { ⌜ facts ≤ 1024 ⌝ }
+    ensures { λ r. ⌜ r ≡ planOf buffers declared rules facts failure (placesFor facts learns) learns ⌝ }
 {
     let n = rules as usize;
-    let heads = FACTS_AT + ROW_WORDS * (facts as usize);
+    let places = places_for(facts, learns);
+    let chains = FACTS_AT + ROW_WORDS * (places as usize);
+    let heads = chains + 64 + places as usize;
     let rows = heads + HEAD_WORDS * n;
-    let chains = rows + RULE_WORDS * n;
-    let order = chains + 64 + facts as usize;
+    let order = rows + RULE_WORDS * n;
     Plan {
         buffers: buffers,
         declared: declared,
         rules: rules,
         facts: facts,
         failure: failure,
+        places: places,
+        learns: learns,
+        chains: chains,
         heads: heads,
         rows: rows,
-        chains: chains,
         order: order,
         end: order + 2 * n,
     }

@@ -23,7 +23,7 @@ and-three true true false = refl
 and-three true false c = refl
 and-three false b c = refl
 
-most-zero : (v : ℕ) → leb v 0 ≡ eqb v 0
+pub most-zero : (v : ℕ) → leb v 0 ≡ eqb v 0
 most-zero zero = refl
 most-zero (suc v) = lt-leb (suc v) 0 (omega arith) ∙ sym (ne-eqb (suc v) 0 (λ e. omega arith))
 

@@ -83,7 +83,7 @@ pub fn read_state(words: &[u16], clock: u32) -> State
 }
 
 // Whether the words from one place to below another are at most so much.
-fn at_most(words: &[u16], from: usize, end: usize, most: u16) -> bool
+pub fn at_most(words: &[u16], from: usize, end: usize, most: u16) -> bool
     requires { ⌜ end ≤ length (now words) ⌝ }
     ensures { λ r. ⌜ r ≡ every (λ v. leb v most) (stretch (now (words .entry)) from end) ⌝ }
 {

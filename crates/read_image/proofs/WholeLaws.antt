@@ -1,7 +1,7 @@
 -- An image part by part: its beginning, its facts, its rules, its end.
 use Prim.Native.Nat.{ℕ, _+_, _-_, _*_, _≤_, _<_}
 use mathlib.Core.Path.{_≡_, refl, sym, ap, ap₂, _∙_}
-use mathlib.Core.Bool.{true, false}
+use mathlib.Core.Bool.{Bool, true, false}
 use mathlib.Core.List.{List, [], _∷_, map}
 use native.Mathlib.Omega.{arith}
 use native.Mathlib.Decide.{decLt}
@@ -14,36 +14,36 @@ use Rattle.meaning.specs.declared.State.{State}
 use Rattle.meaning.specs.Base.{if_then_else_}
 use Rattle.meaning.specs.Bits.{fieldAt}
 use Rattle.meaning.specs.Model.{Model, Sizes, Chunk, Fact, Rule}
-use Rattle.meaning.specs.State.{nilAfter}
+use Rattle.meaning.specs.State.{nilAfter, opens}
 use Rattle.meaning.specs.Read.{Read, Refused, Got, Reader, follow, times}
 use Rattle.meaning.specs.Numbers.{finer}
 use Rattle.meaning.specs.Image.{Header, header, slotCounts, chunk, fact, rule, padding, ending, Beginning, beginning, Contents, contents, model, decode, decodeBy}
-use Rattle.meaning.specs.Calls.{opens}
+use Rattle.meaning.specs.Learning.{chunkOf}
 use Rattle.laws.specs.ReadLaws.{no-got, times-all}
 use Rattle.layout.specs.declared.Walk.{Walk}
 use Rattle.layout.specs.declared.Walk.the-variants.{Next, Bad}
 use Rattle.layout.specs.Walks.{answer, mapped, Small}
 use Rattle.layout.specs.Rows.{sizes, ruleIn}
 use Rattle.layout.proofs.RowLaws.{rows-length}
-use Rattle.layout.proofs.WalkLaws.{answer-bad, bad-within, bad-never}
+use Rattle.layout.proofs.WalkLaws.{answer-bad, answer-next, bad-within, bad-never}
 use Rattle.layout.specs.declared.Plan.{Plan}
 use Rattle.layout.specs.declared.PlanRead.{PlanRead}
-use Rattle.layout.specs.Plans.{planOf, chunkIn, headsOn, rowsOn, modelOn}
-use Rattle.read_opening.specs.Parts.{HeaderMet, headerIn, openingState}
-use Rattle.read_image.specs.Whole.{headerOf, Begun, verdict, Checked}
+use Rattle.layout.specs.Plans.{placesFor, planOf, headsOn, rowsOn, modelOn}
+use Rattle.read_opening.specs.Parts.{HeaderMet, headerIn, Placed, openingState}
+use Rattle.read_image.specs.Whole.{headerOf, InBounds, Begun, LaidOut, verdict, Checked}
 
 -- ---- the opening state and its chunks
 
 -- the chunks of the first n buffers of a state
 abbrev pub chunksIn : State → ℕ → List Chunk
-chunksIn s n = map chunkIn (take n (s .buffers))
+chunksIn s n = map chunkOf (take n (s .buffers))
 
-chunks-back : (chunks : List Chunk) → map chunkIn (map opens chunks) ≡ chunks
+chunks-back : (chunks : List Chunk) → map chunkOf (map opens chunks) ≡ chunks
 chunks-back [] = refl
 chunks-back (c ∷ cs) = ap (λ (l : List Chunk). c ∷ l) (chunks-back cs)
 
 pub chunks-of : (n : ℕ) (chunks : List Chunk) → length chunks ≡ n → chunksIn (openingState n chunks) n ≡ chunks
-chunks-of n chunks e = ap (map chunkIn) (take-at (map opens chunks) (replicate (8 - n) (nilAfter 0)) n (length-map chunks opens ∙ e)) ∙ chunks-back chunks
+chunks-of n chunks e = ap (map chunkOf) (take-at (map opens chunks) (replicate (8 - n) (nilAfter 0)) n (length-map chunks opens ∙ e)) ∙ chunks-back chunks
 
 -- what was read as a state, as chunks
 module _ (p : Reader Chunk) (n : ℕ) (s : List ℕ) (at : ℕ) (w : Walk) (st : State) where
@@ -112,7 +112,7 @@ pub not-long : (s : List ℕ) → length s ≤ 65536 → header finer s 0 ≡ he
 not-long s h = rw (le-ltb 65536 (length s) h)
 
 -- a refusal, with the plan for nothing
-pub refused-begun : (r : PlanRead) (x y : ℕ) (s : List ℕ) → r .walk ≡ Bad x y → r .plan ≡ planOf 0 0 0 0 0 → Refused x y ≡ headerOf s → Begun r s
+pub refused-begun : (r : PlanRead) (x y : ℕ) (s : List ℕ) → r .walk ≡ Bad x y → r .plan ≡ planOf 0 0 0 0 0 0 false → Refused x y ≡ headerOf s → Begun r s
 refused-begun r x y s n p e =
     record {
       reads = answer-bad (r .walk) (headerIn (r .plan)) x y n ∙ e;
@@ -124,24 +124,55 @@ refused-begun r x y s n p e =
       fits = let z = ap (λ (p : Plan). p .end) p in omega arith;
     }
 
--- a header that is refused for what it says
-pub header-refused : (r : PlanRead) (x y : ℕ) (s : List ℕ) → HeaderMet r s → length s ≤ 65536 → r .walk ≡ Bad x y → Refused x y ≡ headerOf s
-header-refused r x y s met h e = sym (answer-bad (r .walk) (headerIn (r .plan)) x y e) ∙ met .reads ∙ not-long s h
+-- there are places for the facts, and for at most 256 more
+pub places-most : (facts : ℕ) (learns : Bool) → facts ≤ placesFor facts learns × placesFor facts learns ≤ facts + 256
+places-most facts true = (omega arith, omega arith)
+places-most facts false = (omega arith, omega arith)
 
--- a header that was read
-pub header-begun : (r : PlanRead) (q : ℕ) (s : List ℕ) → HeaderMet r s → length s ≤ 65536 → r .walk ≡ Next q → Begun r s
-header-begun r q s met h e =
-    let b = met .bounds q e in
-    let end = ap (λ (p : Plan). p .end) (met .starts) in
-    record {
-      reads = met .reads ∙ not-long s h;
-      within = met .within;
-      short = λ q g. h;
-      in-bounds = λ q g. record { starts = met .starts; bounds = b };
-      few-rules = b .most-rules;
-      long = omega arith;
-      fits = omega (arith, b .most-rules, b .most-facts);
-    }
+-- the sections of a plan by its places
+pub placed-starts : (p : Plan) → Placed p → p ≡ planOf (p .buffers) (p .declared) (p .rules) (p .facts) (p .failure) (p .places) (p .learns)
+placed-starts p e =
+    let places : p .places ≡ placesFor (p .facts) (p .learns) = ap (λ (p : Plan). p .places) e in
+    e ∙ ap (λ (n : ℕ). planOf (p .buffers) (p .declared) (p .rules) (p .facts) (p .failure) n (p .learns)) (sym places)
+
+-- with a store there are 256 places more than facts
+pub places-store : (p : Plan) → Placed p → p .learns ≡ true → p .places ≡ p .facts + 256
+places-store p e l = ap (λ (p : Plan). p .places) e ∙ ap (placesFor (p .facts)) l
+
+-- how many places the plan of an image has
+pub places-in : (p : Plan) → InBounds p → (p .facts ≤ p .places) × (p .places ≤ 768)
+places-in p b =
+    let e = ap (λ (p : Plan). p .places) (b .starts) in
+    let most = places-most (p .facts) (p .learns) in
+    (omega arith, omega (arith, b .bounds .most-facts))
+
+module _ (r : PlanRead) (s : List ℕ) (learns : Bool) (met : HeaderMet r s learns) (h : length s ≤ 65536) where
+  -- a header that is refused for what it says
+  header-refused : (x y : ℕ) → r .walk ≡ Bad x y → Begun r s
+  header-refused x y e = refused-begun r x y s e (met .nothing x y e) (sym (answer-bad (r .walk) (headerIn (r .plan)) x y e) ∙ met .reads ∙ not-long s h)
+
+  -- a header that was read
+  header-read : (q : ℕ) → r .walk ≡ Next q → Begun r s
+  header-read q e =
+      let b : InBounds (r .plan) = record { starts = met .starts; bounds = met .bounds q e } in
+      let end = ap (λ (p : Plan). p .end) (met .starts) in
+      let places = places-most (r .plan .facts) (r .plan .learns) in
+      record {
+        reads = met .reads ∙ not-long s h;
+        within = met .within;
+        short = λ q g. h;
+        in-bounds = λ q g. b;
+        few-rules = b .bounds .most-rules;
+        long = omega arith;
+        fits = omega (arith, b .bounds .most-rules, b .bounds .most-facts);
+      }
+
+  pub header-begun : Begun r s
+  header-begun = on (r .walk) refl
+    where
+      on : (w : Walk) → r .walk ≡ w → Begun r s
+      on (Next q) e = header-read q e
+      on (Bad x y) e = header-refused x y e
 
 -- the first of small types are small
 pub small-take : (n : ℕ) (types : List ℕ) → Small types → Small (take n types)
@@ -187,6 +218,21 @@ decode-refused s x y e =
       | true ↦ λ g. cc
       | false ↦ λ g. rw (← g)
     ]) e
+
+-- of an image that is not refused the header was read
+pub begun-next : {C : Type 0} (r : PlanRead) (s : List ℕ) → Begun r s → ((x y : ℕ) → Refused x y ≡ decode s → ⊥) → ((q : ℕ) → r .walk ≡ Next q → C) → C
+begun-next {C} r s begun kept on-next = on (r .walk) refl
+  where
+    on : (w : Walk) → r .walk ≡ w → C
+    on (Next q) e = on-next q e
+    on (Bad x y) e = absurd (kept x y (decode-refused s x y (sym (answer-bad (r .walk) (headerIn (r .plan)) x y e) ∙ begun .reads)))
+
+-- and so it was of one that was laid out
+pub laid-next : {C : Type 0} (r : PlanRead) (s tape : List ℕ) (w : Walk) (z : ℕ) → Begun r s → LaidOut w (r .plan) s tape → w ≡ Next z
+    → ((q : ℕ) → r .walk ≡ Next q → C) → C
+laid-next r s tape w z begun laid e on-next =
+    let got : Got (modelOn (r .plan) tape) z ≡ decode s = sym (answer-next w (modelOn (r .plan) tape) z e) ∙ laid .reads in
+    begun-next r s begun (λ x y g. no-got x y (modelOn (r .plan) tape) z (g ∙ sym got)) on-next
 
 module _ (s : List ℕ) (h : length s ≤ 65536) where
   decode-short : decode s ≡ follow (beginning finer s 0) (λ b q. restOf b s q)

@@ -1,6 +1,7 @@
 -- What the reading of an image promises.
 use Prim.Native.Nat.{ℕ, _+_, _*_, _≤_}
 use mathlib.Core.Path.{_≡_}
+use mathlib.Core.Bool.{Bool}
 use mathlib.Core.List.{List}
 use lib.Dec.{ltb}
 use lib.ListN.{length, take, drop}
@@ -15,9 +16,9 @@ use Rattle.layout.specs.declared.Plan.{Plan}
 use Rattle.layout.specs.declared.PlanRead.{PlanRead}
 use Rattle.layout.specs.Walks.{answer, Within, Small}
 use Rattle.layout.specs.StateWords.{stateIn}
-use Rattle.layout.specs.Plans.{planOf, typesOn, openingOn, factsOn, rulesOn, modelOn, Planned}
+use Rattle.layout.specs.Plans.{typesOn, openingOn, factsOn, rulesOn, modelOn, Planned}
 use Rattle.read_opening.specs.declared.TypesRead.{TypesRead}
-use Rattle.read_opening.specs.Parts.{Bounds, headerIn, openingState}
+use Rattle.read_opening.specs.Parts.{Bounds, headerIn, Placed, openingState}
 
 -- ---- the parts of a model on a tape
 
@@ -31,14 +32,14 @@ contentsOn p tape = record { facts = factsOn p tape; rules = rulesOn p tape }
 
 -- the sections of a plan follow each other, and its counts are those that an image may have
 pub record InBounds (p : Plan) : Type 0 where
-  pub starts : p ≡ planOf (p .buffers) (p .declared) (p .rules) (p .facts) (p .failure)
+  pub starts : Placed p
   pub bounds : Bounds (p .buffers) (p .declared) (p .rules) (p .facts)
 
 -- "image over 65,536 bytes" comes first
 abbrev pub headerOf : List ℕ → Read Header
 headerOf image = if ltb 65536 (length image) then Refused too-long 0 else header finer image 0
 
--- a header that was read as a plan: whatever it says, there are at most 256 rules, and the plan is as long as they need, with room on the larger tape
+-- a header that was read as a plan: whatever it says, there are at most 256 rules, and the plan is as long as they need, with room on the largest tape
 pub record Begun (r : PlanRead) (image : List ℕ) : Type 0 where
   pub reads : answer (r .walk) (headerIn (r .plan)) ≡ headerOf image
   pub within : Within (r .walk) (8 * length image)
@@ -46,7 +47,11 @@ pub record Begun (r : PlanRead) (image : List ℕ) : Type 0 where
   pub in-bounds : (q : ℕ) → r .walk ≡ Next q → InBounds (r .plan)
   pub few-rules : r .plan .rules ≤ 256
   pub long : 182 * r .plan .rules ≤ r .plan .end
-  pub fits : r .plan .end ≤ 52944
+  pub fits : r .plan .end ≤ 56016
+
+-- a plan that was read is with a store if one is lent
+abbrev pub Learning : PlanRead → Bool → Type 0
+Learning r learns = (q : ℕ) → r .walk ≡ Next q → r .plan .learns ≡ learns
 
 -- slot counts and opening chunks that were laid out: the definition's beginning or refusal; a place within the image;
 -- and of those that were not refused, that the types given back are those on the tape, with at most eight slots each, and the opening section is the opening state

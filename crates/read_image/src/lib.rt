@@ -7,10 +7,10 @@ ghost use Rattle.meaning.specs.Numbers.{finer};
 ghost use Rattle.meaning.specs.Image.{header, contents, ending};
 ghost use Rattle.layout.specs.Walks.{answer, Within, Small};
 ghost use Rattle.layout.specs.Rows.{sizes};
-ghost use Rattle.layout.specs.Plans.{planOf, headsOn, rowsOn};
+ghost use Rattle.layout.specs.Plans.{headsOn, rowsOn};
 ghost use Rattle.read_opening.specs.Parts.{headerIn};
 ghost use Rattle.read_rules.specs.Heads.{LaidIf};
-ghost use Rattle.read_image.specs.Whole.{contentsOn, InBounds, Begun, OpeningMet, LaidOut, Checked};
+ghost use Rattle.read_image.specs.Whole.{contentsOn, InBounds, Begun, Learning, OpeningMet, LaidOut, Checked};
 use layout::FACTS_AT;
 use layout::HEAD_WORDS;
 use layout::LARGE_TAPE;
@@ -25,30 +25,15 @@ use meaning::numbers::BAD_END;
 use meaning::numbers::TOO_LONG;
 use read_opening::TypesRead;
 
-// No plan: a refusal, with nothing to lay out.
-fn no_plan(number: u8, at: usize) -> PlanRead
-    ensures { λ r. ⌜ (r .walk ≡ Walk.Bad number at) × (r .plan ≡ planOf 0 0 0 0 0) ⌝ }
-{
-    let nothing = layout::plan_for(0, 0, 0, 0, 0);
-    PlanRead {
-        walk: Walk::Bad(number, at),
-        plan: nothing,
-    }
-}
-
-// The beginning of an image of any length and content: its header, as a plan.
-pub fn begin(image: &[u8]) -> PlanRead
+// The beginning of an image of any length and content: its header, as a plan, with places for a store if one is lent.
+pub fn begin(image: &[u8], learns: bool) -> PlanRead
     ensures { λ r. ⌜ Begun r (now (image .entry)) ⌝ }
+    ensures learning { λ r. ⌜ Learning r learns ⌝ }
 {
     if 65536 < image.len() {
-        return no_plan(TOO_LONG, 0);
+        return read_opening::no_plan(TOO_LONG, 0);
     }
-    let read = read_opening::header(image);
-    let walk = read.walk;
-    if let Walk::Bad(number, at) = walk {
-        return no_plan(number, at);
-    }
-    read
+    read_opening::header(image, learns)
 }
 
 // The slot counts and the opening chunks, from p on: laid on the tape; the slot counts are given back too, to read the rest by.

@@ -1,18 +1,24 @@
 -- The header, by what the code read of it, and the bounds of its counts.
-use Prim.Native.Nat.{ℕ}
-use mathlib.Core.Path.{_≡_, sym, _∙_}
+use Prim.Native.Nat.{ℕ, _*_}
+use mathlib.Core.Path.{_≡_, refl, sym, _∙_}
+use mathlib.Core.Bool.{Bool, false}
 use mathlib.Core.List.{List}
+use lib.ListN.{length}
 use Rattle.meaning.specs.Numbers.{finer, bad-number}
-use Rattle.meaning.specs.Read.{Got, field, must}
+use Rattle.meaning.specs.Read.{Refused, Got, field, must}
 use Rattle.meaning.specs.Image.{Header, header, between, anything}
 use Rattle.laws.specs.ReadLaws.{split}
 use Rattle.laws.specs.ImageLaws.{between-got}
 use Rattle.layout.specs.declared.Walk.{Walk}
+use Rattle.layout.specs.declared.Walk.the-variants.{Bad}
+use Rattle.layout.specs.declared.PlanRead.{PlanRead}
 use Rattle.layout.specs.Walks.{answer, inRange}
+use Rattle.layout.specs.Plans.{planOf}
 use Rattle.layout.proofs.FieldReads.{field-between}
+use Rattle.layout.proofs.WalkLaws.{answer-bad, bad-within, bad-never}
 use Rattle.read_ranges.specs.After.{after}
 use Rattle.read_ranges.proofs.AfterLaws.{follow-answer, after-step, after-end, after-same}
-use Rattle.read_opening.specs.Parts.{aHeader, Bounds}
+use Rattle.read_opening.specs.Parts.{aHeader, Bounds, headerIn, HeaderMet}
 
 pub header-bounds : (s : List ℕ) (at : ℕ) (h : Header) (end : ℕ) → header finer s at ≡ Got h end → Bounds (h .buffers) (h .declared) (h .rules) (h .facts)
 unfolding header
@@ -54,3 +60,17 @@ module _ (s : List ℕ) (w₁ w₂ w₃ w₄ w₅ w₆ : Walk) (version buffers 
       ∙ after-step w₅ w₆ failure (field 16 anything s) (λ n q. Got (aHeader buffers declared rules facts n) q) e₆
       ∙ after-end w₆ (aHeader buffers declared rules facts failure)
       )
+
+-- ---- a refusal, with the plan for nothing
+
+pub refused-met : (r : PlanRead) (n at : ℕ) (s : List ℕ) (learns : Bool) → r .walk ≡ Bad n at → r .plan ≡ planOf 0 0 0 0 0 0 false → Refused n at ≡ header finer s 0
+    → HeaderMet r s learns
+refused-met r n at s learns bad none e =
+    record {
+      reads = answer-bad (r .walk) (headerIn (r .plan)) n at bad ∙ e;
+      within = bad-within (r .walk) n at (8 * length s) bad;
+      starts = rw none refl;
+      bounds = bad-never (r .walk) n at bad;
+      learning = bad-never (r .walk) n at bad;
+      nothing = λ n p g. none;
+    }

@@ -8,10 +8,9 @@ use lib.Seq.{sets, sets-eq, take-at}
 use Rattle.meaning.specs.declared.Buffer.{Buffer}
 use Rattle.meaning.specs.declared.State.{State}
 use Rattle.meaning.specs.Model.{Chunk}
-use Rattle.meaning.specs.State.{nilAfter}
+use Rattle.meaning.specs.State.{nilAfter, opens}
 use Rattle.meaning.specs.Read.{Got, field, times}
 use Rattle.meaning.specs.Image.{aType, anything, eight, chunk}
-use Rattle.meaning.specs.Calls.{opens}
 use Rattle.laws.specs.BitsLaws.{fieldAt-lt}
 use Rattle.laws.specs.ReadLaws.{field-got, split}
 use Rattle.layout.specs.Walks.{Small}

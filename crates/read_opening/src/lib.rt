@@ -1,13 +1,15 @@
 // The beginning of an image: the header, the slot counts of the types, and the state that it opens with.
 ghost use mathlib.Core.Path.{_≡_};
+ghost use mathlib.Core.Bool.{false};
 ghost use mathlib.Core.List.{_∷_};
 ghost use Prim.Native.Nat.{_+_, _*_, _≤_, _<_};
 ghost use lib.ListN.{length, take};
 ghost use Rattle.meaning.specs.Read.{times};
 ghost use Rattle.meaning.specs.Numbers.{finer};
 ghost use Rattle.meaning.specs.Image.{header, slotCounts, chunk};
-ghost use Rattle.meaning.specs.Calls.{opens};
+ghost use Rattle.meaning.specs.State.{opens};
 ghost use Rattle.layout.specs.Walks.{answer, mapped, Within, Small};
+ghost use Rattle.layout.specs.Plans.{planOf};
 ghost use Rattle.read_facts.specs.Made.{aChunk};
 ghost use Rattle.read_opening.specs.Parts.{HeaderMet, openingState};
 use layout::PlanRead;
@@ -28,10 +30,21 @@ pub struct OpeningRead {
     pub state: State,
 }
 
-// The six fields of the header, the version (which is 1) first, as a plan.
-pub fn header(image: &[u8]) -> PlanRead
+// No plan: a refusal, with nothing to lay out.
+pub fn no_plan(number: u8, at: usize) -> PlanRead
+    ensures { λ r. ⌜ (r .walk ≡ Walk.Bad number at) × (r .plan ≡ planOf 0 0 0 0 0 0 false) ⌝ }
+{
+    let nothing = layout::plan_for(0, 0, 0, 0, 0, false);
+    PlanRead {
+        walk: Walk::Bad(number, at),
+        plan: nothing,
+    }
+}
+
+// The six fields of the header, the version (which is 1) first, as a plan: with places for a store if one is lent.
+pub fn header(image: &[u8], learns: bool) -> PlanRead
     requires { ⌜ length (now image) ≤ 65536 ⌝ }
-    ensures { λ r. ⌜ HeaderMet r (now (image .entry)) ⌝ }
+    ensures { λ r. ⌜ HeaderMet r (now (image .entry)) learns ⌝ }
 {
     let version = read_ranges::ranged(image, 0, 8, 1, 2, BAD_NUMBER);
     let first = version.walk;
@@ -45,12 +58,16 @@ pub fn header(image: &[u8]) -> PlanRead
     let fifth = facts.walk;
     let failure = read_ranges::any_after(image, fifth, 16);
     let sixth = failure.walk;
+    if let Walk::Bad(number, at) = sixth {
+        return no_plan(number, at);
+    }
     let plan = layout::plan_for(
         buffers.value,
         declared.value,
         rules.value,
         facts.value,
         failure.value,
+        learns,
     );
     PlanRead {
         walk: sixth,

@@ -1,4 +1,4 @@
-// The chains of the facts, laid on the tape after the model's sections.
+// The chains of the facts, laid on the tape between the facts and the heads of the rules.
 ghost use Rattle.layout.specs.Plans.{Planned};
 ghost use Rattle.step_chains.specs.Laid.{ChainsLaid};
 use layout::FACTS_AT;
@@ -11,7 +11,7 @@ pub fn lay_chains(plan: Plan, tape: &mut [u16])
     ensures { λ _. ⌜ ChainsLaid plan (now (tape .entry)) (now (tape .exit)) ⌝ }
 {
     let n = plan.facts as usize;
-    let mut index = [0u16; 576];
+    let mut index = [0u16; 832];
     step_retrieve::chain(&mut index, &tape[FACTS_AT..], n);
     let end = 64 + n;
     layout::copy_into(tape, plan.chains, &index[..end]);

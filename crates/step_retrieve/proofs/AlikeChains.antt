@@ -16,9 +16,9 @@ module _ (index index′ facts facts′ : List ℕ) (n : ℕ) (chained : Chained
   leap-kept h k x leap =
       record {
         forth = leap .forth;
-        within = leap .within;
-        between = λ j a b e. leap .between j a b (sym (chain-kept j (omega (arith, leap .within))) ∙ e);
+        between = λ j a b l e. leap .between j a b l (sym (chain-kept j l) ∙ e);
         lands = λ l. chain-kept x l ∙ leap .lands l;
+        ends = leap .ends;
       }
 
   pub chained-kept : Chained index′ facts′ n

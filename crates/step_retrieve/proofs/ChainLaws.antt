@@ -21,10 +21,10 @@ pub record Laid (facts : List ℕ) (n k : ℕ) (index : List ℕ) : Type 0 where
   pub goes-on : (j : ℕ) → k ≤ j → j < n → Leap facts n (chainOf facts j) (j + 1) (getD index (64 + j) 0)
 
 -- no fact, no chain
-pub laid-none : (facts : List ℕ) (n : ℕ) (index : List ℕ) → ((h : ℕ) → h < 64 → getD index h 0 ≡ n) → Laid facts n n index
-laid-none facts n index ends =
+pub laid-none : (facts : List ℕ) (n : ℕ) (index : List ℕ) → n ≤ 768 → ((h : ℕ) → h < 64 → getD index h 0 ≡ 768) → Laid facts n n index
+laid-none facts n index few ends =
     record {
-      starts = λ h l. rw (ends h l) (record { forth = omega arith; within = omega arith; between = λ j a b e. omega arith; lands = λ b. absurd (omega arith) });
+      starts = λ h l. rw (ends h l) (record { forth = few; between = λ j a b l e. omega arith; lands = λ b. absurd (omega arith); ends = λ b. omega arith });
       goes-on = λ j a b. absurd (omega arith);
     }
 
@@ -43,9 +43,9 @@ module _ (facts : List ℕ) (n k : ℕ) (index : List ℕ) (h : k < n) (room : 6
   before j x ne leap =
       record {
         forth = omega (arith, leap .forth);
-        within = leap .within;
-        between = λ i a b e. by-same i k (λ s. ne (sym e ∙ ap (chainOf facts) s)) (λ d. leap .between i (omega arith) b e);
+        between = λ i a b l e. by-same i k (λ s. ne (sym e ∙ ap (chainOf facts) s)) (λ d. leap .between i (omega arith) b l e);
         lands = leap .lands;
+        ends = leap .ends;
       }
 
   pub laid-turn : Laid facts n k (set linked own k)
@@ -53,7 +53,7 @@ module _ (facts : List ℕ) (n k : ℕ) (index : List ℕ) (h : k < n) (room : 6
       let size : length linked ≡ length index = length-set index (64 + k) (getD index own 0) in
       record {
         starts = λ j l. by-same j own
-            (λ e. rw (e, getD-set-same linked own k 0 (omega arith)) (record { forth = omega arith; within = omega arith; between = λ i a b s. omega arith; lands = λ b. refl }))
+            (λ e. rw (e, getD-set-same linked own k 0 (omega arith)) (record { forth = omega arith; between = λ i a b l s. omega arith; lands = λ b. refl; ends = λ b. absurd (omega arith) }))
             (λ ne. rw (getD-set-other linked own j k 0 ne, getD-set-other index (64 + k) j (getD index own 0) 0 (λ e. omega arith)) (before j (getD index j 0) ne (laid .starts j l)));
         goes-on = λ j a b. rw (getD-set-other linked own (64 + j) k 0 (λ e. omega arith)) (by-same j k
             (λ e. rw (e, getD-set-same index (64 + k) (getD index own 0) 0 (omega arith)) (laid .starts own (omega arith)))

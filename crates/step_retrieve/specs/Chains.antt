@@ -9,12 +9,12 @@ use Rattle.layout.specs.declared.Plan.{Plan}
 abbrev pub chainOf : List ℕ → ℕ → ℕ
 chainOf facts k = getD facts (11 * k + 3) 0 % 64
 
--- from k on, x is the first fact of chain h; or there is none, and x is n
+-- of n facts from k on, x is the first of chain h; or there is none, and x is 768 or more, which is no fact's number however many are learned
 pub record Leap (facts : List ℕ) (n h k x : ℕ) : Type 0 where
   pub forth : k ≤ x
-  pub within : x ≤ n
-  pub between : (j : ℕ) → k ≤ j → j < x → chainOf facts j ≡ h → ⊥
+  pub between : (j : ℕ) → k ≤ j → j < x → j < n → chainOf facts j ≡ h → ⊥
   pub lands : x < n → chainOf facts x ≡ h
+  pub ends : n ≤ x → 768 ≤ x
 
 -- word h is where chain h starts, and word 64 + k is where the chain of fact k goes on
 pub record Chained (index facts : List ℕ) (n : ℕ) : Type 0 where

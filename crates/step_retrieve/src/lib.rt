@@ -49,24 +49,27 @@ fn fits(facts: &[u16], f: usize, words: &[u16], q: usize, nine: &[u16]) -> bool
     true
 }
 
-// Ends every chain before it starts: 64 words that are n.
-fn no_chains(index: &mut [u16], n: usize)
-    requires { ⌜ (n ≤ 512) × (64 ≤ length (now index)) ⌝ }
-    ensures { λ _. ⌜ ((h : ℕ) → h < 64 → getD (now (index .exit)) h 0 ≡ n) ⌝ }
+// The word that ends a chain: no fact has this number, however many are learned.
+pub const CHAIN_END: u16 = 768;
+
+// Ends every chain before it starts.
+fn no_chains(index: &mut [u16])
+    requires { ⌜ 64 ≤ length (now index) ⌝ }
+    ensures { λ _. ⌜ ((h : ℕ) → h < 64 → getD (now (index .exit)) h 0 ≡ 768) ⌝ }
 {
     let mut h = 0;
     while h < 64 {
-        index[h] = n as u16;
+        index[h] = CHAIN_END;
         h += 1;
     }
 }
 
 // Lays the chains of n facts: 64 words, where each chain starts, and a word for each fact, where its chain goes on.
 pub fn chain(index: &mut [u16], facts: &[u16], n: usize)
-    requires { ⌜ (n ≤ 512) × (11 * n ≤ length (now facts)) × (64 + n ≤ length (now index)) ⌝ }
+    requires { ⌜ (n ≤ 768) × (11 * n ≤ length (now facts)) × (64 + n ≤ length (now index)) ⌝ }
     ensures { λ _. ⌜ Chained (now (index .exit)) (now (facts .entry)) n ⌝ }
 {
-    no_chains(index, n);
+    no_chains(index);
     let mut k = n;
     while 0 < k {
         k -= 1;
@@ -95,7 +98,7 @@ pub fn retrieve(
     q: usize,
     nine: &[u16],
 ) -> Found
-    requires { ⌜ (n ≤ 512) × (11 * n ≤ length (now facts)) × (q + 11 ≤ length (now words)) × (9 ≤ length (now nine)) × Chained (now index) (now facts) n ⌝ }
+    requires { ⌜ (n ≤ 768) × (11 * n ≤ length (now facts)) × (q + 11 ≤ length (now words)) × (9 ≤ length (now nine)) × Chained (now index) (now facts) n ⌝ }
     ensures { λ r. ⌜ retrieve (factsIn (now (facts .entry)) n) (getD (now (words .entry)) (q + 1) 0) (maskedIn (now (words .entry)) q) (now (nine .entry)) ≡ factOf (now (facts .entry)) r ⌝ }
     ensures below { λ r. ⌜ Below r n ⌝ }
 {

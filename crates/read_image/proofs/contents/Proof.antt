@@ -17,8 +17,8 @@ use Rattle.layout.specs.Walks.{answer}
 use Rattle.layout.proofs.WalkLaws.{answer-bad, answer-next, bad-never}
 use Rattle.layout.proofs.WordLaws.{part-put, part-below, part-own}
 use Rattle.laws.specs.PartLaws.{to-end}
-use Rattle.layout.proofs.KeptLaws.{facts-kept}
-use Rattle.read_image.proofs.WholeLaws.{someContents, contents-first, contents-second, contents-on}
+use Rattle.layout.proofs.KeptLaws.{begin-alike, facts-kept}
+use Rattle.read_image.proofs.WholeLaws.{places-most, someContents, contents-first, contents-second, contents-on}
 use borrow.Author.Needs.{needs}
 use Rattle.read_image.proofs.contents.Statement.{statement}
 use Rattle.read_image.proofs.contents.Tie as tie
@@ -43,13 +43,14 @@ ruled c = c .before .before .before .before .before
 -- ---- where the plan's sections begin and end
 
 ends : (c : tie.Start)
-    → let p = c .args .plan in (p .heads ≡ 144 + 11 * p .facts) × (p .rows ≡ p .heads + 4 * p .rules) × (p .rows + 176 * p .rules ≤ length (c .args .tape .now))
+    → let p = c .args .plan in (144 + 11 * p .facts ≤ p .heads) × (p .heads ≤ 9424) × (p .rows ≡ p .heads + 4 * p .rules) × (p .rows + 176 * p .rules ≤ length (c .args .tape .now))
 ends c =
     let e = c .pre .4 .starts in
     let heads = ap (λ (p : Plan). p .heads) e in
     let rows = ap (λ (p : Plan). p .rows) e in
     let end = ap (λ (p : Plan). p .end) e in
-    (heads, omega arith, omega (arith, c .pre .5))
+    let places = places-most (c .args .plan .facts) (c .args .plan .learns) in
+    (omega arith, omega (arith, c .pre .4 .bounds .most-facts), omega arith, omega (arith, c .pre .5))
 
 -- ---- the tape once the facts have come back, and once the rules have
 
@@ -104,7 +105,7 @@ module _ (c : tie.After-rules) where
   heads-here = ap (drop (heads-at c)) put ∙ part-own (heads-at c) (with-facts f) (rules-own c) inside
 
   rows-here : rowsOn p (with-rules c) ≡ drop (4 * p .rules) (rules-own c)
-  rows-here = ap (λ (o : ℕ). drop o (with-rules c)) (ends (begun f) .1) ∙ sym (drop-drop (4 * p .rules) (heads-at c) (with-rules c)) ∙ ap (drop (4 * p .rules)) heads-here
+  rows-here = ap (λ (o : ℕ). drop o (with-rules c)) (ends (begun f) .2) ∙ sym (drop-drop (4 * p .rules) (heads-at c) (with-rules c)) ∙ ap (drop (4 * p .rules)) heads-here
 
   rules-here : rulesOn p (with-rules c) ≡ rulesIn (rules-own c) (drop (4 * p .rules) (rules-own c)) (p .rules)
   rules-here = ap₂ (λ (heads rows : List ℕ). rulesIn heads rows (p .rules)) heads-here rows-here
@@ -113,7 +114,7 @@ module _ (c : tie.After-rules) where
   below = ap (take (heads-at c)) put ∙ part-below (heads-at c) (with-facts f) (rules-own c) inside
 
   facts-still : factsOn p (with-rules c) ≡ factsOn p (with-facts f)
-  facts-still = facts-kept p (with-facts f) (with-rules c) (rw (← ends (begun f) .0) below)
+  facts-still = facts-kept p (with-facts f) (with-rules c) (begin-alike (144 + 11 * p .facts) (heads-at c) (with-facts f) (with-rules c) (ends (begun f) .0) below)
 
   still : take 144 (with-rules c) ≡ take 144 (begun f .args .tape .now)
   still =

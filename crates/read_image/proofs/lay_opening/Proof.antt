@@ -11,9 +11,10 @@ use Rattle.meaning.specs.Model.{Chunk}
 use Rattle.meaning.specs.Read.{Got}
 use Rattle.meaning.specs.Numbers.{finer}
 use Rattle.meaning.specs.Image.{slotCounts, chunk}
+use Rattle.meaning.specs.Learning.{chunkOf}
 use Rattle.layout.specs.Walks.{answer, mapped, Small}
 use Rattle.layout.specs.StateWords.{buffersIn, stateIn}
-use Rattle.layout.specs.Plans.{chunkIn, typesOn, openingOn}
+use Rattle.layout.specs.Plans.{typesOn, openingOn}
 use Rattle.layout.proofs.WalkLaws.{answer-bad, answer-next, bad-within, bad-never}
 use Rattle.layout.proofs.WordLaws.{part-put, part-own}
 use Rattle.laws.specs.PartLaws.{to-end}
@@ -173,7 +174,7 @@ returns-2 c =
     let walk = o .opening .result .walk in
     let put = part-put 64 (typed (copied l)) (own l) ∙ ap (λ (w : List ℕ). take 64 w ++ own l) (copied l .copy-into .ensures) in
     let same : typesOn (a .plan) (tape l) ≡ kinds = ap (typesOn (a .plan)) put ∙ types-laid (a .plan) (a .tape .now) (types t) (own l) (declared t) (sixty-four t) (start t .pre .4) in
-    let chunks : openingOn (a .plan) (tape l) ≡ chunksIn st n = ap (λ (bs : List Buffer). map chunkIn (take n bs)) (laid l) in
+    let chunks : openingOn (a .plan) (tape l) ≡ chunksIn st n = ap (λ (bs : List Buffer). map chunkOf (take n bs)) (laid l) in
     let on = begin-on (a .image .now) (headerIn (a .plan)) (a .p) (start t .pre .2) kinds at (read-types d) walk (chunksIn st n) (opened-chunks (chunk finer kinds 0) n s at walk st read) in
     record {
       reads = ap₂ (λ (ts : List ℕ) (cs : List Chunk). answer walk (aBeginning (headerIn (a .plan)) ts cs)) same chunks ∙ on;

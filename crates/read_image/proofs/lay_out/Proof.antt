@@ -18,7 +18,7 @@ use Rattle.layout.proofs.WalkLaws.{answer-bad, answer-next, bad-never}
 use Rattle.layout.proofs.KeptLaws.{types-kept, state-kept, opening-kept}
 use Rattle.read_opening.specs.Parts.{headerIn, openingState}
 use Rattle.read_image.specs.Whole.{beginningOn, contentsOn, InBounds}
-use Rattle.read_image.proofs.WholeLaws.{aModel, not-long, decode-refused, decode-beginning, decode-on}
+use Rattle.read_image.proofs.WholeLaws.{aModel, not-long, placed-starts, places-in, decode-refused, decode-beginning, decode-on}
 use Rattle.read_image.proofs.TapeLaws.{beginning-kept}
 use borrow.Author.Needs.{needs}
 use Rattle.read_image.proofs.lay_out.Statement.{statement}
@@ -161,6 +161,7 @@ returns-3 c =
     let old = begun o′ in
     let new = d .contents .last .1 .1 .1 .1 .0 in
     let b = in-bounds h in
+    let places = places-in q b in
     let kept = d .contents .ensures .1 .0 in
     let same = beginning-kept q old new kept (declared h) in
     let rest = d .contents .ensures .0 ∙ ap (λ (ts : List ℕ). contents finer (sizes (q .buffers) ts) (q .facts) (q .rules) s (k .before .after-opening .given .0 .0)) (sym (same-types k)) in
@@ -169,12 +170,13 @@ returns-3 c =
       reads = ap (λ (x : Beginning). answer (d .contents .result) (aModel x (contentsOn q new))) same ∙ on;
       planned = λ r e.
           record {
-            starts = b .starts;
+            starts = placed-starts q (b .starts);
             room = omega (arith, d .contents .kept .1 .1 .1 .1 .0, room o′);
             some-buffers = b .bounds .some-buffers;
             most-buffers = b .bounds .most-buffers;
             most-declared = b .bounds .most-declared;
-            most-facts = b .bounds .most-facts;
+            facts-placed = places .0;
+            most-places = places .1;
             small = rw (types-kept q old new kept (declared h)) (met .small _ next);
             laid = d .contents .ensures .1 .1 r e;
             opens = state-kept q old new kept ∙ met .opens _ next ∙ ap (openingState (q .buffers)) (sym (opening-kept q old new kept));

@@ -8,7 +8,7 @@ use Rattle.meaning.specs.declared.State.{State}
 use Rattle.meaning.specs.Read.{Got, times}
 use Rattle.meaning.specs.Numbers.{finer}
 use Rattle.meaning.specs.Image.{chunk}
-use Rattle.meaning.specs.Calls.{opens}
+use Rattle.meaning.specs.State.{opens}
 use Rattle.layout.specs.Walks.{mapped}
 use Rattle.layout.proofs.WalkLaws.{answer-bad, answer-next, bad-within, next-within}
 use Rattle.read_facts.specs.Made.{aChunk}

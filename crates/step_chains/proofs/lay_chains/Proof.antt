@@ -1,5 +1,5 @@
 -- `step_chains::lay_chains` meets its contract: the chains are laid by themselves, and copied to their place.
-use Prim.Native.Nat.{ℕ, _+_}
+use Prim.Native.Nat.{ℕ, _+_, _≤_}
 use mathlib.Core.Path.{sym}
 use mathlib.Core.List.{List}
 use native.Mathlib.Omega.{arith}
@@ -47,7 +47,10 @@ part-chain-end : tie.Need-part-chain-end
 part-chain-end c = search needs
 
 chain-requires : tie.Need-chain-requires
-chain-requires c κs = let planned = start (c .before .before) .pre in (planned .most-facts, rw to-end (sections planned .facts-room), omega (arith, planned .most-facts))
+chain-requires c κs =
+    let planned = start (c .before .before) .pre in
+    let few : start (c .before .before) .args .plan .facts ≤ 768 = omega (arith, planned .facts-placed, planned .most-places) in
+    (few, rw to-end (sections planned .facts-room), omega arith)
 
 add-end : tie.Need-add-end
 add-end c = search needs

@@ -81,7 +81,7 @@ part-retrieve-end-2 c = search needs
 retrieve-requires : tie.Need-retrieve-requires
 retrieve-requires c κs =
     let pre = begun c .pre in
-    simp to-end (pre .4 .most-facts, sections (pre .4) .facts-room, pre .2, pre .3, pre .5)
+    simp to-end (omega (arith, pre .4 .facts-placed, pre .4 .most-places), sections (pre .4) .facts-room, pre .2, pre .3, pre .5)
 
 enum-known-i : tie.Need-enum-known-i
 enum-known-i c = search needs

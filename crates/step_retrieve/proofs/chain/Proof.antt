@@ -24,7 +24,7 @@ no-chains-requires c κs = search needs
 loop-holds : tie.Need-loop-holds Inv-loop μ-loop
 loop-holds c =
     let a = start (c .before) .args in
-    (search needs, search needs, search needs, laid-none (a .facts .now) (a .n) _ (c .before .before .no-chains .ensures))
+    (search needs, search needs, search needs, laid-none (a .facts .now) (a .n) _ (omega arith) (c .before .before .no-chains .ensures))
 
 sub-k : tie.Need-sub-k Inv-loop μ-loop
 sub-k c = search needs

@@ -1,4 +1,4 @@
--- `step_retrieve::no_chains` meets its contract: the words below h are n.
+-- `step_retrieve::no_chains` meets its contract: the words below h are 768.
 use Prim.Native.Nat.{ℕ, _≤_, _<_, _-_}
 use mathlib.Core.Path.{_≡_}
 use lib.ListN.{length, getD}
@@ -9,16 +9,13 @@ use Rattle.step_retrieve.proofs.no_chains.Statement.{statement}
 use Rattle.step_retrieve.proofs.no_chains.Tie as tie
 
 abbrev Inv-loop : tie.InvT-loop
-Inv-loop index₀ n h₀ index h = (h ≤ 64) × (length index ≡ length index₀) × ((j : ℕ) → j < h → getD index j 0 ≡ n)
+Inv-loop index₀ h₀ index h = (h ≤ 64) × (length index ≡ length index₀) × ((j : ℕ) → j < h → getD index j 0 ≡ 768)
 
 abbrev μ-loop : tie.MeasureT-loop
-μ-loop index₀ n h₀ index h = 64 - h
+μ-loop index₀ h₀ index h = 64 - h
 
 loop-holds : tie.Need-loop-holds Inv-loop μ-loop
 loop-holds c = search needs
-
-cast-index : tie.Need-cast-index Inv-loop μ-loop
-cast-index c = search needs
 
 mul-index : tie.Need-mul-index Inv-loop μ-loop
 mul-index c = search needs
@@ -33,7 +30,7 @@ loop-less : tie.Need-loop-less Inv-loop μ-loop
 loop-less c = search needs
 
 loop-again : tie.Need-loop-again Inv-loop μ-loop
-loop-again c = let l = c .before .loop in (search needs, search needs, filled (l .index) (l .h) (c .before .before .args .n) (omega arith) (l .inv .2))
+loop-again c = let l = c .before .loop in (search needs, search needs, filled (l .index) (l .h) 768 (omega arith) (l .inv .2))
 
 same-length : tie.Need-same-length Inv-loop μ-loop
 same-length c = search needs
@@ -48,7 +45,6 @@ no-chains-spec =
     Inv-loop
     μ-loop
     loop-holds
-    cast-index
     mul-index
     slice-write-index
     add-h

@@ -1,5 +1,5 @@
 -- `step_retrieve::retrieve` meets its contract: the best so far, and then the facts that are left, give the best of all; what a leap passes does not fit.
-use Prim.Native.Nat.{_≤_, _<_, _-_, _+_, _*_, _/_, _%_, _^_}
+use Prim.Native.Nat.{_<_, _-_, _+_, _*_, _/_, _%_, _^_}
 use mathlib.Core.Path.{_≡_, refl, sym, _∙_}
 use mathlib.Core.Bool.{true}
 use mathlib.Core.Logic.{⊎-elim}
@@ -19,7 +19,7 @@ use Rattle.step_retrieve.proofs.retrieve.Tie as tie
 
 abbrev Inv-loop : tie.InvT-loop
 Inv-loop facts index n words q nine isa chained first best₀ least₀ k₀ best least k =
-    (k ≤ n) × Leads facts n best least × (foundFrom facts n isa (maskedIn words q) nine k best ≡ retrieve (factsIn facts n) isa (maskedIn words q) nine)
+    Leads facts n best least × (foundFrom facts n isa (maskedIn words q) nine k best ≡ retrieve (factsIn facts n) isa (maskedIn words q) nine)
     × (chained ≡ true → k < n → chainOf facts k ≡ first % 64)
 
 abbrev μ-loop : tie.MeasureT-loop
@@ -48,7 +48,7 @@ onward c =
     let v = valued k in
     let a = begun v .args in
     leap-to (a .facts .now) (a .n) (a .words .now) (a .q) (a .nine .now) (v .value-of .result) (v .value-of .ensures) _ (l .k + 1) (getD (a .index .now) (64 + l .k) 0) _ (c .leap2 .ensures)
-    (λ t. eqb-true _ 1 t) (λ t. rw (l .inv .3 t h) at (begun v .pre .4 .goes-on (l .k) h)) (omega arith)
+    (λ t. eqb-true _ 1 t) (λ t. rw (l .inv .2 t h) at (begun v .pre .4 .goes-on (l .k) h))
 
 -- ---- what is asked
 
@@ -94,8 +94,8 @@ loop-holds c =
     let a = begun v .args in
     let first = v .value-of .result in
     let on = leap-to (a .facts .now) (a .n) (a .words .now) (a .q) (a .nine .now) first (v .value-of .ensures) _ 0 (getD (a .index .now) (first % 64) 0) _ (c .leap .ensures)
-    (λ t. eqb-true _ 1 t) (λ t. begun v .pre .4 .starts (first % 64) (omega arith)) (omega arith) in
-    (on .within, refl, on .same _ ∙ found-start (a .facts .now) (a .n) _ _ (a .nine .now), on .lands)
+    (λ t. eqb-true _ 1 t) (λ t. begun v .pre .4 .starts (first % 64) (omega arith)) in
+    (refl, on .same _ ∙ found-start (a .facts .now) (a .n) _ _ (a .nine .now), on .lands)
 
 mul-f : tie.Need-mul-f Inv-loop μ-loop
 mul-f c = search needs
@@ -136,7 +136,7 @@ leap-requires-2 : tie.Need-leap-requires-2 Inv-loop μ-loop
 leap-requires-2 c κs = omega (arith, begun (valued (c .before .before .before)) .pre .4 .room)
 
 loop-less : tie.Need-loop-less Inv-loop μ-loop
-loop-less c = let on = onward c in omega (arith, on .forth, on .within)
+loop-less c = let on = onward c in omega (arith, on .forth)
 
 loop-again : tie.Need-loop-again Inv-loop μ-loop
 loop-again c =
@@ -146,15 +146,15 @@ loop-again c =
     let a = begun (valued k) .args in
     let on = onward c in
     ⊎-elim
-    (λ w. let found = found-turn (a .facts .now) (a .n) _ _ (a .nine .now) (l .k) (l .best) h (l .least) (l .inv .1) (w .2 .taken) (w .3 .result) (w .3 .ensures) (w .4 .taken) in
-    (on .within, rw (w .5, w .6) (h, refl), on .same _ ∙ rw (w .5) (found ∙ l .inv .2), on .lands))
+    (λ w. let found = found-turn (a .facts .now) (a .n) _ _ (a .nine .now) (l .k) (l .best) h (l .least) (l .inv .0) (w .2 .taken) (w .3 .result) (w .3 .ensures) (w .4 .taken) in
+    (rw (w .5, w .6) (h, refl), on .same _ ∙ rw (w .5) (found ∙ l .inv .1), on .lands))
     (⊎-elim
     (λ w. let found = found-skip (a .facts .now) (a .n) _ _ (a .nine .now) (l .k) (l .best) h (w .3 .result) (w .3 .ensures) (w .4 .left) in
-    (on .within, rw (w .5, w .6) (l .inv .1), on .same _ ∙ rw (w .5) (found ∙ l .inv .2), on .lands))
+    (rw (w .5, w .6) (l .inv .0), on .same _ ∙ rw (w .5) (found ∙ l .inv .1), on .lands))
     (⊎-elim
-    (λ w. let found = found-kept (a .facts .now) (a .n) _ _ (a .nine .now) (l .k) (l .best) h (l .least) (l .inv .1) (w .2 .left) in
-    (on .within, rw (w .3, w .4) (l .inv .1), on .same _ ∙ rw (w .3) (found ∙ l .inv .2), on .lands))
-    (λ w. (on .within, rw (w .1, w .2) (l .inv .1), on .same _ ∙ rw (w .1) (found-other (a .facts .now) (a .n) _ _ (a .nine .now) (l .k) (l .best) h (w .0 .left) ∙ l .inv .2), on .lands))))
+    (λ w. let found = found-kept (a .facts .now) (a .n) _ _ (a .nine .now) (l .k) (l .best) h (l .least) (l .inv .0) (w .2 .left) in
+    (rw (w .3, w .4) (l .inv .0), on .same _ ∙ rw (w .3) (found ∙ l .inv .1), on .lands))
+    (λ w. (rw (w .1, w .2) (l .inv .0), on .same _ ∙ rw (w .1) (found-other (a .facts .now) (a .n) _ _ (a .nine .now) (l .k) (l .best) h (w .0 .left) ∙ l .inv .1), on .lands))))
     (c .before .if1 .came)
 
 returns : tie.Need-returns Inv-loop μ-loop
@@ -162,7 +162,7 @@ returns c =
     let l = c .before .loop in
     let a = begun (valued (c .before)) .args in
     let found = found-end (a .facts .now) (a .n) _ _ (a .nine .now) (l .k) (l .best) (c .loop-test .left) in
-    (sym (l .inv .2) ∙ found, leads-below (a .facts .now) (a .n) (l .best) (l .least) (l .inv .1))
+    (sym (l .inv .1) ∙ found, leads-below (a .facts .now) (a .n) (l .best) (l .least) (l .inv .0))
 
 pub retrieve-spec : {M : Type 1} → statement M
 retrieve-spec =
