@@ -1,2 +1,3 @@
 -- Laws of a step with nothing kept.
+pub mod AddLaws
 pub mod MoveLaws

@@ -9,7 +9,7 @@ use Rattle.layout.specs.declared.Plan.{Plan}
 use Rattle.layout.specs.Plans.{headsOn, Planned}
 use Rattle.layout.proofs.WordLaws.{part-put, part-below, part-own}
 use Rattle.layout.proofs.PlanLaws.{sections}
-use Rattle.layout.proofs.KeptLaws.{begin-alike, same-below, follows, same-facts, same-heads, model-kept, planned-kept}
+use Rattle.layout.proofs.KeptLaws.{begin-alike, same-below, follows, same-facts, Stays, stays-below, model-kept, planned-kept}
 use Rattle.match_order.specs.Order.{Ranked}
 use Rattle.match_order.proofs.CountLaws.{ranked-kept}
 use Rattle.step_retrieve.specs.Chains.{ChainsOn}
@@ -37,10 +37,9 @@ module _ (p : Plan) (tape own : List ℕ) (planned : Planned p tape) (size : len
   pub order-laid : Ranked (headsOn p tape) own (p .rules) → OrderLaid p tape ordered
   order-laid ranked =
       let below : take (p .order) ordered ≡ take (p .order) tape = ap (take (p .order)) put ∙ part-below (p .order) tape own inside in
-      let f = follows planned in
       let stands : drop (p .order) ordered ≡ own = ap (drop (p .order)) put ∙ part-own (p .order) tape own inside in
-      let heads = same-heads p tape ordered planned (p .order) (omega arith) below as-long in
-      record { below = below; order = rw stands (ranked-kept (headsOn p tape) (headsOn p ordered) own (p .rules) heads ranked) }
+      let stays = stays-below p tape ordered planned as-long (p .order) (omega arith) below in
+      record { below = below; order = rw stands (ranked-kept (headsOn p tape) (headsOn p ordered) own (p .rules) (stays .heads) ranked) }
 
 -- ---- both, one after the other
 
@@ -49,8 +48,8 @@ module _ (p : Plan) (tape tape₁ tape₂ : List ℕ) (planned : Planned p tape)
   chained = planned-chained p tape tape₁ planned chains long₁
 
   module _ (order : OrderLaid p tape₁ tape₂) (long₂ : length tape₂ ≡ length tape₁) where
-    chains-first : p .chains ≤ p .order
-    chains-first = let f = follows planned in omega arith
+    stays : Stays p tape₁ tape₂
+    stays = stays-below p tape₁ tape₂ chained long₂ (p .order) (omega arith) (order .below)
 
     -- the chains stay while words after them are written
     chains-stay : ChainsOn p tape₂
@@ -59,13 +58,13 @@ module _ (p : Plan) (tape tape₁ tape₂ : List ℕ) (planned : Planned p tape)
         let s = sections chained in
         let same = same-below (p .chains) (64 + p .facts) tape₁ tape₂ (begin-alike (p .chains + (64 + p .facts)) (p .order) tape₁ tape₂ (omega arith) (order .below)) in
         let room : 64 + p .facts ≤ length (drop (p .chains) tape₂) = omega (arith, length-drop (p .chains) tape₂) in
-        let facts = same-facts p tape₁ tape₂ chained (p .order) chains-first (order .below) long₂ in
+        let facts = same-facts p tape₁ tape₂ chained stays in
         chained-kept (drop (p .chains) tape₁) (drop (p .chains) tape₂) (drop 144 tape₁) (drop 144 tape₂) (p .facts) (chains .chains) room same facts
 
     pub aids-laid : AidsLaid p tape tape₂
     aids-laid =
         record {
-          planned = planned-kept p tape₁ tape₂ chained (p .order) chains-first (order .below) long₂;
-          same = model-kept p tape₁ tape₂ chained (p .order) chains-first (order .below) long₂ ∙ model-chained p tape tape₁ planned chains long₁;
+          planned = planned-kept p tape₁ tape₂ chained stays;
+          same = model-kept p tape₁ tape₂ chained stays ∙ model-chained p tape tape₁ planned chains long₁;
           aided = record { chains = chains-stay; order = order .order };
         }

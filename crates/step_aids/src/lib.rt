@@ -1,4 +1,4 @@
-// What a run with a table lays on the tape after the model's sections: the chains of the facts, and the order of the rules.
+// What a run with a table lays on the tape besides the model: the chains of the facts, and the order of the rules.
 ghost use Rattle.layout.specs.Plans.{Planned};
 ghost use Rattle.step_aids.specs.Aids.{OrderLaid, AidsLaid};
 use layout::Plan;

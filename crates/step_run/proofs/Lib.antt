@@ -1,2 +1,3 @@
 -- Laws of a run.
 pub mod RunLaws
+pub mod AddLaws

@@ -1,10 +1,12 @@
 -- What a run answers.
 use Prim.Native.Nat.{ℕ}
 use mathlib.Core.List.{List}
-use Rattle.meaning.specs.Model.{Model}
-use Rattle.meaning.specs.Run.{going, runFrom}
+use mathlib.Core.Option.{Option}
+use Rattle.meaning.specs.Model.{Model, Chunk}
+use Rattle.meaning.specs.Run.{Going, going, Run, runFrom}
 use Rattle.meaning.specs.Calls.{Ran, ranBy}
 use Rattle.layout.specs.StateWords.{stateIn}
+use Rattle.step_learn.specs.Knows.{Knows, Stored}
 use Rattle.step_note.specs.Events.{Tells}
 use Rattle.step_run.specs.declared.Went.{Went}
 
@@ -12,6 +14,12 @@ use Rattle.step_run.specs.declared.Went.{Went}
 abbrev pub ranIn : Went → List ℕ → List ℕ → Ran
 ranIn r w table = record { number = r .number; position = 0; state = stateIn w (r .clock); table = table; made = r .made }
 
--- a run of a model, from a state in words
-abbrev pub WentMet : Went → Model → List ℕ → List ℕ → ℕ → List ℕ → List ℕ → ℕ → List ℕ → List ℕ → Type 0
-WentMet r m w w′ clock table table′ steps lent lent′ = Tells (ranBy 0) (ranIn r w′ table′) (runFrom m steps (going (stateIn w clock) table)) lent lent′
+-- what a run gives, and the store that it leaves
+abbrev pub ranWith : Run Going → Stored Ran
+ranWith r = record { answer = ranBy 0 r; store = r .left .store }
+
+-- a run of a model with a store, if one is lent, from a state in words: plan and tape know at the end what the store does
+pub record WentMet (r : Went) (m : Model) (store : Option (List Chunk)) (w w′ : List ℕ) (clock : ℕ) (table table′ : List ℕ) (steps : ℕ) (lent lent′ tape′ : List ℕ) : Type 0 where
+  pub left : Option (List Chunk)
+  pub tells : Tells ranWith (record { answer = ranIn r w′ table′; store = left }) (runFrom m steps (going (stateIn w clock) table store)) lent lent′
+  pub knows : Knows (r .plan) tape′ m left

@@ -10,6 +10,7 @@ use Rattle.layout.specs.Plans.{headsOn, rowsOn, rulesOn}
 use Rattle.laws.specs.PartLaws.{to-end}
 use Rattle.layout.proofs.PlanLaws.{sections}
 use Rattle.fresh_best.specs.Matched.{matchedOf, Entered}
+use Rattle.fresh_step.proofs.AddLaws.{unfired-adds}
 use Rattle.fresh_step.proofs.MoveLaws.{rule-below, step-fires, step-waits}
 use Rattle.fresh_step.proofs.step.Statement.{statement}
 use Rattle.fresh_step.proofs.step.Tie as tie
@@ -17,7 +18,7 @@ use Rattle.fresh_step.proofs.step.Tie as tie
 -- ---- the places of the code, each named once
 
 abbrev start : tie.After-struct-known → tie.Start
-start c = c .before .before .before
+start c = c .before .before .before .before
 
 abbrev asked : tie.After-best → tie.After-struct-known
 asked c = c .before .before .before .before .before
@@ -25,8 +26,8 @@ asked c = c .before .before .before .before .before
 abbrev begun : tie.After-best → tie.Start
 begun c = start (asked c)
 
-abbrev fires : tie.After-nine3 → tie.After-k
-fires c = c .before .before .before
+abbrev fires : tie.After-fire-arg2 → tie.After-k
+fires c = c .before .before .before .before
 
 abbrev picked : tie.After-k → tie.After-best
 picked c = c .before .before .before
@@ -89,7 +90,7 @@ fire-requires c κs =
     let k = fires c in
     let b = picked k in
     let s = begun b in
-    (s .pre .0, rule-below (k .k .given .1) (b .best .ensures .1 .1), s .pre .1, s .pre .2, b .best .kept .1 .1 .1 .1 .0)
+    (s .pre .0, rule-below (k .k .given .1) (b .best .ensures .1 .1), s .pre .1, s .pre .2, b .best .kept .1 .1 .1 .1 .0, s .pre .3)
 
 enum-told : tie.Need-enum-told
 enum-told c = search needs
@@ -100,24 +101,31 @@ wait-requires c κs = search needs
 same-length : tie.Need-same-length
 same-length c = search needs
 
+same-length-2 : tie.Need-same-length-2
+same-length-2 c = search needs
+
 returns : tie.Need-returns
 returns c =
-    let fired = c .before .before in
+    let fired = c .before .before .before .before in
     let k = fires (fired .before) in
     let b = picked k in
     let a = begun b .args in
-    step-fires (a .plan) (a .tape .now) (chosen b) _ (k .k .given .1) (entry b) (entered b) (fired .fire .ensures)
+    (step-fires (a .plan) (a .tape .now) (chosen b) _ (k .k .given .1) (entry b) (entered b) (fired .fire .ensures .0), fired .fire .ensures .1)
 
-same-length-2 : tie.Need-same-length-2
-same-length-2 c = search needs
+same-length-3 : tie.Need-same-length-3
+same-length-3 c = search needs
 
 returns-2 : tie.Need-returns-2
 returns-2 c =
     let waited = c .before .before in
     let told = waited .before .before in
     let b = told .before .before .before in
-    let a = begun b .args in
-    step-waits (a .plan) (a .tape .now) (chosen b) (told .enum-told .given .1) (waited .wait .ensures)
+    let s = begun b in
+    let a = s .args in
+    let fit = s .pre .0 .facts-placed in (
+      step-waits (a .plan) (a .tape .now) (chosen b) fit (told .enum-told .given .1) (waited .wait .ensures .0),
+      unfired-adds (a .plan) (a .tape .now) (a .state .now) (a .news .now) (waited .wait .result) (waited .wait .ensures .1) fit,
+    )
 
 pub step-spec : {M : Type 1} → statement M
 step-spec =
@@ -140,6 +148,7 @@ step-spec =
     enum-told
     wait-requires
     same-length
-    returns
     same-length-2
+    returns
+    same-length-3
     returns-2)

@@ -1,5 +1,7 @@
 -- `fresh_step::wait` meets its contract: the soonest delay is waited for, if there is one and the clock has room.
 use native.Mathlib.Omega.{arith}
+use mathlib.Core.Path.{refl}
+use Rattle.fresh_step.proofs.AddLaws.{stays-unfired}
 use Rattle.fresh_step.proofs.MoveLaws.{nothing-pending, wait-full, waited}
 use borrow.Author.Needs.{needs}
 use Rattle.fresh_step.proofs.wait.Statement.{statement}
@@ -25,7 +27,8 @@ returns : tie.Need-returns
 returns c =
     let s = c .before .before in
     let a = start s .args in
-    nothing-pending (a .state .now) (a .clock) (s .soonest .result) (s .soonest .ensures) (c .stays .result) (c .before .if1 .taken) (c .stays .ensures)
+    let stays = c .stays in
+    (nothing-pending (a .state .now) (a .clock) (s .soonest .result) (s .soonest .ensures) (stays .result) (c .before .if1 .taken) (stays .ensures), stays-unfired (stays .result) 9 (stays .ensures))
 
 cast-if2 : tie.Need-cast-if2
 cast-if2 c = search needs
@@ -44,7 +47,10 @@ returns-2 c =
     let some = c .before .before in
     let s = some .before in
     let a = start s .args in
-    wait-full (a .state .now) (a .clock) (s .soonest .result) (s .soonest .ensures) (some .if1 .left) (c .stays2 .result) (omega (arith, c .before .if2 .taken)) (c .stays2 .ensures)
+    let stays = c .stays2 in (
+      wait-full (a .state .now) (a .clock) (s .soonest .result) (s .soonest .ensures) (some .if1 .left) (stays .result) (omega (arith, c .before .if2 .taken)) (stays .ensures),
+      stays-unfired (stays .result) 8 (stays .ensures),
+    )
 
 wait-requires : tie.Need-wait-requires
 wait-requires c κs = search needs
@@ -58,8 +64,10 @@ returns-3 c =
     let room = w .before .before in
     let some = room .before in
     let s = some .before in
-    let a = start s .args in
-    waited (a .state .now) (a .clock) (s .soonest .result) (s .soonest .ensures) (some .if1 .left) (omega (arith, room .if2 .left)) _ (w .wait .ensures .0 (a .clock))
+    let a = start s .args in (
+      waited (a .state .now) (a .clock) (s .soonest .result) (s .soonest .ensures) (some .if1 .left) (omega (arith, room .if2 .left)) _ (w .wait .ensures .0 (a .clock)),
+      record { no-firing = λ z. absurd (omega arith); nothing = refl },
+    )
 
 pub wait-spec : {M : Type 1} → statement M
 wait-spec =

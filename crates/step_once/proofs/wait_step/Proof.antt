@@ -16,7 +16,7 @@ returns : tie.Need-returns
 returns c =
     let a = c .before .before .before .before .args in
     let soonest = c .before .soonest in
-    nothing-pending (a .state .now) (a .clock) (soonest .result) (soonest .ensures) (omega arith)
+    (nothing-pending (a .state .now) (a .clock) (soonest .result) (soonest .ensures) (omega arith), tt)
 
 cast-if2 : tie.Need-cast-if2
 cast-if2 c = search needs
@@ -32,7 +32,7 @@ returns-2 c =
     let a = c .before .before .before .before .before .args in
     let soonest = c .before .before .soonest in
     let some = c .before .if1 .left in
-    wait-full (a .state .now) (a .clock) (soonest .result) (soonest .ensures) some (omega arith)
+    (wait-full (a .state .now) (a .clock) (soonest .result) (soonest .ensures) some (omega arith), tt)
 
 wait-requires : tie.Need-wait-requires
 wait-requires c κs = search needs
@@ -47,7 +47,7 @@ returns-3 c =
     let some = c .before .before .before .before .before .if1 .left in
     let wait = c .before .before .wait .ensures in
     let mark = wait .1 (a .clock) (a .clock + soonest .result) in
-    waited (a .state .now) (a .clock) (soonest .result) (soonest .ensures) some (omega arith) _ _ (wait .0 (a .clock)) mark
+    (waited (a .state .now) (a .clock) (soonest .result) (soonest .ensures) some (omega arith) _ _ (wait .0 (a .clock)) mark, tt)
 
 pub wait-step-spec : {M : Type 1} → statement M
 wait-step-spec =

@@ -6,6 +6,7 @@ use Rattle.meaning.specs.Step.{Stopped}
 use Rattle.step_once.specs.declared.StepDone.the-variants as done-variants
 use Rattle.step_once.specs.Done.{stepIn, ClockFits}
 use borrow.Author.Needs.{needs}
+use Rattle.step_run.proofs.AddLaws.{fired-adds, waited-adds}
 use Rattle.step_run.proofs.tell.Statement.{statement}
 use Rattle.step_run.proofs.tell.Tie as tie
 
@@ -29,6 +30,7 @@ returns c =
       stopped = λ e. c .before .before .done .given .1 ∙ ap done-variants.Stopped (sym (c .wide .ensures));
       known = omega arith;
       small = λ e. search needs;
+      adds = λ p tape w news fit joins made. absurd (made refl);
     }
 
 returns-2 : tie.Need-returns-2
@@ -39,6 +41,7 @@ returns-2 c =
       stopped = λ e. absurd (omega arith);
       known = omega arith;
       small = λ e. absurd (omega arith);
+      adds = λ p tape w news fit joins made. fired-adds p tape w news _ _ _ (rw (c .before .done2 .given .1) at joins);
     }
 
 returns-3 : tie.Need-returns-3
@@ -49,6 +52,7 @@ returns-3 c =
       stopped = λ e. absurd (omega arith);
       known = omega arith;
       small = λ e. absurd (omega arith);
+      adds = λ p tape w news fit joins made. waited-adds p tape w news _ _ fit;
     }
 
 pub tell-spec : {M : Type 1} → statement M

@@ -1,0 +1,3 @@
+-- Laws of a memory that grows.
+pub mod LinkLaws
+pub mod GrowLaws

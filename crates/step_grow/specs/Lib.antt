@@ -1,0 +1,2 @@
+-- A memory that grows.
+pub mod Grown
