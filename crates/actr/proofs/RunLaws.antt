@@ -12,10 +12,13 @@ use Rattle.meaning.specs.declared.State.{State}
 use Rattle.meaning.specs.Base.{if_then_else_}
 use Rattle.meaning.specs.Step.{Event, Fired, Waited}
 use Rattle.meaning.specs.Run.{Going, Timed, Run}
-use Rattle.meaning.specs.Calls.{Ran, traceOf, runOf}
+use Rattle.meaning.specs.Calls.{Ran, WithStore, traceLent, runLent}
+use Rattle.meaning.specs.Store.{lentBy}
 use Rattle.meaning.specs.Print.{Line, Stepped, End, lineOf, linesOf}
-use Rattle.laws.specs.CallsLaws.{made-most}
+use Rattle.laws.specs.CallsLaws.{lent-most}
 use Rattle.step_note.specs.Events.{eventWords, eventBy, noted, inscribed}
+use Rattle.call_run.specs.declared.RunDone.{RunDone}
+use Rattle.call_run.specs.Answers.{withStore}
 use Rattle.actr_lines.specs.Written.{lineIn, linesIn}
 
 -- ---- the words of an event stay as later events are noted
@@ -87,18 +90,22 @@ events-back (e ∷ es) lent k h =
     (line-stays es lent′ k ∙ event-back lent k (e .clock) (e .event) (omega arith))
     (events-back es lent′ (k + 1) (omega (arith, noted-length (eventWords (e .clock) (e .event)) lent k)))
 
--- what a traced run answers gives its lines
-pub traced-lines : (s : State) (table : List ℕ) (n : ℕ) (lent : List ℕ) → 3 * n ≤ length lent → (image words : List ℕ) (r : Ran)
-    → r ≡ runOf image s table n → words ≡ inscribed lent 0 (traceOf image s table n .events)
-    → linesIn words 0 (r .made) ++ (End (r .number) (r .made) ∷ []) ≡ linesOf (traceOf image s table n)
-unfolding runOf
-traced-lines s table n lent room image words r e w =
-    let run : Run Going = traceOf image s table n in
-    let few : length (run .events) ≤ n = made-most image s table n in
-    ap₂ (λ (ws : List ℕ) (a : Ran). linesIn ws 0 (a .made) ++ (End (a .number) (a .made) ∷ [])) w e
-    ∙ ap (λ (ls : List Line). ls ++ (End (run .number) (length (run .events)) ∷ [])) (events-back (run .events) lent 0 (omega arith))
+-- what a run answers gives its lines, whatever is lent
+pub lent-lines : (s : State) (table : List ℕ) (n : ℕ) (room : List ℕ) → 3 * n ≤ length room
+    → (image : List ℕ) (lent : ℕ) (store : List ℕ) (r : RunDone) (table′ store′ words : List ℕ)
+    → withStore r table′ store′ ≡ runLent image s table n lent store → words ≡ inscribed room 0 (traceLent image s table n (lentBy lent store) .events)
+    → linesIn words 0 (r .made) ++ (End (r .number) (r .made) ∷ []) ≡ linesOf (traceLent image s table n (lentBy lent store))
+unfolding runLent
+lent-lines s table n room long image lent store r table′ store′ words e w =
+    let run : Run Going = traceLent image s table n (lentBy lent store) in
+    let few : length (run .events) ≤ n = lent-most image s table n lent store in
+    ap₂ (λ (ws : List ℕ) (a : WithStore Ran). linesIn ws 0 (a .answer .made) ++ (End (a .answer .number) (a .answer .made) ∷ [])) w e
+    ∙ ap (λ (ls : List Line). ls ++ (End (run .number) (length (run .events)) ∷ [])) (events-back (run .events) room 0 (omega arith))
 
 -- ---- a run makes no more steps than asked
 
-pub traced-most : (image : List ℕ) (s : State) (table : List ℕ) (n : ℕ) (r : Ran) → r ≡ runOf image s table n → r .made ≤ n
-traced-most image s table n r e = rw e (made-most image s table n)
+pub lent-few : (image : List ℕ) (s : State) (table : List ℕ) (n lent : ℕ) (store : List ℕ) (r : RunDone) (table′ store′ : List ℕ)
+    → withStore r table′ store′ ≡ runLent image s table n lent store → r .made ≤ n
+lent-few image s table n lent store r table′ store′ e =
+    let made : r .made ≡ runLent image s table n lent store .answer .made = ap (λ (a : WithStore Ran). a .answer .made) e in
+    rw made (lent-most image s table n lent store)

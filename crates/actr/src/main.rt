@@ -1,23 +1,25 @@
 // The printing program: reads one image from standard input, opens it, runs at most 1,000 steps and prints a line for each.
 ghost use mathlib.Core.Path.{_≡_};
+ghost use mathlib.Core.Option.{some};
 ghost use Prim.Native.Nat.{_≤_};
-ghost use lib.ListN.{length, take};
+ghost use lib.ListN.{length, replicate, take};
 ghost use Rattle.io.specs.Counts.{Counts};
 ghost use Rattle.meaning.specs.Print.{linesOf, printed};
-ghost use Rattle.meaning.specs.Calls.{neededOf, traceOf};
+ghost use Rattle.meaning.specs.Calls.{neededOf, traceLent};
 ghost use Rattle.actr_lines.specs.Text.{text as Text·text};
 ghost use Rattle.actr_lines.specs.Written.{Written};
 use actr_lines::put_end;
 use actr_lines::put_steps;
 use meaning::State;
 
-// Runs at most 1,000 steps from a state, and puts a line of at most 27 letters for each and the last line, of at most 26.
+// Runs at most 1,000 steps from a state, with an empty store lent, and puts a line of at most 27 letters for each and the last line, of at most 26.
 fn print_run(image: &[u8], state: State, table: &mut [u16], text: &mut [u8]) -> usize
     requires { ⌜ 27026 ≤ length (now text) ⌝ }
-    ensures { λ r. ⌜ Written (now (text .entry)) 0 (now (text .exit)) r 27026 (Text·text (linesOf (traceOf (now (image .entry)) state (now (table .entry)) 1000))) ⌝ }
+    ensures { λ r. ⌜ Written (now (text .entry)) 0 (now (text .exit)) r 27026 (Text·text (linesOf (traceLent (now (image .entry)) state (now (table .entry)) 1000 (some (replicate 2305 0))))) ⌝ }
 {
     let mut events = [0u32; 3000];
-    let done = calls::trace(image, state, table, 1000, &mut events);
+    let mut store = [0u16; 2305];
+    let done = calls::run_lent(image, state, table, 1000, &mut events, 1, &mut store);
     let end = put_steps(text, 0, &events, done.made);
     put_end(text, end, done.number, done.made)
 }

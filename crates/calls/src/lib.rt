@@ -1,13 +1,15 @@
 // The calls: open, run and refresh, and the length of the table that they need; and the runs without a table. Each takes whatever it is handed,
 // and does its work or refuses by number; none has a `requires`.
 ghost use mathlib.Core.Path.{_≡_};
-ghost use Rattle.meaning.specs.Calls.{neededOf, openOf, traceOf, runOf, refreshOf};
-ghost use Rattle.meaning.specs.Fresh.{freshTraceOf, freshOf};
+ghost use Rattle.meaning.specs.Calls.{neededOf, openOf, traceLent, runLent, traceOf, runOf, refreshOf};
+ghost use Rattle.meaning.specs.Fresh.{freshTraceLent, freshLent, freshTraceOf, freshOf};
+ghost use Rattle.meaning.specs.Store.{lentBy};
 ghost use Rattle.step_note.specs.Events.{inscribed};
 ghost use Rattle.call_open.specs.Answers.{openedIn};
 ghost use Rattle.call_refresh.specs.Answers.{refreshedIn};
-ghost use Rattle.call_run.specs.Answers.{ranBack};
+ghost use Rattle.call_run.specs.Answers.{ranBack, withStore};
 ghost use Rattle.fresh_call.specs.Answers.{freshBack};
+ghost use Rattle.fresh_call.specs.Answers.{withStore as freshWith};
 ghost use Rattle.calls.specs.Answers.{neededIn};
 pub use call_open::OpenDone;
 pub use call_refresh::RefreshDone;
@@ -28,7 +30,7 @@ pub struct LengthDone {
 pub fn table_length(image: &[u8]) -> LengthDone
     ensures { λ r. ⌜ neededIn r ≡ neededOf (now (image .entry)) ⌝ }
 {
-    let begun = read_image::begin(image);
+    let begun = read_image::begin(image, false);
     let plan = begun.plan;
     let walk = read_image::check(image, begun);
     if let Walk::Bad(number, at) = walk {
@@ -74,6 +76,22 @@ pub fn trace(
     call_run::trace(image, state, table, steps, events)
 }
 
+// Runs as `trace` does, with what `lent` says is lent (1: a store): what is learned joins the store; where it is not lent its words are neither read nor written.
+pub fn run_lent(
+    image: &[u8],
+    state: State,
+    table: &mut [u16],
+    steps: u16,
+    events: &mut [u32],
+    lent: u16,
+    store: &mut [u16],
+) -> RunDone
+    ensures { λ r. ⌜ (withStore r (now (table .exit)) (now (store .exit)) ≡ runLent (now (image .entry)) state (now (table .entry)) steps lent (now (store .entry)))
+        × (now (events .exit) ≡ inscribed (now (events .entry)) 0 (traceLent (now (image .entry)) state (now (table .entry)) steps (lentBy lent (now (store .entry))) .events)) ⌝ }
+{
+    call_run::run_lent(image, state, table, steps, events, lent, store)
+}
+
 // Makes the entries of the rules that test a marked buffer afresh: the number, the position of a refused field, and how many these rules are.
 pub fn refresh(image: &[u8], state: State, mark: u16, table: &mut [u16]) -> RefreshDone
     ensures { λ r. ⌜ refreshedIn r (now (table .exit)) ≡ refreshOf (now (image .entry)) state mark (now (table .entry)) ⌝ }
@@ -94,4 +112,19 @@ pub fn trace_fresh(image: &[u8], state: State, steps: u16, events: &mut [u32]) -
         × (now (events .exit) ≡ inscribed (now (events .entry)) 0 (freshTraceOf (now (image .entry)) state steps .events)) ⌝ }
 {
     fresh_call::trace_fresh(image, state, steps, events)
+}
+
+// Runs as `trace_fresh` does, with what `lent` says is lent (1: a store), as `run_lent` does.
+pub fn fresh_lent(
+    image: &[u8],
+    state: State,
+    steps: u16,
+    events: &mut [u32],
+    lent: u16,
+    store: &mut [u16],
+) -> FreshDone
+    ensures { λ r. ⌜ (freshWith r (now (store .exit)) ≡ freshLent (now (image .entry)) state steps lent (now (store .entry)))
+        × (now (events .exit) ≡ inscribed (now (events .entry)) 0 (freshTraceLent (now (image .entry)) state steps (lentBy lent (now (store .entry))) .events)) ⌝ }
+{
+    fresh_call::fresh_lent(image, state, steps, events, lent, store)
 }

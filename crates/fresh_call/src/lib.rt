@@ -4,19 +4,28 @@ ghost use Prim.Native.Nat.{_≤_};
 ghost use lib.ListN.{length};
 ghost use Rattle.meaning.specs.Read.{Got};
 ghost use Rattle.meaning.specs.Image.{decode};
-ghost use Rattle.meaning.specs.Fresh.{freshTraceOf, freshOf};
-ghost use Rattle.layout.specs.Plans.{modelOn, Planned};
-ghost use Rattle.read_image.specs.Whole.{Begun};
+ghost use mathlib.Core.List.{List};
+ghost use mathlib.Core.Option.{Option};
+ghost use Rattle.meaning.specs.Model.{Model, Chunk};
+ghost use Rattle.meaning.specs.Store.{lentBy};
+ghost use Rattle.meaning.specs.Fresh.{freshTraceLent, freshLent, freshTraceOf, freshOf};
+ghost use Rattle.layout.specs.Plans.{placesFor, modelOn, Planned};
+ghost use Rattle.read_image.specs.Whole.{Begun, Learning};
 ghost use Rattle.step_note.specs.Events.{inscribed};
-ghost use Rattle.fresh_call.specs.Answers.{FreshMet, freshBack};
+ghost use Rattle.step_learn.specs.Knows.{Knows};
+ghost use Rattle.fresh_run.specs.Went.{WentMet};
+ghost use Rattle.fresh_call.specs.Answers.{FreshMet, freshBack, withStore};
+use fresh_run::Went;
 use layout::LARGE_TAPE;
 use layout::MIDDLE_TAPE;
 use layout::Plan;
 use layout::PlanRead;
 use layout::SMALL_TAPE;
 use layout::STATE_WORDS;
+use layout::STORE_TAPE;
 use layout::Walk;
 use meaning::State;
+use meaning::numbers::BAD_STORE;
 use meaning::numbers::ILL_FORMED;
 
 // What a run with nothing kept answers: the number, the position of the refused field if there is one, else 0, the state, and the steps made.
@@ -25,6 +34,13 @@ pub struct FreshDone {
     pub position: usize,
     pub state: State,
     pub made: u16,
+}
+
+// What is asked: the state to run from, the steps at most, and whether a store is lent.
+struct Asked {
+    state: State,
+    steps: u16,
+    lent: bool,
 }
 
 // A refusal: the number and the position, the state as it was handed in, and no step made.
@@ -39,19 +55,50 @@ fn no_run(number: u8, position: usize, state: State) -> FreshDone
     }
 }
 
-// What is left to refuse once the image is accepted, and the run.
-fn run_for(plan: Plan, tape: &mut [u16], state: State, asked: u16, events: &mut [u32]) -> FreshDone
-    requires { ⌜ Planned plan (now tape) ⌝ }
-    ensures { λ r. ⌜ FreshMet r (Got (modelOn plan (now (tape .entry))) 0) state asked (now (events .entry)) (now (events .exit)) ⌝ }
+// Lays out the chains of the facts, and runs from a state in words with its clock.
+fn set_out(
+    state: &mut [u16],
+    clock: u32,
+    plan: Plan,
+    tape: &mut [u16],
+    steps: u16,
+    events: &mut [u32],
+) -> Went
+    requires { ⌜ Planned plan (now tape) × (80 ≤ length (now state)) ⌝ }
+    ensures { λ r. ⌜ ((m : Model) (store : Option (List Chunk)) → Knows plan (now (tape .entry)) m store
+        → WentMet r m store (now (state .entry)) (now (state .exit)) clock steps (now (events .entry)) (now (events .exit)) (now (tape .exit))) ⌝ }
+    ensures planned { λ r. ⌜ Planned (r .plan) (now (tape .exit)) ⌝ }
 {
+    step_chains::lay_chains(plan, tape);
+    fresh_run::advance(state, clock, plan, tape, steps, events)
+}
+
+// What is left to refuse once the image is accepted, and the run.
+fn run_for(
+    plan: Plan,
+    tape: &mut [u16],
+    asked: Asked,
+    events: &mut [u32],
+    store: &mut [u16],
+) -> FreshDone
+    requires { ⌜ Planned plan (now tape) × (plan .places ≡ placesFor (plan .facts) (plan .learns)) × (plan .learns ≡ asked .lent) ⌝ }
+    ensures { λ r. ⌜ FreshMet r (Got (modelOn plan (now (tape .entry))) 0) (asked .state) (asked .steps) (now (events .entry)) (now (events .exit))
+        (asked .lent) (now (store .entry)) (now (store .exit)) ⌝ }
+{
+    let state = asked.state;
     let mut now = [0u16; STATE_WORDS];
     layout_state::lay_state(state, &mut now);
     let end = plan.declared as usize + 1;
     if !layout_state::well_formed(&now, &tape[..end], plan.buffers as usize) {
         return no_run(ILL_FORMED, 0, state);
     }
-    step_chains::lay_chains(plan, tape);
-    let went = fresh_run::advance(&mut now, state.clock, plan, tape, asked, events);
+    let taken = call_store::take_in(store, plan, tape);
+    if !taken.fits {
+        return no_run(BAD_STORE, 0, state);
+    }
+    let known = taken.plan;
+    let went = set_out(&mut now, state.clock, known, tape, asked.steps, events);
+    call_store::give_back(store, plan, went.plan, tape);
     let after = layout_state::read_state(&now, went.clock);
     FreshDone {
         number: went.number,
@@ -65,81 +112,124 @@ fn run_for(plan: Plan, tape: &mut [u16], state: State, asked: u16, events: &mut 
 fn run_on(
     image: &[u8],
     begun: PlanRead,
-    state: State,
-    steps: u16,
+    asked: Asked,
     events: &mut [u32],
+    store: &mut [u16],
     tape: &mut [u16],
 ) -> FreshDone
-    requires { ⌜ Begun begun (now image) × (begun .plan .end ≤ length (now tape)) ⌝ }
-    ensures { λ r. ⌜ FreshMet r (decode (now (image .entry))) state steps (now (events .entry)) (now (events .exit)) ⌝ }
+    requires { ⌜ Begun begun (now image) × Learning begun (asked .lent) × (begun .plan .end ≤ length (now tape)) ⌝ }
+    ensures { λ r. ⌜ FreshMet r (decode (now (image .entry))) (asked .state) (asked .steps) (now (events .entry)) (now (events .exit)) (asked .lent) (now (store .entry)) (now (store .exit)) ⌝ }
 {
     let walk = read_image::lay_out(image, begun, tape);
+    let state = asked.state;
     if let Walk::Bad(number, at) = walk {
         return no_run(number, at, state);
     }
     let plan = begun.plan;
-    run_for(plan, tape, state, steps, events)
+    run_for(plan, tape, asked, events, store)
 }
 
 // Running on the small tape. Each way is a function, so that the stack holds one tape at a time.
 fn run_small(
     image: &[u8],
     begun: PlanRead,
-    state: State,
-    steps: u16,
+    asked: Asked,
     events: &mut [u32],
+    store: &mut [u16],
 ) -> FreshDone
-    requires { ⌜ Begun begun (now image) × (begun .plan .end ≤ 3904) ⌝ }
-    ensures { λ r. ⌜ FreshMet r (decode (now (image .entry))) state steps (now (events .entry)) (now (events .exit)) ⌝ }
+    requires { ⌜ Begun begun (now image) × Learning begun (asked .lent) × (begun .plan .end ≤ 3904) ⌝ }
+    ensures { λ r. ⌜ FreshMet r (decode (now (image .entry))) (asked .state) (asked .steps) (now (events .entry)) (now (events .exit)) (asked .lent) (now (store .entry)) (now (store .exit)) ⌝ }
 {
     let mut tape = [0u16; SMALL_TAPE];
-    run_on(image, begun, state, steps, events, &mut tape)
+    run_on(image, begun, asked, events, store, &mut tape)
+}
+
+// Running on the tape for a store.
+fn run_stored(
+    image: &[u8],
+    begun: PlanRead,
+    asked: Asked,
+    events: &mut [u32],
+    store: &mut [u16],
+) -> FreshDone
+    requires { ⌜ Begun begun (now image) × Learning begun (asked .lent) × (begun .plan .end ≤ 6976) ⌝ }
+    ensures { λ r. ⌜ FreshMet r (decode (now (image .entry))) (asked .state) (asked .steps) (now (events .entry)) (now (events .exit)) (asked .lent) (now (store .entry)) (now (store .exit)) ⌝ }
+{
+    let mut tape = [0u16; STORE_TAPE];
+    run_on(image, begun, asked, events, store, &mut tape)
 }
 
 // Running on the middle tape.
 fn run_middle(
     image: &[u8],
     begun: PlanRead,
-    state: State,
-    steps: u16,
+    asked: Asked,
     events: &mut [u32],
+    store: &mut [u16],
 ) -> FreshDone
-    requires { ⌜ Begun begun (now image) × (begun .plan .end ≤ 13312) ⌝ }
-    ensures { λ r. ⌜ FreshMet r (decode (now (image .entry))) state steps (now (events .entry)) (now (events .exit)) ⌝ }
+    requires { ⌜ Begun begun (now image) × Learning begun (asked .lent) × (begun .plan .end ≤ 16384) ⌝ }
+    ensures { λ r. ⌜ FreshMet r (decode (now (image .entry))) (asked .state) (asked .steps) (now (events .entry)) (now (events .exit)) (asked .lent) (now (store .entry)) (now (store .exit)) ⌝ }
 {
     let mut tape = [0u16; MIDDLE_TAPE];
-    run_on(image, begun, state, steps, events, &mut tape)
+    run_on(image, begun, asked, events, store, &mut tape)
 }
 
-// Running on the large tape, which has room for every image.
+// Running on the large tape, which has room for every image and a store.
 fn run_large(
     image: &[u8],
     begun: PlanRead,
+    asked: Asked,
+    events: &mut [u32],
+    store: &mut [u16],
+) -> FreshDone
+    requires { ⌜ Begun begun (now image) × Learning begun (asked .lent) ⌝ }
+    ensures { λ r. ⌜ FreshMet r (decode (now (image .entry))) (asked .state) (asked .steps) (now (events .entry)) (now (events .exit)) (asked .lent) (now (store .entry)) (now (store .exit)) ⌝ }
+{
+    let mut tape = [0u16; LARGE_TAPE];
+    run_on(image, begun, asked, events, store, &mut tape)
+}
+
+// Runs at most `steps` steps from a state with nothing kept, and with what `lent` says is lent (1: a store): the number, the position of a refused field, the state and the steps made.
+// Every rule is matched afresh at each step, and each step is noted in three lent words, as long as there is room: the clock after it, 0 and the rule that fired or 1 and the ms waited.
+// What is learned joins the store; where it is not lent its words are neither read nor written.
+pub fn fresh_lent(
+    image: &[u8],
     state: State,
     steps: u16,
     events: &mut [u32],
+    lent: u16,
+    store: &mut [u16],
 ) -> FreshDone
-    requires { ⌜ Begun begun (now image) ⌝ }
-    ensures { λ r. ⌜ FreshMet r (decode (now (image .entry))) state steps (now (events .entry)) (now (events .exit)) ⌝ }
+    ensures { λ r. ⌜ (withStore r (now (store .exit)) ≡ freshLent (now (image .entry)) state steps lent (now (store .entry)))
+        × (now (events .exit) ≡ inscribed (now (events .entry)) 0 (freshTraceLent (now (image .entry)) state steps (lentBy lent (now (store .entry))) .events)) ⌝ }
 {
-    let mut tape = [0u16; LARGE_TAPE];
-    run_on(image, begun, state, steps, events, &mut tape)
+    let learns = lent % 2 == 1;
+    let begun = read_image::begin(image, learns);
+    let plan = begun.plan;
+    let asked = Asked {
+        state: state,
+        steps: steps,
+        lent: learns,
+    };
+    if plan.end <= SMALL_TAPE {
+        return run_small(image, begun, asked, events, store);
+    }
+    if plan.end <= STORE_TAPE {
+        return run_stored(image, begun, asked, events, store);
+    }
+    if plan.end <= MIDDLE_TAPE {
+        return run_middle(image, begun, asked, events, store);
+    }
+    run_large(image, begun, asked, events, store)
 }
 
-// Runs as `run_fresh` does, and notes each step in three lent words, as long as there is room: the clock after it, 0 and the rule that fired or 1 and the ms waited.
+// Runs with nothing lent, and notes each step as `fresh_lent` does.
 pub fn trace_fresh(image: &[u8], state: State, steps: u16, events: &mut [u32]) -> FreshDone
     ensures { λ r. ⌜ (freshBack r ≡ freshOf (now (image .entry)) state steps)
         × (now (events .exit) ≡ inscribed (now (events .entry)) 0 (freshTraceOf (now (image .entry)) state steps .events)) ⌝ }
 {
-    let begun = read_image::begin(image);
-    let plan = begun.plan;
-    if plan.end <= SMALL_TAPE {
-        return run_small(image, begun, state, steps, events);
-    }
-    if plan.end <= MIDDLE_TAPE {
-        return run_middle(image, begun, state, steps, events);
-    }
-    run_large(image, begun, state, steps, events)
+    let mut no_store = [0u16; 1];
+    fresh_lent(image, state, steps, events, 0, &mut no_store)
 }
 
 // Runs at most `steps` steps from a state, with every rule matched afresh at each step: the number, the position of a refused field, the state and the steps made.

@@ -3,6 +3,7 @@ use Prim.Native.Nat.{ℕ, _≤_}
 use mathlib.Core.Path.{_≡_, refl, ap, _∙_}
 use mathlib.Core.Bool.{Bool, true, false}
 use mathlib.Core.List.{List, []}
+use mathlib.Core.Option.{Option, none}
 use Rattle.meaning.specs.declared.State.{State}
 use Rattle.meaning.specs.Base.{if_then_else_}
 use Rattle.meaning.specs.Model.{Model}
@@ -10,7 +11,7 @@ use Rattle.meaning.specs.Read.{Read, Refused, Got}
 use Rattle.meaning.specs.Image.{decode}
 use Rattle.meaning.specs.Run.{Run, ends}
 use Rattle.meaning.specs.Calls.{placeOf}
-use Rattle.meaning.specs.Fresh.{FreshRan, freshBy, freshRanBy, freshTraceOf, freshOf}
+use Rattle.meaning.specs.Fresh.{Moving, moving, FreshRan, freshBy, freshRanBy, freshTraceLent, freshTraceOf, freshOf}
 use Rattle.step_note.specs.Events.{inscribed}
 use Rattle.laws.specs.CallsLaws.{fresh-place}
 use Rattle.jirvuntsag.specs.Words.{stateOf, wordsOf, fits, unfitState, givenBy}
@@ -19,9 +20,9 @@ use Rattle.jirvuntsag.specs.Fresh.{freshTold, toldFresh, freshIn, freshE
 use Rattle.jirvuntsag.proofs.ToldLaws.{unfit}
 
 -- what the call answers on the unfit state
-unfit-fresh : (k : ℕ) (r : Read Model) → freshBy unfitState k r ≡ ends (unfitBy r) unfitState
-unfit-fresh k (Refused n at) = refl
-unfit-fresh k (Got m at) = rw (unfit m)
+pub unfit-fresh : (lent : Option (List ℕ)) (k : ℕ) (r : Read Model) → freshBy unfitState lent k r ≡ ends (unfitBy r) (moving unfitState none)
+unfit-fresh lent k (Refused n at) = refl
+unfit-fresh lent k (Got m at) = rw (unfit m)
 
 -- the position is small enough for its place in the answer
 pub fresh-near : (image : List ℕ) (s : State) (k : ℕ) (r : FreshRan) → r ≡ freshOf image s k → r .position ≤ 524288
@@ -31,9 +32,9 @@ module _ (image w : List ℕ) (k : ℕ) where
   fresh-by : (b : Bool) (r : FreshRan) → r ≡ freshOf image (if b then stateOf w else unfitState) k
       → freshTold (answer (r .number) (r .made) (r .position)) (if b then wordsOf (r .state) else w)
       ≡ (if b then toldFresh (freshOf image (stateOf w) k) else freshTold (unfitAnswer (decode image)) w)
-  unfolding freshOf freshTraceOf
+  unfolding freshOf freshTraceLent
   fresh-by true r e = ap toldFresh e
-  fresh-by false r e = ap (λ (r : FreshRan). freshTold (answer (r .number) (r .made) (r .position)) w) (e ∙ ap (freshRanBy (placeOf (decode image))) (unfit-fresh k (decode image)))
+  fresh-by false r e = ap (λ (r : FreshRan). freshTold (answer (r .number) (r .made) (r .position)) w) (e ∙ ap (freshRanBy (placeOf (decode image))) (unfit-fresh none k (decode image)))
 
   pub fresh-told : (b : Bool) (s : State) (r : FreshRan) (a : ℕ) (w′ : List ℕ) → b ≡ fits w → s ≡ givenBy w → r ≡ freshOf image s k
       → w′ ≡ (if b then wordsOf (r .state) else w) → a ≡ answer (r .number) (r .made) (r .position) → freshTold a w′ ≡ freshIn image w k
@@ -41,9 +42,9 @@ module _ (image w : List ℕ) (k : ℕ) where
   fresh-told b s r a w′ f g e l n = rw (n, l, f) (fresh-by (fits w) r (e ∙ ap (λ (s : State). freshOf image s k) g))
 
   events-by : (b : Bool) → freshTraceOf image (if b then stateOf w else unfitState) k .events ≡ (if b then freshTraceOf image (stateOf w) k .events else [])
-  unfolding freshTraceOf
+  unfolding freshTraceLent
   events-by true = refl
-  events-by false = ap (λ (r : Run State). r .events) (unfit-fresh k (decode image))
+  events-by false = ap (λ (r : Run Moving). r .events) (unfit-fresh none k (decode image))
 
   pub fresh-events-told : (s : State) (lent lent′ : List ℕ) → s ≡ givenBy w → lent′ ≡ inscribed lent 0 (freshTraceOf image s k .events)
       → lent′ ≡ inscribed lent 0 (freshEventsIn image w k)

@@ -2,3 +2,4 @@
 pub mod WordLaws
 pub mod ToldLaws
 pub mod FreshLaws
+pub mod LentLaws

@@ -3,6 +3,7 @@ use Prim.Native.Nat.{ℕ, _≤_}
 use mathlib.Core.Path.{_≡_, refl, ap, _∙_}
 use mathlib.Core.Bool.{Bool, true, false, _&&_}
 use mathlib.Core.List.{List, []}
+use mathlib.Core.Option.{Option, none}
 use lib.Dec.{ltb}
 use lib.ListN.{length}
 use Rattle.meaning.specs.declared.State.{State}
@@ -11,7 +12,7 @@ use Rattle.meaning.specs.Model.{Model}
 use Rattle.meaning.specs.State.{wellFormed}
 use Rattle.meaning.specs.Read.{Read, Refused, Got}
 use Rattle.meaning.specs.Run.{Going, going, Run, ends}
-use Rattle.meaning.specs.Calls.{accepted, placeOf, Needed, neededOf, Opened, openOf, Ran, tracedBy, traceOf, ranBy, runOf, Refreshed, refreshOf, refreshedBy}
+use Rattle.meaning.specs.Calls.{accepted, placeOf, Needed, neededOf, Opened, openOf, Ran, tracedBy, traceLent, traceOf, ranBy, runOf, Refreshed, refreshOf, refreshedBy}
 use Rattle.step_note.specs.Events.{inscribed}
 use Rattle.laws.specs.CallsLaws.{needed-place, open-place, run-place, refresh-place}
 use Rattle.jirvuntsag.specs.Words.{stateOf, wordsOf, fits, unfitState, givenBy}
@@ -46,9 +47,9 @@ module _ (image : List ℕ) where
 -- ---- what the calls answer on the unfit state
 
 module _ (table : List ℕ) (k : ℕ) where
-  unfit-ran : (r : Read Model) → tracedBy (going unfitState table) k r ≡ ends (unfitBy r) (going unfitState table)
-  unfit-ran (Refused n at) = refl
-  unfit-ran (Got m at) = rw (unfit m)
+  pub unfit-ran : (lent : Option (List ℕ)) (r : Read Model) → tracedBy unfitState table lent k r ≡ ends (unfitBy r) (going unfitState table none)
+  unfit-ran lent (Refused n at) = refl
+  unfit-ran lent (Got m at) = rw (unfit m)
 
   unfit-refreshed : (r : Read Model) → refreshedBy unfitState k table r ≡ refreshedNone (unfitBy r) (placeOf r) table
   unfit-refreshed (Refused n at) = refl
@@ -71,10 +72,10 @@ module _ (image w table : List ℕ) (k : ℕ) where
   run-by : (b : Bool) (r : Ran) → r ≡ runOf image (if b then stateOf w else unfitState) table k
       → told (answer (r .number) (r .made) (r .position)) (if b then wordsOf (r .state) else w) (r .table)
       ≡ (if b then toldRun (runOf image (stateOf w) table k) else told (unfitAnswer (accepted image table)) w table)
-  unfolding runOf traceOf
+  unfolding runOf traceLent
   run-by true r e = ap toldRun e
   run-by false r e =
-      ap (λ (r : Ran). told (answer (r .number) (r .made) (r .position)) w (r .table)) (e ∙ ap (ranBy (placeOf (accepted image table))) (unfit-ran table k (accepted image table)))
+      ap (λ (r : Ran). told (answer (r .number) (r .made) (r .position)) w (r .table)) (e ∙ ap (ranBy (placeOf (accepted image table))) (unfit-ran table k none (accepted image table)))
 
   pub run-told : (b : Bool) (s : State) (r : Ran) (a : ℕ) (w′ : List ℕ) → b ≡ fits w → s ≡ givenBy w → r ≡ runOf image s table k
       → w′ ≡ (if b then wordsOf (r .state) else w) → a ≡ answer (r .number) (r .made) (r .position) → told a w′ (r .table) ≡ runIn image w table k
@@ -83,9 +84,9 @@ module _ (image w table : List ℕ) (k : ℕ) where
       rw (n, l, f) (run-by (fits w) r (e ∙ ap (λ (s : State). runOf image s table k) g))
 
   events-by : (b : Bool) → traceOf image (if b then stateOf w else unfitState) table k .events ≡ (if b then traceOf image (stateOf w) table k .events else [])
-  unfolding traceOf
+  unfolding traceLent
   events-by true = refl
-  events-by false = ap (λ (r : Run Going). r .events) (unfit-ran table k (accepted image table))
+  events-by false = ap (λ (r : Run Going). r .events) (unfit-ran table k none (accepted image table))
 
   pub events-told : (s : State) (lent lent′ : List ℕ) → s ≡ givenBy w → lent′ ≡ inscribed lent 0 (traceOf image s table k .events)
       → lent′ ≡ inscribed lent 0 (eventsIn image w table k)

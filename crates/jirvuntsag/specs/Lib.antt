@@ -4,3 +4,4 @@ pub mod Told
 pub mod Once
 pub mod Back
 pub mod Fresh
+pub mod Lent

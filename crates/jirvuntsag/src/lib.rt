@@ -11,6 +11,7 @@ ghost use Rattle.jirvuntsag.specs.Words.{wordsOf, fits, unfitState, give
 ghost use Rattle.jirvuntsag.specs.Told.{told, lengthIn, openIn, runIn, refreshIn, eventsIn};
 ghost use Rattle.jirvuntsag.specs.Told.{answer as Told·answer};
 ghost use Rattle.jirvuntsag.specs.Fresh.{freshTold, freshIn, freshEventsIn};
+ghost use Rattle.jirvuntsag.specs.Lent.{toldWith, runLentIn, lentEventsIn, freshLentIn, freshLentEventsIn};
 use layout::STATE_WORDS;
 use meaning::Buffer;
 use meaning::State;
@@ -172,6 +173,29 @@ pub extern "C" fn jirvuntsag_trace(
     answer(done.number, done.made, done.position)
 }
 
+// Runs as `jirvuntsag_trace` does, with what `lent` says is lent (1: a store): what is learned joins the store; where it is not lent its words are neither read nor written.
+#[no_mangle]
+pub extern "C" fn jirvuntsag_run_lent(
+    image: &[u8],
+    state: &mut [u32; 81],
+    table: &mut [u16],
+    steps: u16,
+    events: &mut [u32],
+    lent: u16,
+    store: &mut [u16],
+) -> u64
+    ensures { λ r. ⌜ (toldWith (told r (now (state .exit)) (now (table .exit))) (now (store .exit))
+        ≡ runLentIn (now (image .entry)) (now (state .entry)) (now (table .entry)) steps lent (now (store .entry)))
+        × (now (events .exit) ≡ inscribed (now (events .entry)) 0 (lentEventsIn (now (image .entry)) (now (state .entry)) (now (table .entry)) steps lent (now (store .entry)))) ⌝ }
+{
+    let before = given(state);
+    let from = before.state;
+    let done = calls::run_lent(image, from, table, steps, events, lent, store);
+    let after = done.state;
+    lay_back(before.fitting, after, state);
+    answer(done.number, done.made, done.position)
+}
+
 // Makes the entries of the rules that test a marked buffer afresh.
 #[no_mangle]
 pub extern "C" fn jirvuntsag_refresh(
@@ -215,6 +239,27 @@ pub extern "C" fn jirvuntsag_trace_fresh(
     let before = given(state);
     let from = before.state;
     let done = calls::trace_fresh(image, from, steps, events);
+    let after = done.state;
+    lay_back(before.fitting, after, state);
+    answer(done.number, done.made, done.position)
+}
+
+// Runs as `jirvuntsag_trace_fresh` does, with what `lent` says is lent (1: a store), as `jirvuntsag_run_lent` does.
+#[no_mangle]
+pub extern "C" fn jirvuntsag_run_fresh_lent(
+    image: &[u8],
+    state: &mut [u32; 81],
+    steps: u16,
+    events: &mut [u32],
+    lent: u16,
+    store: &mut [u16],
+) -> u64
+    ensures { λ r. ⌜ (toldWith (freshTold r (now (state .exit))) (now (store .exit)) ≡ freshLentIn (now (image .entry)) (now (state .entry)) steps lent (now (store .entry)))
+        × (now (events .exit) ≡ inscribed (now (events .entry)) 0 (freshLentEventsIn (now (image .entry)) (now (state .entry)) steps lent (now (store .entry)))) ⌝ }
+{
+    let before = given(state);
+    let from = before.state;
+    let done = calls::fresh_lent(image, from, steps, events, lent, store);
     let after = done.state;
     lay_back(before.fitting, after, state);
     answer(done.number, done.made, done.position)

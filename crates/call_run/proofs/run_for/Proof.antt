@@ -1,15 +1,25 @@
--- `call_run::run_for` meets its contract: the state is judged, and then the model that stands on the tape runs.
+-- `call_run::run_for` meets its contract: the state is judged, then the store that is lent, and then the model that stands on the tape runs.
 use Prim.Native.Nat.{ℕ, _≤_, _+_, _*_}
 use mathlib.Core.Path.{_≡_, refl, sym, ap, _∙_}
+use mathlib.Core.Bool.{true}
 use mathlib.Core.List.{List}
 use borrow.Author.Tests.{not-true, not-false}
 use native.Mathlib.Omega.{arith}
 use lib.ListN.{length, take}
 use lib.Seq.{length-take-le}
-use Rattle.layout.specs.Plans.{rowsOn, modelOn}
-use Rattle.laws.specs.PartLaws.{to-end}
-use Rattle.layout.proofs.PlanLaws.{Sections, sections}
-use Rattle.call_run.proofs.RunLaws.{run-ill, run-went}
+use Rattle.meaning.specs.Model.{Model}
+use Rattle.meaning.specs.Read.{Got}
+use Rattle.meaning.specs.Store.{storeFits}
+use Rattle.layout.specs.Rows.{factIn}
+use Rattle.layout.specs.Plans.{typesOn, modelOn}
+use Rattle.layout.proofs.PlanLaws.{sections}
+use Rattle.layout.proofs.RowLaws.{rows-length}
+use Rattle.step_run.specs.Went.{WentMet}
+use Rattle.call_store.specs.Lending.{lentIf}
+use Rattle.call_store.proofs.LendLaws.{backing, given-back}
+use Rattle.meaning.specs.Store.{storeOf}
+use lib.ListN.{drop}
+use Rattle.call_run.proofs.RunLaws.{lent-same, left-grows, left-known, run-ill, run-misfit, run-went}
 use borrow.Author.Needs.{needs}
 use Rattle.call_run.proofs.run_for.Statement.{statement}
 use Rattle.call_run.proofs.run_for.Tie as tie
@@ -17,7 +27,7 @@ use Rattle.call_run.proofs.run_for.Tie as tie
 -- ---- the places of the code, each named once
 
 abbrev start : tie.After-lay-state → tie.Start
-start c = c .before .before .before .before .before .before
+start c = c .before .before .before .before .before .before .before .before
 
 abbrev laid : tie.After-struct-known → tie.After-lay-state
 laid c = c .before .before
@@ -25,31 +35,34 @@ laid c = c .before .before
 abbrev argued : tie.After-well-formed → tie.After-struct-known
 argued c = c .before .before .before .before
 
-abbrev judged : tie.After-lay-aids → tie.After-well-formed
-judged c = c .before .before .before
+abbrev judged : tie.After-take-in → tie.After-well-formed
+judged c = c .before .before .before .before
 
-abbrev begun : tie.After-lay-aids → tie.Start
+abbrev begun : tie.After-take-in → tie.Start
 begun c = start (laid (argued (judged c)))
 
-abbrev aided : tie.After-lay-rest-arg → tie.After-lay-aids
-aided c = c .before .before .before
+abbrev taken : tie.Else2 → tie.After-take-in
+taken c = c .before .before .before .before
 
-abbrev rested : tie.After-lay-rest → tie.After-lay-rest-arg
-rested c = c .before .before .before .before .before .before
+abbrev known : tie.After-set-out → tie.Else2
+known c = c .before .before .before .before .before .before .before
 
-abbrev gone : tie.After-advance-arg4 → tie.After-lay-rest
-gone c = c .before .before .before .before .before .before .before
+abbrev gone : tie.After-give-back → tie.After-set-out
+gone c = c .before .before .before .before .before .before .before .before .before .before .before .before
 
-abbrev went : tie.After-read-state → tie.After-advance
-went c = c .before .before .before .before .before .before .before .before .before
+abbrev back : tie.After-read-state → tie.After-give-back
+back c = c .before .before .before .before
 
--- ---- the state in words, and the tape with all that a run lays out
+-- ---- the state in words, the tape with the store's facts, and the model
 
 abbrev words : tie.After-lay-state → List ℕ
 words c = c .lay-state .last .1 .0
 
-abbrev tape : tie.After-lay-aids → List ℕ
-tape c = c .lay-aids .last .1 .0
+abbrev tape : tie.After-take-in → List ℕ
+tape c = c .take-in .last .1 .1 .0
+
+abbrev model : tie.Start → Model
+model c = modelOn (c .args .plan) (c .args .tape .now)
 
 -- as many types as are declared, and type 0
 declared : (c : tie.Start) → c .args .plan .declared + 1 ≤ length (c .args .tape .now)
@@ -58,13 +71,24 @@ declared c = let d = c .pre .0 .most-declared in omega (arith, sections (c .pre 
 eighty : (c : tie.After-lay-state) → 80 ≤ length (words c)
 eighty c = search needs
 
--- where the sections of the tape stand
-sections-of : (c : tie.After-lay-aids) → Sections (begun c .args .plan) (tape c)
-sections-of c = sections (c .lay-aids .ensures .planned)
+-- as many facts as the plan says
+own : (c : tie.Start) → length (model c .facts) ≡ c .args .plan .facts
+unfolding modelOn
+own c = rows-length (λ k. factIn (drop 144 (c .args .tape .now)) (11 * k)) 0 (c .args .plan .facts)
 
--- a place on the tape fits the machine's words, in bytes too
-within : (c : tie.After-slice-known5) → 2 * length (tape (c .before .before)) ≤ 18446744073709551615
-within c = omega arith
+-- the store fits
+fits : (c : tie.Else2) → let a = begun (taken c) .args in storeFits (model (begun (taken c)) .types) (lentIf (a .plan .learns) (a .store .now)) ≡ true
+unfolding modelOn
+fits c = sym (taken c .take-in .ensures .judged) ∙ not-false _ (c .if2 .left)
+
+-- the run that was made
+went : (c : tie.After-set-out) → let t = taken (known c) in let a = begun t .args in
+    WentMet (c .set-out .result) (model (begun t)) (storeOf (lentIf (a .plan .learns) (a .store .now))) (words (laid (argued (judged t)))) (c .set-out .last .0) (a .asked .state .clock)
+    (a .table .now) (c .set-out .last .1 .1 .0) (a .asked .steps) (a .events .now) (c .set-out .last .1 .1 .1 .1 .1 .1 .0) (c .set-out .last .1 .1 .1 .1 .0)
+went c =
+    let k = known c in
+    let t = taken k in
+    c .set-out .ensures .0 (model (begun t)) _ (t .take-in .ensures .knows (not-false _ (k .if2 .left)))
 
 -- ---- what is asked
 
@@ -109,58 +133,53 @@ returns c =
     let j = c .before .before in
     let l = laid (argued j) in
     let a = start l .args in
-    run-ill (a .state) (a .table .now) (a .asked) (modelOn (a .plan) (a .tape .now)) _ (a .plan .buffers) (words l) (j .well-formed .result) (j .well-formed .ensures) (l .lay-state .ensures) refl refl
-    (not-true _ (c .before .if1 .taken)) (c .no-run .result) (c .no-run .ensures) (a .events .now)
+    run-ill (a .asked .state) (a .table .now) (a .asked .steps) (model (start l)) _ (a .plan .buffers) (words l) (j .well-formed .result) (j .well-formed .ensures) (l .lay-state .ensures) refl refl
+    (a .asked .lent) (a .store .now) (not-true _ (c .before .if1 .taken)) (c .no-run .result) (c .no-run .ensures) (a .events .now)
 
-lay-aids-requires : tie.Need-lay-aids-requires
-lay-aids-requires c κs = search needs
+take-in-requires : tie.Need-take-in-requires
+take-in-requires c κs = let s = start (laid (argued (c .before .before .before))) in (s .pre .0, s .pre .4)
 
-mul-lay-rest : tie.Need-mul-lay-rest
-mul-lay-rest c = omega (arith, within (c .before), sections-of (aided c) .order-end)
+no-run-requires-2 : tie.Need-no-run-requires-2
+no-run-requires-2 c κs = search needs
 
-sub-lay-rest : tie.Need-sub-lay-rest
-sub-lay-rest c = let s = sections-of (aided c) in search needs
+same-length-2 : tie.Need-same-length-2
+same-length-2 c = search needs
 
-part-lay-rest-start : tie.Need-part-lay-rest-start
-part-lay-rest-start c = let s = sections-of (aided (c .before)) in search needs
+same-length-3 : tie.Need-same-length-3
+same-length-3 c = search needs
 
-part-lay-rest-end : tie.Need-part-lay-rest-end
-part-lay-rest-end c = search needs
+returns-2 : tie.Need-returns-2
+unfolding modelOn
+returns-2 c =
+    let t = c .before .before .before .before .before in
+    let j = judged t in
+    let l = laid (argued j) in
+    let s = start l in
+    let a = s .args in
+    let misfit = rw (s .pre .5) at (sym (t .take-in .ensures .judged) ∙ not-true _ (c .before .if2 .taken)) in
+    run-misfit (a .asked .state) (a .table .now) (a .asked .steps) (model s) _ (a .plan .buffers) (words l) (j .well-formed .result) (j .well-formed .ensures) (l .lay-state .ensures) refl refl
+    (a .asked .lent) (a .store .now) (not-false _ (t .before .before .before .if1 .left)) misfit (c .no-run2 .result) (c .no-run2 .ensures) (a .events .now)
 
-mul-lay-rest-2 : tie.Need-mul-lay-rest-2
-mul-lay-rest-2 c = let r = c .before .before in omega (arith, within (r .before), sections-of (aided r) .heads-end)
+slice-aggregate-set-out : tie.Need-slice-aggregate-set-out
+slice-aggregate-set-out c = search needs
 
-sub-lay-rest-2 : tie.Need-sub-lay-rest-2
-sub-lay-rest-2 c = let s = sections-of (aided (c .before .before)) in search needs
+set-out-requires : tie.Need-set-out-requires
+set-out-requires c κs =
+    let k = c .before .before .before .before .before .before in
+    let t = taken k in
+    let s = begun t in
+    let ok = not-false _ (k .if2 .left) in
+    let rules = t .take-in .ensures .rules ok in
+    (t .take-in .ensures .planned ok, rw rules (s .pre .1), eighty (laid (argued (judged t))), rw rules (s .pre .2), s .pre .3)
 
-part-lay-rest-start-2 : tie.Need-part-lay-rest-start-2
-part-lay-rest-start-2 c = let s = sections-of (aided (c .before .before)) in search needs
-
-part-lay-rest-end-2 : tie.Need-part-lay-rest-end-2
-part-lay-rest-end-2 c = search needs
-
-cast-lay-rest : tie.Need-cast-lay-rest
-cast-lay-rest c = search needs
-
-lay-rest-requires : tie.Need-lay-rest-requires
-lay-rest-requires c κs =
-    let d = aided (c .before .before .before .before .before) in
-    let s = begun d in
-    let met = d .lay-aids .ensures in
-    let long : 9 * s .args .plan .rules ≤ length (s .args .table .now) = omega (arith, s .pre .1) in
-    simp to-end (s .pre .2, met .aided .order, met .planned .laid .heads-room, long, s .pre .3)
-
-slice-aggregate-advance : tie.Need-slice-aggregate-advance
-slice-aggregate-advance c = search needs
-
-advance-requires : tie.Need-advance-requires
-advance-requires c κs =
-    let r = gone c in
-    let d = aided (rested r) in
-    let met = d .lay-aids .ensures in
-    let p = begun d .args .plan in
-    let rests = r .lay-rest .ensures (rowsOn p (tape d)) (words (laid (argued (judged d)))) in
-    (met .planned, begun d .pre .1, eighty (laid (argued (judged d))), met .aided, simp to-end at rests)
+give-back-requires : tie.Need-give-back-requires
+give-back-requires c κs =
+    let o = c .before .before .before .before .before .before .before .before .before .before .before in
+    let s = begun (taken (known o)) in
+    let a = s .args in
+    let met = went o in
+    let planned = o .set-out .ensures .1 in
+    (planned, backing (a .plan) (o .set-out .result .plan) _ (a .store .now) (model s) planned (own s) (fits (known o)) _ (left-known _ (model s) _ _ _ _ _ _ _ _ _ _ met))
 
 slice-aggregate-read-state : tie.Need-slice-aggregate-read-state
 slice-aggregate-read-state c = search needs
@@ -168,30 +187,39 @@ slice-aggregate-read-state c = search needs
 read-state-requires : tie.Need-read-state-requires
 read-state-requires c κs = search needs
 
-same-length-2 : tie.Need-same-length-2
-same-length-2 c = search needs
-
-same-length-3 : tie.Need-same-length-3
-same-length-3 c = aided (rested (gone (went c .before))) .lay-aids .kept .1 .0
-
 same-length-4 : tie.Need-same-length-4
 same-length-4 c = search needs
 
 same-length-5 : tie.Need-same-length-5
 same-length-5 c = search needs
 
-returns-2 : tie.Need-returns-2
+same-length-6 : tie.Need-same-length-6
+same-length-6 c = search needs
+
+same-length-7 : tie.Need-same-length-7
+same-length-7 c = search needs
+
+same-length-8 : tie.Need-same-length-8
+same-length-8 c = search needs
+
+returns-3 : tie.Need-returns-3
 unfolding modelOn
-returns-2 c =
-    let v = went c in
-    let d = aided (rested (gone (v .before))) in
-    let j = judged d in
+returns-3 c =
+    let b = back c in
+    let o = gone b in
+    let k = known o in
+    let t = taken k in
+    let j = judged t in
     let l = laid (argued j) in
-    let a = start l .args in
-    let m = modelOn (a .plan) (a .tape .now) in
-    let ran = rw (d .lay-aids .ensures .same) at (v .advance .ensures) in
-    run-went (a .state) (a .table .now) (a .asked) m _ (a .plan .buffers) (words l) (j .well-formed .result) (j .well-formed .ensures) (l .lay-state .ensures) refl refl
-    (not-false _ (d .before .before .if1 .left)) (v .advance .result) (c .read-state .result) (v .advance .last .0) _ (a .events .now) _ (c .read-state .ensures) ran
+    let s = start l in
+    let a = s .args in
+    let met = went o in
+    let planned = o .set-out .ensures .1 in
+    let left = given-back (a .plan) (o .set-out .result .plan) _ (a .store .now) (model s) planned (own s) (fits k) _ (left-known _ (model s) _ _ _ _ _ _ _ _ _ _ met) in
+    let ran = run-went (a .asked .state) (a .table .now) (a .asked .steps) (model s) _ (a .plan .buffers) (words l) (j .well-formed .result) (j .well-formed .ensures) (l .lay-state .ensures) refl refl
+    (a .plan .learns) (a .store .now) (not-false _ (t .before .before .before .if1 .left)) (fits k) (o .set-out .result) (c .read-state .result) (o .set-out .last .0) _ (a .events .now) _ _ _
+    (c .read-state .ensures) met (b .give-back .ensures ∙ left) in
+    lent-same _ (Got (model s) 0) (a .asked .state) (a .table .now) _ (a .asked .steps) (a .events .now) _ (a .store .now) _ (a .plan .learns) (a .asked .lent) (s .pre .5) ran
 
 pub run-for-spec : {M : Type 1} → statement M
 run-for-spec =
@@ -209,23 +237,19 @@ run-for-spec =
     no-run-requires
     same-length
     returns
-    lay-aids-requires
-    mul-lay-rest
-    sub-lay-rest
-    part-lay-rest-start
-    part-lay-rest-end
-    mul-lay-rest-2
-    sub-lay-rest-2
-    part-lay-rest-start-2
-    part-lay-rest-end-2
-    cast-lay-rest
-    lay-rest-requires
-    slice-aggregate-advance
-    advance-requires
-    slice-aggregate-read-state
-    read-state-requires
+    take-in-requires
+    no-run-requires-2
     same-length-2
     same-length-3
+    returns-2
+    slice-aggregate-set-out
+    set-out-requires
+    give-back-requires
+    slice-aggregate-read-state
+    read-state-requires
     same-length-4
     same-length-5
-    returns-2)
+    same-length-6
+    same-length-7
+    same-length-8
+    returns-3)

@@ -1,11 +1,11 @@
--- `call_run::run_large` meets its contract: the large tape has room for any image, and the large sets for its rules.
+-- `call_run::run_large` meets its contract: the large tape has room for any image and a store, and the large sets for its rules.
 use Rattle.match_beds.proofs.LayLaws.{no-bit, roomy-large}
 use borrow.Author.Needs.{needs}
 use Rattle.call_run.proofs.run_large.Statement.{statement}
 use Rattle.call_run.proofs.run_large.Tie as tie
 
 abbrev start : tie.After-sets → tie.Start
-start c = c .before .before .before .before .before .before .before
+start c = c .before .before .before .before .before .before .before .before .before
 
 -- ---- what is asked
 
@@ -16,13 +16,16 @@ slice-aggregate-run-on-2 : tie.Need-slice-aggregate-run-on-2
 slice-aggregate-run-on-2 c = search needs
 
 run-on-requires : tie.Need-run-on-requires
-run-on-requires c κs = let b = start c .pre in (b, search needs, roomy-large _ (b .few-rules), no-bit 1076)
+run-on-requires c κs = let pre = start c .pre in (pre .0, pre .1, search needs, roomy-large _ (pre .0 .few-rules), no-bit 1076)
 
 same-length : tie.Need-same-length
 same-length c = search needs
 
 same-length-2 : tie.Need-same-length-2
 same-length-2 c = search needs
+
+same-length-3 : tie.Need-same-length-3
+same-length-3 c = search needs
 
 returns : tie.Need-returns
 returns c = search needs
@@ -36,4 +39,5 @@ run-large-spec =
     run-on-requires
     same-length
     same-length-2
+    same-length-3
     returns)

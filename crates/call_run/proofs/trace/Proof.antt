@@ -1,16 +1,14 @@
--- `call_run::trace` meets its contract: on each tape, the run that is asked for.
-use Rattle.call_run.proofs.RunLaws.{as-asked}
+-- `call_run::trace` meets its contract: the run with nothing lent.
+use Rattle.call_run.proofs.RunLaws.{as-asked-alone}
 use borrow.Author.Needs.{needs}
 use Rattle.call_run.proofs.trace.Statement.{statement}
 use Rattle.call_run.proofs.trace.Tie as tie
 
--- ---- what is asked
+slice-aggregate-run-lent : tie.Need-slice-aggregate-run-lent
+slice-aggregate-run-lent c = search needs
 
-begin-requires : tie.Need-begin-requires
-begin-requires c κs = search needs
-
-run-small-requires : tie.Need-run-small-requires
-run-small-requires c κs = search needs
+run-lent-requires : tie.Need-run-lent-requires
+run-lent-requires c κs = search needs
 
 same-length : tie.Need-same-length
 same-length c = search needs
@@ -19,46 +17,9 @@ same-length-2 : tie.Need-same-length-2
 same-length-2 c = search needs
 
 returns : tie.Need-returns
-returns c = as-asked _ _ _ _ _ _ _ _ (c .before .before .before .before .run-small .ensures)
-
-run-middle-requires : tie.Need-run-middle-requires
-run-middle-requires c κs = search needs
-
-same-length-3 : tie.Need-same-length-3
-same-length-3 c = search needs
-
-same-length-4 : tie.Need-same-length-4
-same-length-4 c = search needs
-
-returns-2 : tie.Need-returns-2
-returns-2 c = as-asked _ _ _ _ _ _ _ _ (c .before .before .before .before .run-middle .ensures)
-
-run-large-requires : tie.Need-run-large-requires
-run-large-requires c κs = search needs
-
-same-length-5 : tie.Need-same-length-5
-same-length-5 c = search needs
-
-same-length-6 : tie.Need-same-length-6
-same-length-6 c = search needs
-
-returns-3 : tie.Need-returns-3
-returns-3 c = as-asked _ _ _ _ _ _ _ _ (c .before .before .before .before .run-large .ensures)
+returns c = as-asked-alone _ _ _ _ _ _ _ _ _ _ (c .before .before .before .before .before .run-lent .ensures)
 
 pub trace-spec : {M : Type 1} → statement M
 trace-spec =
     tie.close
-    (tie.spec
-    begin-requires
-    run-small-requires
-    same-length
-    same-length-2
-    returns
-    run-middle-requires
-    same-length-3
-    same-length-4
-    returns-2
-    run-large-requires
-    same-length-5
-    same-length-6
-    returns-3)
+    (tie.spec slice-aggregate-run-lent run-lent-requires same-length same-length-2 returns)

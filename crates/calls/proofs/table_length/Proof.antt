@@ -38,7 +38,7 @@ enum-told : tie.Need-enum-told
 enum-told c = search needs
 
 mul-words : tie.Need-mul-words
-mul-words c = omega (arith, begun (checked (c .before)) .begin .ensures .few-rules)
+mul-words c = omega (arith, begun (checked (c .before)) .begin .ensures .0 .few-rules)
 
 returns-2 : tie.Need-returns-2
 returns-2 c =

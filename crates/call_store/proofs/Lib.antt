@@ -1,0 +1,2 @@
+-- Laws of a store that is lent.
+pub mod LendLaws

@@ -1,0 +1,2 @@
+-- A store that is lent to a run.
+pub mod Lending
