@@ -1,10 +1,11 @@
--- The three demands, a statement for each, over what the calls answer; one for the run without a table, and one for where an image is bad. Beside the definitions of
--- `meaning` they use the table of numbers (Sentences), the published semantics (Published), what a refresh, a chain of calls and runs that are alike are (Words), and
--- what a position is (Places).
+-- The three demands, a statement for each, over what the calls answer; one for the run without a table, one for where an image is bad, and one for what is remembered.
+-- Beside the definitions of `meaning` they use the table of numbers (Sentences), the published semantics (Published), what a refresh, a chain of calls, runs that are
+-- alike and a store that grows are (Words), and what a position is (Places).
 use mathlib.Core.Path.{_≡_, refl, _∙_}
 use mathlib.Core.Logic.{_↔_, _⊎_}
 use mathlib.Core.Bool.{true, false}
 use mathlib.Core.List.{List, []}
+use mathlib.Core.Option.{none, some}
 use Prim.Native.Nat.{ℕ, _*_, _^_, _≤_, _<_}
 use lib.ListN.{length}
 use Rattle.meaning.specs.declared.State.{State}
@@ -16,10 +17,12 @@ use Rattle.meaning.specs.Read.{Refused, Got}
 use Rattle.meaning.specs.Image.{decodeBy, decode}
 use Rattle.meaning.specs.Match.{freshTable}
 use Rattle.meaning.specs.Refresh.{refresh, refreshCount}
-use Rattle.meaning.specs.Calls.{neededOf, openState, openOf, Ran, traceOf, runOf, Refreshed, refreshOf}
-use Rattle.meaning.specs.Fresh.{freshTraceOf, FreshRan, freshOf}
+use Rattle.meaning.specs.Store.{lentBy, storeFits, storeOf}
+use Rattle.meaning.specs.Run.{Going, going, Run}
+use Rattle.meaning.specs.Calls.{neededOf, openState, openOf, WithStore, Ran, traceLent, traceOf, runLent, runOf, Refreshed, refreshOf}
+use Rattle.meaning.specs.Fresh.{Moving, moving, freshTraceLent, freshTraceOf, FreshRan, freshLent, freshOf}
 use Rattle.laws.specs.MatchLaws.{fresh-length}
-use Rattle.promises.specs.Words.{RefreshedTo, Machine, Reached, AsKept, answerOf}
+use Rattle.promises.specs.Words.{RefreshedTo, Machine, Reached, alone, AsKept, answerOf, OnlyGrows, Grows}
 use Rattle.promises.specs.Sentences.{Beforehand, Taken, Given, AfterOpen, AfterRun, AfterRefresh, RanTo, GivenBare, AfterFresh}
 use Rattle.promises.specs.Places.{HasPlace, Located, SameVerdict, WhateverFollows, FieldAtBit, TestsEndAt}
 use Rattle.promises.specs.Published.{Follows}
@@ -29,6 +32,7 @@ use Rattle.promises.specs.Refreshing as refreshing
 use Rattle.promises.specs.Keeping as keeping
 use Rattle.promises.specs.Fresh as fresh
 use Rattle.promises.specs.Placing as placing
+use Rattle.promises.specs.Remembering as remembering
 
 -- ---- 1: each call takes everything it could be handed, and does its work or refuses by a number
 
@@ -38,11 +42,12 @@ pub record Demand-1 (image table : List ℕ) : Type 0 where
   pub no-words : (n at : ℕ) → decode image ≡ Refused n at → neededOf image ≡ record { number = n; position = at; words = 0 }
   -- each number is answered exactly when its row of the table holds, and no row before it
   pub open-answers : (n : ℕ) → (openOf image table .number ≡ n) ↔ Given image table AfterOpen n
-  pub run-answers : (s : State) (asked n : ℕ) → (runOf image s table asked .number ≡ n) ↔ Given image table (AfterRun s table asked) n
+  pub run-answers : (s : State) (asked n : ℕ) → (runOf image s table asked .number ≡ n) ↔ Given image table (AfterRun s table none asked) n
   pub refresh-answers : (s : State) (mark n : ℕ) → (refreshOf image s mark table .number ≡ n) ↔ Given image table (AfterRefresh s mark) n
   -- an image and a table that are taken, a well-formed state and an allowed mark are never refused: the work is done
   pub open-works : (m : Model) → Taken image table m → openOf image table ≡ record { number = 0; position = 0; state = openState m; table = freshTable (m .rules) (openState m) }
-  pub run-works : (s : State) (asked : ℕ) (m : Model) → Taken image table m → wellFormed m s ≡ true → RanTo m s table asked (traceOf image s table asked .events) (runOf image s table asked)
+  pub run-works : (s : State) (asked : ℕ) (m : Model) → Taken image table m → wellFormed m s ≡ true
+      → RanTo m (going s table none) asked (traceOf image s table asked .events) (runOf image s table asked) none
   pub refresh-works : (s : State) (mark : ℕ) (m : Model) → Taken image table m → wellFormed m s ≡ true → mark < 2 ^ m .buffers
       → refreshOf image s mark table ≡ record { number = 0; position = 0; count = refreshCount (m .rules) mark; table = refresh (m .rules) s mark table }
   -- "Numbers 1 to 6 and 10 return count 0, the state as handed in (an all-zero state from open) and an unaltered table", and "11 to 13 return and leave what 3 does"
@@ -76,13 +81,14 @@ demand-1 image table =
 -- For every accepted image, every well-formed state of it, with its fresh table, and any number of steps: the steps made are transitions in the order told, as many
 -- as counted, no others are possible, and the number says why there are no more (`Published.Follows`).
 pub demand-2 : (image : List ℕ) (m : Model) (end : ℕ) → decode image ≡ Got m end → (s : State) → wellFormed m s ≡ true → (asked : ℕ)
-    → let table : List ℕ = freshTable (m .rules) s in let a : Ran = runOf image s table asked in Follows m s asked (traceOf image s table asked .events) (a .state) (a .made) (a .number)
+    → let table : List ℕ = freshTable (m .rules) s in let a : Ran = runOf image s table asked in
+    Follows m (alone s) asked (traceOf image s table asked .events) (alone (a .state)) (a .made) (a .number)
 demand-2 image m end accepted s well asked =
     let ran = semantics.fresh-run image m end accepted s well asked in
     record {
       path = ran .path;
       counted = ran .counted;
-      no-other = λ es s′ p l. semantics.path-once image m end accepted s es _ s′ _ p (ran .path) (l ∙ ran .counted);
+      no-other = λ es s′ p l. semantics.path-once image m end accepted none s es _ s′ _ p (ran .path) (l ∙ ran .counted);
       ended = ran .ended;
     }
 
@@ -98,7 +104,8 @@ pub record Demand-3 (image : List ℕ) (m : Model) : Type 0 where
       → refreshOf image s′ mark (freshTable (m .rules) s) .table ≡ freshTable (m .rules) s′
   -- an opening with a table of the right length is not refused, and writes the fresh table
   pub opens : (table : List ℕ) → length table ≡ 9 * length (m .rules) → (openOf image table .number ≡ 0) × (openOf image table .table ≡ freshTable (m .rules) (openOf image table .state))
-  -- and after any kept runs, refreshes, and changes of buffers that are refreshed with their mark, the table is the fresh one and the state well formed
+  -- and after any kept runs, with any words lent, refreshes, and changes of buffers that are refreshed with their mark, the table is the fresh one and the state well
+  -- formed
   pub keeps : (s : State) (table : List ℕ) → Reached image s table → (table ≡ freshTable (m .rules) s) × (wellFormed m s ≡ true) × Machine s
 
 -- For every accepted image.
@@ -127,12 +134,12 @@ pub record Laboratory (image : List ℕ) (s : State) (asked : ℕ) : Type 0 wher
   pub as-held : (table : List ℕ) → Reached image s table → AsKept (traceOf image s table asked) (freshTraceOf image s asked)
   pub answers-as-held : (table : List ℕ) → Reached image s table → freshOf image s asked ≡ answerOf (runOf image s table asked)
   -- demand 1: each number exactly when its row holds, and no row before it; refused by 1 to 4, 6 or 11 to 13, it gives the state back and counts nothing
-  pub answers : (n : ℕ) → (freshOf image s asked .number ≡ n) ↔ GivenBare image (AfterFresh s asked) n
+  pub answers : (n : ℕ) → (freshOf image s asked .number ≡ n) ↔ GivenBare image (AfterFresh s none asked) n
   pub leaves : Beforehand (freshOf image s asked .number)
       → freshOf image s asked ≡ record { number = freshOf image s asked .number; position = freshOf image s asked .position; state = s; made = 0 }
   -- demand 2, from a well-formed state
   pub follows : (m : Model) (end : ℕ) → decode image ≡ Got m end → wellFormed m s ≡ true
-      → let a : FreshRan = freshOf image s asked in Follows m s asked (freshTraceOf image s asked .events) (a .state) (a .made) (a .number)
+      → let a : FreshRan = freshOf image s asked in Follows m (alone s) asked (freshTraceOf image s asked .events) (alone (a .state)) (a .made) (a .number)
 
 -- For every image, every state, well formed or not, and any number of steps.
 pub laboratory : (image : List ℕ) (s : State) (asked : ℕ) → Laboratory image s asked
@@ -180,4 +187,74 @@ say-where image =
       inside = placing.position-inside image;
       first = placing.position-first image;
       in-order = placing.fields-before image;
+    }
+
+-- ---- request 2026-05, "a cleared chunk is remembered": the calls where a word says what is lent of the words beside them (what is found of a store says
+-- `Remembering.cleared-recalled`, what a step learns `joins-exactly`)
+
+pub record Remembers (image : List ℕ) (s : State) (asked lent : ℕ) (words : List ℕ) : Type 0 where
+  -- what is not lent is neither read nor written: the calls with nothing lent, of which all above is said
+  pub nothing-lent : bit lent 0 ≡ false → (table : List ℕ)
+      → (runLent image s table asked lent words ≡ record { answer = runOf image s table asked; store = words })
+      × (freshLent image s asked lent words ≡ record { answer = freshOf image s asked; store = words })
+  -- demand 1: each number exactly when its row holds, and no row before it, 15 after 6 and 14 after 8; refused before a step, the call leaves all as it was, "the store
+  -- unaltered"; and it says where the image is bad
+  pub answers : (table : List ℕ) (n : ℕ) → (runLent image s table asked lent words .answer .number ≡ n) ↔ Given image table (AfterRun s table (lentBy lent words) asked) n
+  pub fresh-answers : (n : ℕ) → (freshLent image s asked lent words .answer .number ≡ n) ↔ GivenBare image (AfterFresh s (lentBy lent words) asked) n
+  pub leaves : (table : List ℕ) → let a : Ran = runLent image s table asked lent words .answer in Beforehand (a .number)
+      → runLent image s table asked lent words ≡ record { answer = record { number = a .number; position = a .position; state = s; table = table; made = 0 }; store = words }
+  pub fresh-leaves : let a : FreshRan = freshLent image s asked lent words .answer in Beforehand (a .number)
+      → freshLent image s asked lent words ≡ record { answer = record { number = a .number; position = a .position; state = s; made = 0 }; store = words }
+  pub tells : (table : List ℕ) → let a : Ran = runLent image s table asked lent words .answer in Located image (a .number) (a .position)
+  pub fresh-tells : let a : FreshRan = freshLent image s asked lent words .answer in Located image (a .number) (a .position)
+  -- demand 2, from a well-formed state with its fresh table and a store that fits: "image facts, then store facts numbered after them"
+  pub follows : (m : Model) (end : ℕ) → decode image ≡ Got m end → wellFormed m s ≡ true → storeFits (m .types) (lentBy lent words) ≡ true
+      → let table : List ℕ = freshTable (m .rules) s in
+      let r : Run Going = traceLent image s table asked (lentBy lent words) in let a : Ran = runLent image s table asked lent words .answer in
+      Follows m (moving s (storeOf (lentBy lent words))) asked (r .events) (moving (a .state) (r .left .store)) (a .made) (a .number)
+  pub fresh-follows : (m : Model) (end : ℕ) → decode image ≡ Got m end → wellFormed m s ≡ true → storeFits (m .types) (lentBy lent words) ≡ true
+      → let r : Run Moving = freshTraceLent image s asked (lentBy lent words) in let a : FreshRan = freshLent image s asked lent words .answer in
+      Follows m (moving s (storeOf (lentBy lent words))) asked (r .events) (moving (a .state) (r .left .store)) (a .made) (a .number)
+  -- demand 3: the table left is the fresh one (and over a chain of calls: `Demand-3.keeps`)
+  pub keeps : (m : Model) (end : ℕ) → decode image ≡ Got m end → wellFormed m s ≡ true → storeFits (m .types) (lentBy lent words) ≡ true
+      → let a : Ran = runLent image s (freshTable (m .rules) s) asked lent words .answer in a .table ≡ freshTable (m .rules) (a .state)
+  -- the run without a table gives what the kept one gives with the same store, "and leaves the same store": with the fresh table, and with whatever table is held
+  pub as-kept : (m : Model) (end : ℕ) → decode image ≡ Got m end
+      → let k : WithStore Ran = runLent image s (freshTable (m .rules) s) asked lent words in freshLent image s asked lent words ≡ record { answer = answerOf (k .answer); store = k .store }
+  pub as-held : (table : List ℕ) → Reached image s table
+      → let k : WithStore Ran = runLent image s table asked lent words in freshLent image s asked lent words ≡ record { answer = answerOf (k .answer); store = k .store }
+  -- the store only grows, in order, "places past the count unaltered word for word", whatever the call answers
+  pub only-grows : Machine s → (table : List ℕ) → OnlyGrows words (runLent image s table asked lent words .store) × OnlyGrows words (freshLent image s asked lent words .store)
+  -- where it is not refused: no two equal facts are learned, none that the image has, never more than 256, and the next call takes what is left
+  pub learns : Machine s → bit lent 0 ≡ true → (table : List ℕ) (m : Model) → Taken image table m → wellFormed m s ≡ true → storeFits (m .types) (some words) ≡ true
+      → Grows m words (runLent image s table asked lent words .store)
+  pub fresh-learns : Machine s → bit lent 0 ≡ true → (m : Model) (end : ℕ) → decode image ≡ Got m end → wellFormed m s ≡ true → storeFits (m .types) (some words) ≡ true
+      → Grows m words (freshLent image s asked lent words .store)
+
+-- For every image, every state, well formed or not, any number of steps, and any words with any word that says what is lent of them.
+pub remembers : (image : List ℕ) (s : State) (asked lent : ℕ) (words : List ℕ) → Remembers image s asked lent words
+remembers image s asked lent words =
+    record {
+      nothing-lent = λ b table. (remembering.nothing-lent image s asked lent words b table, remembering.fresh-nothing-lent image s asked lent words b);
+      answers = λ table. numbers.lent-exactly image table s asked lent words;
+      fresh-answers = fresh.fresh-lent-exactly image s asked lent words;
+      leaves = λ table. numbers.lent-refused image table s asked lent words;
+      fresh-leaves = fresh.fresh-lent-refused image s asked lent words;
+      tells = λ table. placing.run-lent-position image s table asked lent words;
+      fresh-tells = placing.fresh-lent-position image s asked lent words;
+      follows = λ m end accepted well fits.
+          let ran = semantics.fresh-lent image m end accepted s asked lent words fits well in
+          record {
+            path = ran .path;
+            counted = ran .counted;
+            no-other = λ es g p l. semantics.path-once image m end accepted (storeOf (lentBy lent words)) s es _ g _ p (ran .path) (l ∙ ran .counted);
+            ended = ran .ended;
+          };
+      fresh-follows = fresh.fresh-lent-published image s asked lent words;
+      keeps = λ m end accepted well fits. semantics.fresh-lent image m end accepted s asked lent words fits well .fresh;
+      as-kept = fresh.lent-answers image s asked lent words;
+      as-held = fresh.reached-lent-answers image s asked lent words;
+      only-grows = λ machine table. (remembering.only-grows image s asked lent words machine table, remembering.fresh-only-grows image s asked lent words machine);
+      learns = remembering.learns image s asked lent words;
+      fresh-learns = remembering.fresh-learns image s asked lent words;
     }

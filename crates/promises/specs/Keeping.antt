@@ -13,8 +13,8 @@ use Rattle.promises.specs.Words.{Machine, Reached}
 use Rattle.promises.specs.Proofs.Runs.{chain-fresh}
 use Rattle.promises.specs.Proofs.Machines.{chain-well, chain-sound}
 
--- After an accepted opening, and any runs, refreshes and changes of buffers by the caller that are refreshed with their mark, each handed what was left
--- before it, refused calls too, the table is the entry of each rule as a match made now would find it.
+-- After an accepted opening, and any runs, each with any words lent to it or none, refreshes and changes of buffers by the caller that are refreshed with their mark,
+-- each handed what was left before it, refused calls too, the table is the entry of each rule as a match made now would find it.
 pub reached-fresh : (image : List ℕ) (m : Model) (at : ℕ) → decode image ≡ Got m at
     → {s : State} {table : List ℕ} → Reached image s table → table ≡ freshTable (m .rules) s
 reached-fresh image m at d r = chain-fresh image m at d r

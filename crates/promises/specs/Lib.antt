@@ -1,6 +1,6 @@
 -- What is promised: Demands, a statement for each demand. The words of the statements are in Words, Sentences, Places and Published; the statements in Numbers and
--- Placing (demand 1), Semantics and Filling (demand 2), Refreshing, Marking, Keeping and Clearing (demand 3), and Fresh (the run without a table); their proofs stand
--- apart, in Proofs.
+-- Placing (demand 1), Semantics and Filling (demand 2), Refreshing, Marking, Keeping and Clearing (demand 3), Fresh (the run without a table) and Remembering (a lent
+-- store); their proofs stand apart, in Proofs.
 pub mod Words
 pub mod Published
 pub mod Sentences
@@ -14,5 +14,6 @@ pub mod Semantics
 pub mod Filling
 pub mod Fresh
 pub mod Placing
+pub mod Remembering
 pub mod Demands
 pub mod Proofs

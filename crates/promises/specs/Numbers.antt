@@ -1,9 +1,10 @@
 -- Demand 1, the numbers: each is answered exactly when its row of document 01's table holds and no row before it, and then leaves what 01 says.
 -- So what keeps all rows is never refused.
-use mathlib.Core.Path.{_≡_}
+use mathlib.Core.Path.{_≡_, ap}
 use mathlib.Core.Logic.{_↔_}
 use mathlib.Core.Bool.{true}
 use mathlib.Core.List.{List, [], _++_}
+use mathlib.Core.Option.{none}
 use Prim.Native.Nat.{ℕ, _*_, _^_, _≤_, _<_}
 use lib.ListN.{length}
 use Rattle.meaning.specs.declared.State.{State}
@@ -14,10 +15,13 @@ use Rattle.meaning.specs.Read.{Refused, Got}
 use Rattle.meaning.specs.Image.{model, decode}
 use Rattle.meaning.specs.Match.{freshTable}
 use Rattle.meaning.specs.Refresh.{refresh, refreshCount}
-use Rattle.meaning.specs.Calls.{neededOf, openState, openOf, traceOf, runOf, refreshOf}
+use Rattle.meaning.specs.Store.{lentBy, storeFits, storeOf, storeLeft}
+use Rattle.meaning.specs.Run.{Going, going, Run}
+use Rattle.meaning.specs.Calls.{accepted, placeOf, neededOf, openState, openOf, traceLent, traceOf, Ran, ranBy, runLent, runOf, refreshOf}
 use Rattle.promises.specs.Sentences.{BrokenRule, Stops, Beforehand, Taken, Given, AfterOpen, AfterRefresh, AfterRun, RanTo}
 use Rattle.promises.specs.Proofs.Placed as placed
 use Rattle.promises.specs.Proofs.Numbers as numbers
+use Rattle.promises.specs.Proofs.Lending as lending
 
 -- ---- an image alone
 
@@ -80,22 +84,60 @@ module _ (image table : List ℕ) (s : State) (mark : ℕ) where
   pub refresh-refused : (refreshOf image s mark table .number ≡ 0 → ⊥) → (refreshOf image s mark table .count ≡ 0) × (refreshOf image s mark table .table ≡ table)
   refresh-refused h = numbers.refresh-refused image table s mark h
 
--- ---- run
+-- ---- run, where a word says what is lent of the words beside it (request 2026-05)
+
+module _ (image table : List ℕ) (s : State) (asked lent : ℕ) (words : List ℕ) where
+  -- A well-formed state, with a store that fits if one is lent, is never refused: number 0, 7, 8, 9 or 14, and the state, table, count and store after the steps made,
+  -- whatever the table holds.
+  pub lent-taken : (m : Model) → Taken image table m → wellFormed m s ≡ true → storeFits (m .types) (lentBy lent words) ≡ true
+      → let r : Run Going = traceLent image s table asked (lentBy lent words) in
+      RanTo m (going s table (storeOf (lentBy lent words))) asked (r .events) (runLent image s table asked lent words .answer) (r .left .store)
+  unfolding runLent
+  lent-taken m t w f = numbers.run-taken image table s (lentBy lent words) asked m t w f
+
+  -- It answers a number exactly when its row holds and none before it: "15 .. after 6", and then as many steps as there are, and 0 if they are those asked, 7, 8, 9 or
+  -- 14 if not, "14 .. after 8".
+  pub lent-exactly : (n : ℕ) → (runLent image s table asked lent words .answer .number ≡ n) ↔ Given image table (AfterRun s table (lentBy lent words) asked) n
+  unfolding runLent
+  lent-exactly n = numbers.run-number image table s (lentBy lent words) asked n
+
+  -- Refused by 1 to 6, 11 to 13 or 15, it gives the state back, counts nothing, leaves the table, and "the store unaltered",
+  pub lent-refused : let a : Ran = runLent image s table asked lent words .answer in Beforehand (a .number)
+      → runLent image s table asked lent words ≡ record { answer = record { number = a .number; position = a .position; state = s; table = table; made = 0 }; store = words }
+  unfolding runLent storeLeft
+  lent-refused b =
+      ap (λ (r : Run Going). record { answer = ranBy (placeOf (accepted image table)) r; store = storeLeft words (r .left .store) }) (numbers.left-refused image table s (lentBy lent words) asked b)
+
+  -- and tells no event.
+  pub lent-untold : Beforehand (runLent image s table asked lent words .answer .number) → traceLent image s table asked (lentBy lent words) .events ≡ []
+  unfolding runLent
+  lent-untold b = ap (λ (r : Run Going). r .events) (numbers.left-refused image table s (lentBy lent words) asked b)
+
+  -- No number is larger than 15.
+  pub lent-small : runLent image s table asked lent words .answer .number < 16
+  unfolding runLent
+  lent-small = numbers.lent-small image table s (lentBy lent words) asked
+
+-- ---- run, with nothing lent
 
 module _ (image table : List ℕ) (s : State) (asked : ℕ) where
   -- A well-formed state is never refused: number 0, 7, 8 or 9, and the state, table and count after the steps made, whatever the table holds.
-  pub run-taken : (m : Model) → Taken image table m → wellFormed m s ≡ true → RanTo m s table asked (traceOf image s table asked .events) (runOf image s table asked)
-  run-taken m t w = numbers.run-taken image table s asked m t w
+  pub run-taken : (m : Model) → Taken image table m → wellFormed m s ≡ true → RanTo m (going s table none) asked (traceOf image s table asked .events) (runOf image s table asked) none
+  run-taken m t w = lending.alone-taken image table s asked m t w
 
   -- Run answers a number exactly when its row holds and none before it: after 6, as many steps as there are, and 0 if they are those asked, 7, 8 or 9 if not.
-  pub run-exactly : (n : ℕ) → (runOf image s table asked .number ≡ n) ↔ Given image table (AfterRun s table asked) n
-  run-exactly n = numbers.run-number image table s asked n
+  pub run-exactly : (n : ℕ) → (runOf image s table asked .number ≡ n) ↔ Given image table (AfterRun s table none asked) n
+  run-exactly n = lending.alone-number image table s asked n
 
   -- Refused by 1 to 6 or 11 to 13, it gives the state back, counts nothing and leaves the table,
   pub run-refused : Beforehand (runOf image s table asked .number)
       → runOf image s table asked ≡ record { number = runOf image s table asked .number; position = runOf image s table asked .position; state = s; table = table; made = 0 }
-  run-refused b = numbers.run-refused image table s asked b
+  run-refused b = lending.alone-refused image table s asked b
 
   -- and tells no event.
   pub trace-refused : Beforehand (runOf image s table asked .number) → traceOf image s table asked .events ≡ []
-  trace-refused b = numbers.trace-refused image table s asked b
+  trace-refused b = lending.alone-untold image table s asked b
+
+  -- No number is larger than 13: 14 and 15 come only where a store is lent.
+  pub run-small : runOf image s table asked .number < 14
+  run-small = numbers.run-small image table s asked

@@ -3,14 +3,16 @@
 use mathlib.Core.Path.{_≡_}
 use mathlib.Core.Logic.{_⊎_}
 use mathlib.Core.List.{List}
+use mathlib.Core.Option.{none}
 use Prim.Native.Nat.{ℕ, _*_, _≤_, _<_}
 use lib.ListN.{length}
 use Rattle.meaning.specs.declared.State.{State}
 use Rattle.meaning.specs.Numbers.{coarse, finer, not-there, bad-variable}
 use Rattle.meaning.specs.Read.{Refused}
 use Rattle.meaning.specs.Image.{decodeBy, decode}
-use Rattle.meaning.specs.Calls.{neededOf, openOf, runOf, refreshOf}
-use Rattle.meaning.specs.Fresh.{freshOf}
+use Rattle.meaning.specs.Store.{lentBy}
+use Rattle.meaning.specs.Calls.{neededOf, openOf, Ran, runLent, runOf, refreshOf}
+use Rattle.meaning.specs.Fresh.{FreshRan, freshLent, freshOf}
 use Rattle.promises.specs.Places.{HasPlace, Located, SameVerdict, WhateverFollows, FieldAtBit, TestsEndAt}
 use Rattle.promises.specs.Proofs.Placed as placed
 use Rattle.promises.specs.Proofs.Verdicts as verdicts
@@ -57,10 +59,22 @@ module _ (image : List ℕ) where
   open-position table = locations.open-located image table
 
   pub run-position : (s : State) (table : List ℕ) (asked : ℕ) → Located image (runOf image s table asked .number) (runOf image s table asked .position)
-  run-position s table asked = locations.run-located image table s asked
+  unfolding runOf
+  run-position s table asked = locations.run-located image table s none asked
+
+  -- with any words beside it, lent or not
+  pub run-lent-position : (s : State) (table : List ℕ) (asked lent : ℕ) (words : List ℕ)
+      → let a : Ran = runLent image s table asked lent words .answer in Located image (a .number) (a .position)
+  unfolding runLent
+  run-lent-position s table asked lent words = locations.run-located image table s (lentBy lent words) asked
 
   pub refresh-position : (s : State) (mark : ℕ) (table : List ℕ) → Located image (refreshOf image s mark table .number) (refreshOf image s mark table .position)
   refresh-position s mark table = locations.refresh-located image table s mark
 
   pub fresh-position : (s : State) (asked : ℕ) → Located image (freshOf image s asked .number) (freshOf image s asked .position)
-  fresh-position s asked = locations.fresh-located image s asked
+  unfolding freshOf
+  fresh-position s asked = locations.fresh-located image s none asked
+
+  pub fresh-lent-position : (s : State) (asked lent : ℕ) (words : List ℕ) → let a : FreshRan = freshLent image s asked lent words .answer in Located image (a .number) (a .position)
+  unfolding freshLent
+  fresh-lent-position s asked lent words = locations.fresh-located image s (lentBy lent words) asked

@@ -2,9 +2,11 @@
 pub mod Tables
 pub mod Marks
 pub mod Steps
+pub mod Knowing
 pub mod Chains
 pub mod Runs
 pub mod Decoded
+pub mod Learned
 pub mod Matching
 pub mod Selection
 pub mod Entries
@@ -25,3 +27,7 @@ pub mod Numbers
 pub mod Machines
 pub mod Afresh
 pub mod Locations
+pub mod Lending
+pub mod Joining
+pub mod Stored
+pub mod Remembered

@@ -3,19 +3,22 @@
 use mathlib.Core.Path.{_≡_}
 use mathlib.Core.Bool.{true, false}
 use mathlib.Core.List.{List, [], _∷_, List·Memᴰ}
+use mathlib.Core.Option.{Option}
 use Prim.Native.Nat.{ℕ, _+_, _-_, _≤_, _<_}
 use lib.ListN.{length, getD, replicate}
 use lib.Signed.{ltZ}
 use Rattle.meaning.specs.declared.Buffer.{Buffer}
 use Rattle.meaning.specs.declared.State.{State}
-use Rattle.meaning.specs.Model.{Model, Rule, Test, Action, Deed, Modify, Request, Clear, Named, Term, Symbol, Variable, Fact}
+use Rattle.meaning.specs.Model.{Model, Rule, Test, Action, Deed, Modify, Request, Clear, Named, Term, Symbol, Variable, Chunk, Fact}
 use Rattle.meaning.specs.State.{nilAfter, bufferOf}
 use Rattle.meaning.specs.Image.{standsIn}
 use Rattle.meaning.specs.Step.{Event, Fired, Waited, largest}
 use Rattle.meaning.specs.Match.{freshTable}
 use Rattle.meaning.specs.Choice.{Candidate}
 use Rattle.meaning.specs.Run.{Timed}
+use Rattle.meaning.specs.Learning.{knowing, storeAfter, overfull}
 use Rattle.meaning.specs.Calls.{Ran}
+use Rattle.meaning.specs.Fresh.{Moving, moving}
 use Rattle.promises.specs.Words.{At, entryAt}
 
 -- ---- matching (definition 11)
@@ -152,11 +155,18 @@ pub data Transition (m : Model) (s : State) : Event → State → Type 0 where
 abbrev pub Final : Model → State → Type 0
 Final m s = (e : Event) (s′ : State) → Transition m s e s′ → ⊥
 
--- transitions, one after the other, none past the last clock: with what each did, and the clock after it
-pub data Transitions (m : Model) : List Timed → State → State → Type 0 where
-  no-step : {s : State} → Transitions m [] s s
-  one-step : {e : Event} {es : List Timed} {s s′ s″ : State} → Transition m s e s′ → s′ .clock ≤ largest → Transitions m es s′ s″
-      → Transitions m (record { clock = s′ .clock; event = e } ∷ es) s s″
+-- ---- one after the other, from what goes from step to step: a state, and the store if one is lent
+
+-- after a transition that did e
+abbrev pub onward : Model → Moving → Event → State → Moving
+onward m g e s′ = moving s′ (storeAfter m (g .state) e (g .store))
+
+-- transitions, one after the other, none past the last clock and none that would leave more than 256 facts in a store: with what each did, and the clock after it.
+-- The memory of each is "image facts, then store facts numbered after them", and where nothing is lent the image's alone
+pub data Transitions (m : Model) : List Timed → Moving → Moving → Type 0 where
+  no-step : {g : Moving} → Transitions m [] g g
+  one-step : {e : Event} {es : List Timed} {g g″ : Moving} {s′ : State} → Transition (knowing m (g .store)) (g .state) e s′ → s′ .clock ≤ largest
+      → overfull (onward m g e s′ .store) ≡ false → Transitions m es (onward m g e s′) g″ → Transitions m (record { clock = s′ .clock; event = e } ∷ es) g g″
 
 -- a transition is possible, and would pass the last clock
 pub record Passes (m : Model) (s : State) : Type 0 where
@@ -165,26 +175,36 @@ pub record Passes (m : Model) (s : State) : Type 0 where
   pub transition : Transition m s event state
   pub past : largest < state .clock
 
--- why a run of so many steps asked, which made so many, ended with its number
-pub data Ended (m : Model) (asked made : ℕ) (s : State) : ℕ → Type 0 where
-  done : made ≡ asked → Ended m asked made s 0
-  full : made < asked → Passes m s → Ended m asked made s 8
-  over : made < asked → Final m s → Ended m asked made s 9
+-- a transition is possible within the clock, and its new facts would make more than 256
+pub record Crowds (m : Model) (g : Moving) : Type 0 where
+  pub event : Event
+  pub state : State
+  pub transition : Transition (knowing m (g .store)) (g .state) event state
+  pub in-time : state .clock ≤ largest
+  pub too-many : overfull (onward m g event state .store) ≡ true
 
--- what is promised of a run that answered `a` and told `events`: its steps are transitions from the state handed in to the state given back, these are what
--- each of them did, in order, and as many as it says; its number says why there are no more; and the table that it leaves is fresh
-pub record RanOn (m : Model) (s : State) (asked : ℕ) (events : List Timed) (a : Ran) : Type 0 where
-  pub path : Transitions m events s (a .state)
+-- why a run of so many steps asked, which made so many, ended with its number (by 14 only where a store is lent)
+pub data Ended (m : Model) (asked made : ℕ) (g : Moving) : ℕ → Type 0 where
+  done : made ≡ asked → Ended m asked made g 0
+  full : made < asked → Passes (knowing m (g .store)) (g .state) → Ended m asked made g 8
+  over : made < asked → Final (knowing m (g .store)) (g .state) → Ended m asked made g 9
+  crowded : made < asked → Crowds m g → Ended m asked made g 14
+
+-- what is promised of a run that answered `a`, told `events` and left a store if one was lent: its steps are transitions from what was handed in to what is given
+-- back, these are what each of them did, in order, and as many as it says; its number says why there are no more; and the table that it leaves is fresh
+pub record RanOn (m : Model) (g : Moving) (asked : ℕ) (events : List Timed) (a : Ran) (store : Option (List Chunk)) : Type 0 where
+  pub path : Transitions m events g (moving (a .state) store)
   pub counted : a .made ≡ length events
-  pub ended : Ended m asked (a .made) (a .state) (a .number)
+  pub ended : Ended m asked (a .made) (moving (a .state) store) (a .number)
   pub fresh : a .table ≡ freshTable (m .rules) (a .state)
 
--- what is promised of a run, of so many steps asked from a state, that told `events` and gave back a state, a count and a number
-pub record Follows (m : Model) (s : State) (asked : ℕ) (events : List Timed) (s′ : State) (made number : ℕ) : Type 0 where
-  -- the steps made are transitions from the state handed in to the state given back, in the order told, each with the clock after it, and as many as counted
-  pub path : Transitions m events s s′
+-- what is promised of a run, of so many steps asked from a state and the store if one is lent, that told `events` and gave back what it left, a count and a number
+pub record Follows (m : Model) (g : Moving) (asked : ℕ) (events : List Timed) (g′ : Moving) (made number : ℕ) : Type 0 where
+  -- the steps made are transitions from what was handed in to what is given back, in the order told, each with the clock after it, and as many as counted
+  pub path : Transitions m events g g′
   pub counted : made ≡ length events
   -- no others are possible: so many transitions from there are these
-  pub no-other : (es : List Timed) (s″ : State) → Transitions m es s s″ → length es ≡ made → (es ≡ events) × (s″ ≡ s′)
-  -- the number says why there are no more: 0, all that were asked; 8, the next would pass the last clock; 9, there is none. It is no other number
-  pub ended : Ended m asked made s′ number
+  pub no-other : (es : List Timed) (g″ : Moving) → Transitions m es g g″ → length es ≡ made → (es ≡ events) × (g″ ≡ g′)
+  -- the number says why there are no more: 0, all that were asked; 8, the next would pass the last clock; 9, there is none; 14, its new facts have no room in the
+  -- store. It is no other number
+  pub ended : Ended m asked made g′ number

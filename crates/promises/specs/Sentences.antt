@@ -3,12 +3,13 @@ use mathlib.Core.Path.{_≡_}
 use mathlib.Core.Logic.{_⊎_}
 use mathlib.Core.Bool.{true, false}
 use mathlib.Core.List.{List, [], _∷_}
-use mathlib.Core.Option.{none, some}
+use mathlib.Core.Option.{Option, none, some}
 use Prim.Native.Nat.{ℕ, _+_, _*_, _^_, _≤_, _<_}
 use lib.ListN.{length}
 use Rattle.meaning.specs.declared.State.{State}
-use Rattle.meaning.specs.Numbers.{finer, all-done, too-long, not-there, bad-number, bad-mask, bad-variable, bad-buffer, bad-end, wrong-table, ill-formed, not-fresh, clock-full, halted, bad-mark}
-use Rattle.meaning.specs.Model.{Model}
+use Rattle.meaning.specs.Numbers.{finer, all-done, too-long, not-there, bad-number, bad-mask, bad-variable, bad-buffer, bad-end, wrong-table, ill-formed}
+use Rattle.meaning.specs.Numbers.{not-fresh, clock-full, halted, bad-mark, store-full, bad-store}
+use Rattle.meaning.specs.Model.{Model, Chunk}
 use Rattle.meaning.specs.State.{bufferOf, wellFormed}
 use Rattle.meaning.specs.Read.{Refused, Got}
 use Rattle.meaning.specs.Bits.{fieldAt}
@@ -17,8 +18,11 @@ use Rattle.meaning.specs.Match.{entryOf}
 use Rattle.meaning.specs.Choice.{Candidate, choose, utilities}
 use Rattle.meaning.specs.Step.{Event, Made, largest, stepOf}
 use Rattle.meaning.specs.Refresh.{refresh}
-use Rattle.meaning.specs.Run.{Timed}
+use Rattle.meaning.specs.Learning.{knowing, storeAfter, overfull, stepWith}
+use Rattle.meaning.specs.Run.{Timed, Going, going}
+use Rattle.meaning.specs.Store.{storeFits, storeOf}
 use Rattle.meaning.specs.Calls.{Ran}
+use Rattle.meaning.specs.Fresh.{Moving, moving}
 use Rattle.promises.specs.Published.{LeastDelay, Transitions, Ended}
 
 -- ---- why a field is refused, and where
@@ -42,9 +46,10 @@ pub data Stops (image : List ℕ) : ℕ → ℕ → Type 0 where
   unbound : {at : ℕ} → at ≤ 8 * length image → Stops image at bad-variable
   unended : (end : ℕ) → end ≤ 8 * length image → (fieldAt image end (padding end) ≡ 0 → ⊥) ⊎ (end + padding end < 8 * length image) → Stops image 0 bad-end
 
--- "1 to 6 and 10", and 11 to 13, which "return and leave what 3 does": found before a step is made
+-- "1 to 6 and 10", 11 to 13, which "return and leave what 3 does", and 15, which is "after 6 and like it": found before a step is made. 14 is "like 8", and where
+-- nothing is lent no number is larger than 13
 abbrev pub Beforehand : ℕ → Type 0
-Beforehand n = (0 < n) × ((n < 7) ⊎ (9 < n))
+Beforehand n = (0 < n) × ((n < 7) ⊎ (9 < n)) × (n ≡ store-full → ⊥)
 
 -- ---- "Order: 1; then 2 and 3, the earlier in reading order; 4; 5", where 3 is 3 and 11 to 13
 
@@ -105,35 +110,45 @@ pub data Why (m : Model) (s : State) (table : List ℕ) : ℕ → Type 0 where
   -- "halted": "No entry matches and nothing is pending."
   quiet : choose (m .rules) (utilities (m .rules)) table ≡ none → ((b : ℕ) → b < length (s .buffers) → bufferOf s b .delay ≡ 0) → Why m s table halted
 
--- steps made one after the other, with what each did and the clock after it: "After each step the table is refreshed with that mark."
-pub data Steps (m : Model) : List Timed → State → List ℕ → State → List ℕ → Type 0 where
-  none-made : {s : State} {table : List ℕ} → Steps m [] s table s table
-  then-made : {e : Event} {es : List Timed} {s s′ s″ : State} {mark : ℕ} {table table″ : List ℕ} → stepOf m s table ≡ Made e s′ mark
-      → Steps m es s′ (refresh (m .rules) s′ mark table) s″ table″ → Steps m (record { clock = s′ .clock; event = e } ∷ es) s table s″ table″
+-- steps made one after the other, from state and table and the store if one is lent, with what each did and the clock after it: "After each step the table is
+-- refreshed with that mark", and what the step cleared joins the store
+pub data Steps (m : Model) : List Timed → Going → Going → Type 0 where
+  none-made : {g : Going} → Steps m [] g g
+  then-made : {e : Event} {es : List Timed} {g g″ : Going} {s′ : State} {mark : ℕ} → stepWith m (g .store) (g .state) (g .table) ≡ Made e s′ mark
+      → Steps m es (going s′ (refresh (m .rules) s′ mark (g .table)) (storeAfter m (g .state) e (g .store))) g″ → Steps m (record { clock = s′ .clock; event = e } ∷ es) g g″
 
--- why a run of so many steps asked ends after so many made, in a state and with a table
-pub data EndsBy (m : Model) (asked made : ℕ) (s : State) (table : List ℕ) : ℕ → Type 0 where
+-- why a run of so many steps asked ends after so many made, by what it leaves; the next step reads the memory with what the store knows
+pub data EndsBy (m : Model) (asked made : ℕ) (g : Going) : ℕ → Type 0 where
   -- "all that was asked is done"
-  enough : made ≡ asked → EndsBy m asked made s table all-done
+  enough : made ≡ asked → EndsBy m asked made g all-done
   -- 7, 8 or 9
-  before-that : {n : ℕ} → made < asked → Why m s table n → EndsBy m asked made s table n
+  before-that : {n : ℕ} → made < asked → Why (knowing m (g .store)) (g .state) (g .table) n → EndsBy m asked made g n
+  -- "14, a step whose new facts would make more than 256, after 8": never where nothing is lent
+  no-room : {e : Event} {s′ : State} {mark : ℕ} → made < asked → stepOf (knowing m (g .store)) (g .state) (g .table) ≡ Made e s′ mark
+      → overfull (storeAfter m (g .state) e (g .store)) ≡ true → EndsBy m asked made g store-full
 
--- run: "6", and then its steps
-pub data AfterRun (s : State) (table : List ℕ) (asked : ℕ) (m : Model) : ℕ → Type 0 where
+-- run: "6", then "15 .. after 6" if words are lent, and then its steps
+pub data AfterRun (s : State) (table : List ℕ) (lent : Option (List ℕ)) (asked : ℕ) (m : Model) : ℕ → Type 0 where
   -- "state not well formed"
-  unwell : wellFormed m s ≡ false → AfterRun s table asked m ill-formed
-  went : {es : List Timed} {s′ : State} {table′ : List ℕ} {n : ℕ} → wellFormed m s ≡ true → Steps m es s table s′ table′
-      → EndsBy m asked (length es) s′ table′ n → AfterRun s table asked m n
+  unwell : wellFormed m s ≡ false → AfterRun s table lent asked m ill-formed
+  -- "not 256 places, a count over 256 or a fact that the image could not hold": never where nothing is lent
+  misfit : wellFormed m s ≡ true → storeFits (m .types) lent ≡ false → AfterRun s table lent asked m bad-store
+  went : {es : List Timed} {g : Going} {n : ℕ} → wellFormed m s ≡ true → storeFits (m .types) lent ≡ true → Steps m es (going s table (storeOf lent)) g
+      → EndsBy m asked (length es) g n → AfterRun s table lent asked m n
 
--- what a run gives back and leaves: "the state, table and count after the steps already made"
-pub record RanTo (m : Model) (s : State) (table : List ℕ) (asked : ℕ) (events : List Timed) (a : Ran) : Type 0 where
-  pub steps : Steps m events s table (a .state) (a .table)
+-- what a run gives back and leaves: "the state, table and count after the steps already made", and the store if one is lent
+pub record RanTo (m : Model) (g : Going) (asked : ℕ) (events : List Timed) (a : Ran) (store : Option (List Chunk)) : Type 0 where
+  pub steps : Steps m events g (going (a .state) (a .table) store)
   pub counted : a .made ≡ length events
   pub unplaced : a .position ≡ 0
-  pub ended : EndsBy m asked (a .made) (a .state) (a .table) (a .number)
+  pub ended : EndsBy m asked (a .made) (going (a .state) (a .table) store) (a .number)
 
--- the run without a table: "6", and then its steps, which are transitions of the published semantics, and why there are no more: 0, 8 or 9
-pub data AfterFresh (s : State) (asked : ℕ) (m : Model) : ℕ → Type 0 where
+-- the run without a table: "6", "15" if words are lent, and then its steps, which are transitions of the published semantics, and why there are no more: 0, 8 or 9,
+-- and 14 with a store
+pub data AfterFresh (s : State) (lent : Option (List ℕ)) (asked : ℕ) (m : Model) : ℕ → Type 0 where
   -- "state not well formed"
-  unsound : wellFormed m s ≡ false → AfterFresh s asked m ill-formed
-  moved : {es : List Timed} {s′ : State} {n : ℕ} → wellFormed m s ≡ true → Transitions m es s s′ → Ended m asked (length es) s′ n → AfterFresh s asked m n
+  unsound : wellFormed m s ≡ false → AfterFresh s lent asked m ill-formed
+  -- "not 256 places, a count over 256 or a fact that the image could not hold"
+  unfitting : wellFormed m s ≡ true → storeFits (m .types) lent ≡ false → AfterFresh s lent asked m bad-store
+  moved : {es : List Timed} {g : Moving} {n : ℕ} → wellFormed m s ≡ true → storeFits (m .types) lent ≡ true → Transitions m es (moving s (storeOf lent)) g
+      → Ended m asked (length es) g n → AfterFresh s lent asked m n

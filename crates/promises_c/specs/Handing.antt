@@ -15,6 +15,7 @@ use Rattle.fresh_call.specs.declared.FreshDone.{FreshDone}
 use Rattle.jirvuntsag.specs.Words.{stateOf}
 use Rattle.jirvuntsag.specs.Told.{Told, openIn, runIn, refreshIn, eventsIn}
 use Rattle.jirvuntsag.specs.Fresh.{FreshTold, freshIn, freshEventsIn}
+use Rattle.jirvuntsag.specs.Lent.{runLentIn, lentEventsIn, freshLentIn, freshLentEventsIn}
 
 -- an answer is the number, 65,536 times a count and 4,294,967,296 times a position (JIRVUNTSAG_NUMBER, JIRVUNTSAG_COUNT and JIRVUNTSAG_POSITION of the header)
 abbrev pub numberIn : ℕ → ℕ
@@ -44,11 +45,12 @@ freshRanIn a = record { number = numberIn (a .answered); position = positionIn (
 abbrev pub SameBuffer : List ℕ → List ℕ → ℕ → Type 0
 SameBuffer w w′ b = (j : ℕ) → j < 10 → getD w (1 + (10 * b + j)) 0 ≡ getD w′ (1 + (10 * b + j)) 0
 
--- the words and tables that a caller of one image can hold: those of an accepted opening; then what a kept run or a refresh leaves when it is handed what was left before it,
--- whatever it answers; and words that the caller changes itself, refreshed with a mark of every buffer changed, if that refresh answers 0
+-- the words and tables that a caller of one image can hold: those of an accepted opening; then what a kept run, with any store beside it, lent or not, or a refresh leaves
+-- when it is handed what was left before it, whatever it answers; and words that the caller changes itself, refreshed with a mark of every buffer changed, if that refresh answers 0
 pub data Held (image : List ℕ) : List ℕ → List ℕ → Type 0 where
   opened : (table : List ℕ) → numberIn (openIn image table .answered) ≡ 0 → Held image (openIn image table .words) (openIn image table .table)
-  ran : {w table : List ℕ} → Held image w table → (steps : ℕ) → Held image (runIn image w table steps .words) (runIn image w table steps .table)
+  ran : {w table : List ℕ} → Held image w table → (steps lent : ℕ) (store : List ℕ)
+      → Held image (runLentIn image w table steps lent store .answer .words) (runLentIn image w table steps lent store .answer .table)
   refreshed : {w table : List ℕ} → Held image w table → (mark : ℕ) → Held image (refreshIn image w mark table .words) (refreshIn image w mark table .table)
   changed : {w table : List ℕ} → Held image w table → (w′ : List ℕ) (mark : ℕ) → length w′ ≡ 81 → getD w′ 0 0 ≤ largest → ((b : ℕ) → bit mark b ≡ false → SameBuffer w w′ b)
       → numberIn (refreshIn image w′ mark table .answered) ≡ 0 → Held image w′ (refreshIn image w′ mark table .table)
@@ -84,3 +86,10 @@ pub record SameTold (image w table : List ℕ) (steps : ℕ) : Type 0 where
   pub same-answer : freshIn image w steps .answered ≡ runIn image w table steps .answered
   pub same-words : freshIn image w steps .words ≡ runIn image w table steps .words
   pub same-lent : (lent : List ℕ) → inscribed lent 0 (freshEventsIn image w steps) ≡ inscribed lent 0 (eventsIn image w table steps)
+
+-- the same where a store may be lent: every word of the store besides, as it is left
+pub record SameLent (image w table : List ℕ) (steps lent : ℕ) (store : List ℕ) : Type 0 where
+  pub same-answer : freshLentIn image w steps lent store .answer .answered ≡ runLentIn image w table steps lent store .answer .answered
+  pub same-words : freshLentIn image w steps lent store .answer .words ≡ runLentIn image w table steps lent store .answer .words
+  pub same-store : freshLentIn image w steps lent store .store ≡ runLentIn image w table steps lent store .store
+  pub same-events : (noted : List ℕ) → inscribed noted 0 (freshLentEventsIn image w steps lent store) ≡ inscribed noted 0 (lentEventsIn image w table steps lent store)

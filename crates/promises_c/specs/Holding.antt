@@ -13,14 +13,17 @@ use Rattle.meaning.specs.Read.{Got}
 use Rattle.meaning.specs.Image.{decode}
 use Rattle.meaning.specs.Match.{freshTable}
 use Rattle.meaning.specs.Step.{largest}
+use Rattle.meaning.specs.Calls.{WithStore}
 use Rattle.jirvuntsag.specs.Words.{stateOf, wordsOf, fits}
 use Rattle.jirvuntsag.specs.Told.{answer, Told, told, openIn, runIn, refreshIn}
+use Rattle.jirvuntsag.specs.Lent.{toldWith, runLentIn}
 use Rattle.promises.specs.Words.{Machine, Reached}
 use Rattle.promises.specs.Sentences.{Beforehand, Taken}
 use Rattle.promises.specs.Keeping.{reached-fresh, reached-well}
 use Rattle.promises_c.specs.Handing.{numberIn, Leaves, Held}
 use Rattle.promises_c.specs.Proofs.Back as back
 use Rattle.promises_c.specs.Proofs.Calling as calling
+use Rattle.promises_c.specs.Proofs.Lent as lending
 
 -- ---- words and state
 
@@ -45,6 +48,11 @@ open-leaves image table h = calling.open-leaves image table h
 pub run-leaves : (image w table : List ℕ) (steps : ℕ) → length w ≡ 81 → let a : Told = runIn image w table steps in Beforehand (numberIn (a .answered)) → Leaves w table a
 run-leaves image w table steps l b = calling.run-leaves image w table steps l b
 
+-- The same of a run to which a store may be lent, refused by 15 too; and every word of the store as it was.
+pub run-lent-leaves : (image w table : List ℕ) (steps lent : ℕ) (store : List ℕ) → length w ≡ 81 → let a : WithStore Told = runLentIn image w table steps lent store in
+    Beforehand (numberIn (a .answer .answered)) → Leaves w table (a .answer) × (a .store ≡ store)
+run-lent-leaves image w table steps lent store l b = (calling.lent-leaves image w table steps lent store b l, calling.store-leaves image w table steps lent store b)
+
 -- Refresh never writes the words; refused, it leaves the table as it was.
 pub refresh-leaves : (image w table : List ℕ) (mark : ℕ) → let a : Told = refreshIn image w mark table in (numberIn (a .answered) ≡ 0 → ⊥) → Leaves w table a
 refresh-leaves image w table mark h = calling.refresh-leaves image w table mark h
@@ -53,13 +61,17 @@ refresh-leaves image w table mark h = calling.refresh-leaves image w table mark 
 pub run-too-large : (image w table : List ℕ) (steps : ℕ) (m : Model) → Taken image table m → fits w ≡ false → runIn image w table steps ≡ told (answer ill-formed 0 0) w table
 run-too-large image w table steps m t f = calling.run-six image w table steps m t f
 
+pub run-lent-too-large : (image w table : List ℕ) (steps lent : ℕ) (store : List ℕ) (m : Model) → Taken image table m → fits w ≡ false
+    → runLentIn image w table steps lent store ≡ toldWith (told (answer ill-formed 0 0) w table) store
+run-lent-too-large image w table steps lent store m t f = calling.lent-six image w table steps lent store m t f
+
 pub refresh-too-large : (image w table : List ℕ) (mark : ℕ) (m : Model) → Taken image table m → fits w ≡ false → refreshIn image w mark table ≡ told (answer ill-formed 0 0) w table
 refresh-too-large image w table mark m t f = calling.refresh-six image w table mark m t f
 
 -- ---- demand 3 over words
 
--- After an accepted opening, and any kept runs, refreshes, and changes of the words that are refreshed with their mark, each handed the words and the table left before it:
--- the words are 81, each fits, the state that they hold is well formed, and the table is its fresh one.
+-- After an accepted opening, and any kept runs, each with any store beside it, lent or not, refreshes, and changes of the words that are refreshed with their mark, each
+-- handed the words and the table left before it: the words are 81, each fits, the state that they hold is well formed, and the table is its fresh one.
 pub held-fresh : (image : List ℕ) (m : Model) (end : ℕ) → decode image ≡ Got m end → {w table : List ℕ} → Held image w table
     → (length w ≡ 81) × (fits w ≡ true) × (wellFormed m (stateOf w) ≡ true) × (table ≡ freshTable (m .rules) (stateOf w))
 held-fresh image m end d h =
@@ -69,3 +81,7 @@ held-fresh image m end d h =
 -- So what is said of chains of calls over states is said of it too.
 pub held-reached : (image : List ℕ) (m : Model) (end : ℕ) → decode image ≡ Got m end → {w table : List ℕ} → Held image w table → Reached image (stateOf w) table
 held-reached image m end d h = calling.held-stands image m end d h .reached
+
+-- A run with nothing lent is a link of that chain.
+pub held-ran : (image : List ℕ) {w table : List ℕ} → Held image w table → (steps : ℕ) → Held image (runIn image w table steps .words) (runIn image w table steps .table)
+held-ran image h steps = lending.held-ran image h steps

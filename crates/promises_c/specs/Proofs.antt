@@ -5,3 +5,4 @@ pub mod Noted
 pub mod Alike
 pub mod Alone
 pub mod Placed
+pub mod Lent

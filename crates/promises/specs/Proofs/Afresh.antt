@@ -1,7 +1,7 @@
 -- The run without a table is the kept run with the fresh one: choice, step, run and call; and so its numbers and its transitions.
-use mathlib.Core.Path.{_≡_, refl, sym, ap, subst, _∙_}
+use mathlib.Core.Path.{_≡_, refl, sym, ap, ap₂, subst, _∙_}
 use mathlib.Core.Logic.{_↔_, _⊎_, inl, inr, ⊎-elim}
-use mathlib.Core.Bool.{Bool, true, false}
+use mathlib.Core.Bool.{Bool, true, false, not}
 use mathlib.Core.List.{List, [], _∷_}
 use mathlib.Core.Option.{Option, none, some}
 use Prim.Native.Nat.{ℕ, zero, suc, _+_, _*_, _≤_, _<_}
@@ -14,8 +14,8 @@ use lib.Seq.{take-at, drop-at}
 use Rattle.meaning.specs.declared.State.{State}
 use Rattle.meaning.specs.Base.{if_then_else_, keep}
 use Rattle.meaning.specs.Highest.{highest}
-use Rattle.meaning.specs.Numbers.{clock-full, ill-formed}
-use Rattle.meaning.specs.Model.{Model, Rule, Fact}
+use Rattle.meaning.specs.Numbers.{clock-full, ill-formed, store-full, bad-store}
+use Rattle.meaning.specs.Model.{Model, Rule, Chunk, Fact}
 use Rattle.meaning.specs.State.{wellFormed}
 use Rattle.meaning.specs.Read.{Read, Refused, Got}
 use Rattle.meaning.specs.Image.{decode}
@@ -24,20 +24,24 @@ use Rattle.meaning.specs.Choice.{Candidate, candidates, counts, lower, choose, 
 use Rattle.meaning.specs.Fire.{fire}
 use Rattle.meaning.specs.Wait.{soonest, wait}
 use Rattle.meaning.specs.Mark.{markOf}
-use Rattle.meaning.specs.Step.{Event, Fired, Waited, Step, Stopped, Made, largest, unlessPast, waitStep, stepBy, step, stepOf}
+use Rattle.meaning.specs.Step.{Event, Fired, Waited, Step, Stopped, Made, largest, unlessPast, waitStep, stepBy, step}
 use Rattle.meaning.specs.Run.{Going, going, Timed, Run, ends, before, runFrom}
-use Rattle.meaning.specs.Calls.{accepted, placeOf, openOf, traceOf, ranBy, runOf}
-use Rattle.meaning.specs.Fresh.{matched, chooseFresh, Move, Stays, Moves, movesTo, waitFresh, moveBy, move, moveOf, freshFrom}
-use Rattle.meaning.specs.Fresh.{freshBy, freshTraceOf, FreshRan, freshRanBy, freshOf}
+use Rattle.meaning.specs.Learning.{knowing, storeAfter, overfull, ifRoom, stepWith}
+use Rattle.meaning.specs.Store.{storeFits, storeOf}
+use Rattle.meaning.specs.Calls.{accepted, placeOf, openOf, traceLent, ranBy}
+use Rattle.meaning.specs.Fresh.{matched, chooseFresh, Move, Stays, Moves, movesTo, waitFresh, moveBy, move, Moving, moving, ifRoomFresh, moveWith, freshFrom}
+use Rattle.meaning.specs.Fresh.{freshBy, freshTraceLent, FreshRan, freshRanBy}
+use Rattle.laws.specs.BaseLaws.{no-true}
 use Rattle.laws.specs.MatchLaws.{entry-length, fresh-length}
-use Rattle.promises.specs.Words.{Reached, opened, ran, refreshed, changed, AsKept, answerOf}
-use Rattle.promises.specs.Published.{Transition, Transitions, no-step, one-step, Ended, done, full, over, Follows}
-use Rattle.promises.specs.Sentences.{Beforehand, GivenBare, refused, read, AfterFresh, unsound, moved}
-use Rattle.promises.specs.Proofs.Decoded.{Decoded, decoded}
+use Rattle.promises.specs.Words.{Reached, opened, ran, refreshed, changed, alone, AsKept, ranLent, freshRanLent, answerOf}
+use Rattle.promises.specs.Published.{Transition, onward, Transitions, no-step, one-step, Crowds, Ended, done, full, over, crowded, Follows}
+use Rattle.promises.specs.Sentences.{Beforehand, GivenBare, refused, read, AfterFresh, unsound, unfitting, moved}
+use Rattle.promises.specs.Proofs.Decoded.{RulesGood, good-known, decoded}
+use Rattle.promises.specs.Proofs.Knowing.{Unmade, as-known, crowding, made-with, stopped-with}
 use Rattle.promises.specs.Proofs.Steps.{fire-fresh}
 use Rattle.promises.specs.Proofs.Selection.{chosen-own}
 use Rattle.promises.specs.Proofs.Runs.{chain-fresh}
-use Rattle.promises.specs.Proofs.Outcomes.{transition-made, passes-full, final-halt, freshly, made-run, run-goes, transitions-once}
+use Rattle.promises.specs.Proofs.Outcomes.{transition-made, passes-full, final-halt, freshly, knownStep, known-step, made-run, run-goes, transitions-once}
 use Rattle.promises.specs.Proofs.Numbers.{refused-unread, unread-range, exactly-bare}
 
 -- ---- the choice
@@ -98,83 +102,103 @@ module _ (m : Model) (memory : List Fact) (us : List ℤ) (s : State) where
   pub stays-exactly : (n : ℕ) → (move m memory us s ≡ Stays n) ↔ (step m memory us s (freshTable (m .rules) s) ≡ Stopped n)
   stays-exactly n = same-stays (same-step m memory us s) n
 
--- ---- the run
+-- ---- the run, with a store or none
+
+-- a step with what a store knows, where its facts have room
+same-room : (m : Model) (store : Option (List Chunk)) (s : State) {st : Step} {mv : Move} → Same st mv → Same (ifRoom m store s st) (ifRoomFresh m store s mv)
+same-room m store s both-stop = both-stop
+same-room m store s (both-move {e} {s′} {mark}) =
+    elim (overfull (storeAfter m s e store)) as (λ t. Same (if t then Stopped store-full else (Made e s′ mark)) (if t then Stays store-full else (Moves e s′))) [
+      | true ↦ both-stop
+      | false ↦ both-move
+    ]
+
+same-with : (m : Model) (store : Option (List Chunk)) (s : State) → Same (stepWith m store s (freshTable (m .rules) s)) (moveWith m store s)
+same-with m none s = same-room m none s (same-step m (m .facts) (utilities (m .rules)) s)
+same-with m (some cs) s = let k : Model = knowing m (some cs) in same-room m (some cs) s (same-step k (k .facts) (utilities (k .rules)) s)
 
 -- after a first step that is not made with the fresh table, nor without one,
 -- or that is made,
 -- each run is this
-module _ (m : Model) (n : ℕ) (s : State) where
-  stopped-kept : (number : ℕ) → stepOf m s (freshTable (m .rules) s) ≡ Stopped number → runFrom m (suc n) (freshly m s) ≡ ends number (freshly m s)
+module _ (m : Model) (n : ℕ) (g : Moving) where
+  stopped-kept : (number : ℕ) → stepWith m (g .store) (g .state) (freshTable (m .rules) (g .state)) ≡ Stopped number → runFrom m (suc n) (freshly m g) ≡ ends number (freshly m g)
   unfolding runFrom
   stopped-kept number q = rw q refl
 
-  stays-ends : (number : ℕ) → moveOf m s ≡ Stays number → freshFrom m (suc n) s ≡ ends number s
+  stays-ends : (number : ℕ) → moveWith m (g .store) (g .state) ≡ Stays number → freshFrom m (suc n) g ≡ ends number g
   unfolding freshFrom
   stays-ends number q = rw q refl
 
-  moves-on : (e : Event) (s′ : State) → moveOf m s ≡ Moves e s′ → freshFrom m (suc n) s ≡ before (record { clock = s′ .clock; event = e }) (freshFrom m n s′)
+  moves-on : (e : Event) (s′ : State) → moveWith m (g .store) (g .state) ≡ Moves e s′
+      → freshFrom m (suc n) g ≡ before (record { clock = s′ .clock; event = e }) (freshFrom m n (onward m g e s′))
   unfolding freshFrom
   moves-on e s′ q = rw q refl
 
+-- nothing told, and the same left
+at-once : {n : ℕ} {g : Going} → AsKept (ends n g) (ends n (moving (g .state) (g .store)))
+at-once = record { same-number = refl; same-state = refl; same-store = refl; same-events = refl }
+
 -- one step more before both
-then-as-kept : (e : Timed) {kept : Run Going} {fresh : Run State} → AsKept kept fresh → AsKept (before e kept) (before e fresh)
-then-as-kept e a = record { same-number = a .same-number; same-state = a .same-state; same-events = ap (λ (es : List Timed). e ∷ es) (a .same-events) }
+then-as-kept : (e : Timed) {kept : Run Going} {fresh : Run Moving} → AsKept kept fresh → AsKept (before e kept) (before e fresh)
+then-as-kept e a = record { same-number = a .same-number; same-state = a .same-state; same-store = a .same-store; same-events = ap (λ (es : List Timed). e ∷ es) (a .same-events) }
 
-pub run-as-kept : (m : Model) (n : ℕ) (s : State) → AsKept (runFrom m n (freshly m s)) (freshFrom m n s)
+pub run-as-kept : (m : Model) (n : ℕ) (g : Moving) → AsKept (runFrom m n (freshly m g)) (freshFrom m n g)
 unfolding runFrom freshFrom
-run-as-kept m zero s = record { same-number = refl; same-state = refl; same-events = refl }
-run-as-kept m (suc n) s = by (λ s′. run-as-kept m n s′) (same-step m (m .facts) (utilities (m .rules)) s) refl refl
+run-as-kept m zero g = at-once
+run-as-kept m (suc n) g = by (λ g′. run-as-kept m n g′) (same-with m (g .store) (g .state)) refl refl
   where
-    by : ((s′ : State) → AsKept (runFrom m n (freshly m s′)) (freshFrom m n s′)) → {st : Step} {mv : Move} → Same st mv
-        → stepOf m s (freshTable (m .rules) s) ≡ st → moveOf m s ≡ mv → AsKept (runFrom m (suc n) (freshly m s)) (freshFrom m (suc n) s)
-    by ih (both-stop {n = k}) p q = rw (stopped-kept m n s k p, stays-ends m n s k q) (record { same-number = refl; same-state = refl; same-events = refl })
-    by ih (both-move {e} {s′} {mark}) p q = rw (made-run m n s e s′ mark p, moves-on m n s e s′ q) (then-as-kept (record { clock = s′ .clock; event = e }) (ih s′))
+    by : ((g′ : Moving) → AsKept (runFrom m n (freshly m g′)) (freshFrom m n g′)) → {st : Step} {mv : Move} → Same st mv
+        → stepWith m (g .store) (g .state) (freshTable (m .rules) (g .state)) ≡ st → moveWith m (g .store) (g .state) ≡ mv → AsKept (runFrom m (suc n) (freshly m g)) (freshFrom m (suc n) g)
+    by ih (both-stop {n = k}) p q = rw (stopped-kept m n g k p, stays-ends m n g k q) at-once
+    by ih (both-move {e} {s′} {mark}) p q = rw (made-run m n g e s′ mark p, moves-on m n g e s′ q) (then-as-kept (record { clock = s′ .clock; event = e }) (ih (onward m g e s′)))
 
--- ---- the call
+-- ---- the call, with words lent or none
 
 -- runs that are alike are answered alike
-alike-answers : {kept : Run Going} {fresh : Run State} → AsKept kept fresh → (at : ℕ) → freshRanBy at fresh ≡ answerOf (ranBy at kept)
+alike-answers : {kept : Run Going} {fresh : Run Moving} → AsKept kept fresh → (at : ℕ) → freshRanBy at fresh ≡ answerOf (ranBy at kept)
 alike-answers a at = rw (a .same-number, a .same-state, a .same-events) refl
 
-module _ (image : List ℕ) (s : State) (steps : ℕ) where
+module _ (image : List ℕ) (s : State) (steps : ℕ) (lent : Option (List ℕ)) where
   module _ (n at : ℕ) (d : decode image ≡ Refused n at) where
-    pub kept-refuses : (table : List ℕ) → traceOf image s table steps ≡ ends n (going s table)
-    unfolding traceOf accepted
+    pub kept-refuses : (table : List ℕ) → traceLent image s table steps lent ≡ ends n (going s table none)
+    unfolding traceLent accepted
     kept-refuses table = rw d refl
 
-    pub fresh-refuses : freshTraceOf image s steps ≡ ends n s
-    unfolding freshTraceOf
+    pub fresh-refuses : freshTraceLent image s steps lent ≡ ends n (alone s)
+    unfolding freshTraceLent
     fresh-refuses = rw d refl
 
-    pub both-refuse : (table : List ℕ) → (runOf image s table steps ≡ record { number = n; position = at; state = s; table = table; made = 0 })
-        × (freshOf image s steps ≡ record { number = n; position = at; state = s; made = 0 })
-    unfolding runOf freshOf accepted
+    pub both-refuse : (table : List ℕ) → (ranLent image s table steps lent ≡ record { number = n; position = at; state = s; table = table; made = 0 })
+        × (freshRanLent image s steps lent ≡ record { number = n; position = at; state = s; made = 0 })
+    unfolding accepted
     both-refuse table = (rw d (ap (ranBy at) (kept-refuses table)), rw d (ap (freshRanBy at) fresh-refuses))
 
-    pub both-silent : (table : List ℕ) → (traceOf image s table steps .events ≡ []) × (freshTraceOf image s steps .events ≡ [])
-    both-silent table = (ap (λ (r : Run Going). r .events) (kept-refuses table), ap (λ (r : Run State). r .events) fresh-refuses)
+    pub both-silent : (table : List ℕ) → (traceLent image s table steps lent .events ≡ []) × (freshTraceLent image s steps lent .events ≡ [])
+    both-silent table = (ap (λ (r : Run Going). r .events) (kept-refuses table), ap (λ (r : Run Moving). r .events) fresh-refuses)
 
   module _ (m : Model) (end : ℕ) (d : decode image ≡ Got m end) where
-    pub call-as-kept : AsKept (traceOf image s (freshTable (m .rules) s) steps) (freshTraceOf image s steps)
-    unfolding traceOf freshTraceOf accepted
-    call-as-kept =
-        rw (d, eq-eqb (length (freshTable (m .rules) s)) (9 * length (m .rules)) (fresh-length (m .rules) s))
-        (elim (wellFormed m s) as
-        (λ t. AsKept (if t then runFrom m steps (freshly m s) else (ends ill-formed (freshly m s))) (if t then freshFrom m steps s else (ends ill-formed s))) [
-          | true ↦ run-as-kept m steps s
-          | false ↦ record { same-number = refl; same-state = refl; same-events = refl }
-        ])
+    pub call-as-kept : AsKept (traceLent image s (freshTable (m .rules) s) steps lent) (freshTraceLent image s steps lent)
+    unfolding traceLent freshTraceLent accepted
+    call-as-kept = rw (d, eq-eqb (length (freshTable (m .rules) s)) (9 * length (m .rules)) (fresh-length (m .rules) s)) (by (not (wellFormed m s)) (not (storeFits (m .types) lent)))
+      where
+        g : Moving
+        g = moving s (storeOf lent)
+
+        by : (t u : Bool) → AsKept (if t then ends ill-formed (freshly m (alone s)) else (if u then ends bad-store (freshly m (alone s)) else runFrom m steps (freshly m g)))
+            (if t then ends ill-formed (alone s) else (if u then ends bad-store (alone s) else freshFrom m steps g))
+        by true u = at-once
+        by false true = at-once
+        by false false = run-as-kept m steps g
 
     -- neither has a position to tell
     same-place : placeOf (accepted image (freshTable (m .rules) s)) ≡ placeOf (decode image)
     unfolding accepted
     same-place = rw (d, eq-eqb (length (freshTable (m .rules) s)) (9 * length (m .rules)) (fresh-length (m .rules) s)) refl
 
-    pub answers-as-kept : freshOf image s steps ≡ answerOf (runOf image s (freshTable (m .rules) s) steps)
-    unfolding freshOf runOf
+    pub answers-as-kept : freshRanLent image s steps lent ≡ answerOf (ranLent image s (freshTable (m .rules) s) steps lent)
     answers-as-kept =
         alike-answers call-as-kept (placeOf (decode image))
-        ∙ ap (λ (at : ℕ). answerOf (ranBy at (traceOf image s (freshTable (m .rules) s) steps))) (sym same-place)
+        ∙ ap (λ (at : ℕ). answerOf (ranBy at (traceLent image s (freshTable (m .rules) s) steps lent))) (sym same-place)
 
 -- ---- a chain of calls is over an accepted image
 
@@ -193,64 +217,100 @@ opened-accepted image table e = by (decode image) refl
 
 reached-accepted : {image : List ℕ} {s : State} {table : List ℕ} → Reached image s table → Accepted image
 reached-accepted {image} (opened table e) = opened-accepted image table e
-reached-accepted (ran r steps) = reached-accepted r
+reached-accepted (ran r steps lent words) = reached-accepted r
 reached-accepted (refreshed r mark) = reached-accepted r
 reached-accepted (changed r s′ mark k same e) = reached-accepted r
 
-module _ {image : List ℕ} {s : State} {table : List ℕ} (r : Reached image s table) (steps : ℕ) where
-  pub reached-as-kept : AsKept (traceOf image s table steps) (freshTraceOf image s steps)
+module _ {image : List ℕ} {s : State} {table : List ℕ} (r : Reached image s table) (steps : ℕ) (lent : Option (List ℕ)) where
+  pub reached-as-kept : AsKept (traceLent image s table steps lent) (freshTraceLent image s steps lent)
   reached-as-kept =
       let a = reached-accepted r in
-      rw (chain-fresh image (a .model) (a .end) (a .reads) r) (call-as-kept image s steps (a .model) (a .end) (a .reads))
+      rw (chain-fresh image (a .model) (a .end) (a .reads) r) (call-as-kept image s steps lent (a .model) (a .end) (a .reads))
 
-  pub reached-answers : freshOf image s steps ≡ answerOf (runOf image s table steps)
+  pub reached-answers : freshRanLent image s steps lent ≡ answerOf (ranLent image s table steps lent)
   reached-answers =
       let a = reached-accepted r in
-      rw (chain-fresh image (a .model) (a .end) (a .reads) r) (answers-as-kept image s steps (a .model) (a .end) (a .reads))
+      rw (chain-fresh image (a .model) (a .end) (a .reads) r) (answers-as-kept image s steps lent (a .model) (a .end) (a .reads))
 
 -- ---- the transitions of the published semantics
 
-module _ (m : Model) (d : Decoded m) where
-  run-path : (n : ℕ) (s : State) → Transitions m (freshFrom m n s .events) s (freshFrom m n s .left)
-  run-path n s = let a = run-as-kept m n s in rw (a .same-events, a .same-state) (run-goes m d n s .path)
+module _ (m : Model) (d : RulesGood m) where
+  run-path : (n : ℕ) (g : Moving) → Transitions m (freshFrom m n g .events) g (freshFrom m n g .left)
+  run-path n g = let a = run-as-kept m n g in rw (a .same-events, ap₂ moving (a .same-state) (a .same-store)) (run-goes m d n g .path)
 
-  run-ended : (n : ℕ) (s : State) → Ended m n (length (freshFrom m n s .events)) (freshFrom m n s .left) (freshFrom m n s .number)
-  run-ended n s = let a = run-as-kept m n s in rw (a .same-events, a .same-state, a .same-number) (run-goes m d n s .ended)
+  run-ended : (n : ℕ) (g : Moving) → Ended m n (length (freshFrom m n g .events)) (freshFrom m n g .left) (freshFrom m n g .number)
+  run-ended n g = let a = run-as-kept m n g in rw (a .same-events, ap₂ moving (a .same-state) (a .same-store), a .same-number) (run-goes m d n g .ended)
 
-  -- a transition within the clock is the step that is made
-  goes-by : {e : Event} {s s′ : State} → Transition m s e s′ → s′ .clock ≤ largest → moveOf m s ≡ Moves e s′
-  goes-by {e} {s} {s′} t c = moves-exactly m (m .facts) (utilities (m .rules)) s e s′ .1 (transition-made m d s e s′ t c)
+  -- a step with the fresh table that is made, or not, is so without one
+  moves-with : (g : Moving) (e : Event) (s′ : State) (mark : ℕ) → stepWith m (g .store) (g .state) (freshTable (m .rules) (g .state)) ≡ Made e s′ mark
+      → moveWith m (g .store) (g .state) ≡ Moves e s′
+  moves-with g e s′ mark q = same-moves (same-with m (g .store) (g .state)) e s′ .1 (mark, q)
 
-  stays-by : (s : State) (n : ℕ) → stepOf m s (freshTable (m .rules) s) ≡ Stopped n → moveOf m s ≡ Stays n
-  stays-by s n q = stays-exactly m (m .facts) (utilities (m .rules)) s n .1 q
+  stays-with : (g : Moving) (n : ℕ) → Unmade m (g .store) (g .state) (knownStep m g) n → moveWith m (g .store) (g .state) ≡ Stays n
+  stays-with g n u = same-stays (same-with m (g .store) (g .state)) n .1 (stopped-with m (g .store) (g .state) (freshTable (m .rules) (g .state)) u)
 
-  none-asked : {made number : ℕ} {s : State} → Ended m zero (suc made) s number → ⊥
+  -- a transition within the clock, whose facts have room, is the step that is made
+  goes-by : {e : Event} (g : Moving) {s′ : State} → Transition (knowing m (g .store)) (g .state) e s′ → s′ .clock ≤ largest → overfull (onward m g e s′ .store) ≡ false
+      → moveWith m (g .store) (g .state) ≡ Moves e s′
+  goes-by {e} g {s′} t c o =
+      let k = transition-made (knowing m (g .store)) (good-known m d (g .store)) (g .state) e s′ t c in
+      moves-with g e s′ (k .0) (made-with m (g .store) (g .state) (freshTable (m .rules) (g .state)) e s′ (k .0) (known-step m g ∙ k .1) o)
+
+  none-asked : {made number : ℕ} {g : Moving} → Ended m zero (suc made) g number → ⊥
   none-asked (done e) = omega arith
   none-asked (full l p) = omega arith
   none-asked (over l p) = omega arith
+  none-asked (crowded l p) = omega arith
 
-  shorter : {asked made number : ℕ} {s : State} → Ended m (suc asked) (suc made) s number → Ended m asked made s number
+  shorter : {asked made number : ℕ} {g : Moving} → Ended m (suc asked) (suc made) g number → Ended m asked made g number
   shorter (done e) = done (omega arith)
   shorter (full l p) = full (omega arith) p
   shorter (over l p) = over (omega arith) p
+  shorter (crowded l p) = crowded (omega arith) p
 
   -- where a path ends, the run does
-  ends-by : {es : List Timed} {s s′ : State} → Transitions m es s s′ → (asked : ℕ) {number : ℕ} → Ended m asked (length es) s′ number → freshFrom m asked s .number ≡ number
+  ends-by : {es : List Timed} {g g′ : Moving} → Transitions m es g g′ → (asked : ℕ) {number : ℕ} → Ended m asked (length es) g′ number → freshFrom m asked g .number ≡ number
   unfolding freshFrom
   ends-by no-step zero (done e) = refl
   ends-by no-step zero (full l p) = absurd (omega arith)
   ends-by no-step zero (over l p) = absurd (omega arith)
+  ends-by no-step zero (crowded l p) = absurd (omega arith)
   ends-by no-step (suc k) (done e) = absurd (omega arith)
-  ends-by (no-step {s}) (suc k) (full l p) = rw (stays-by s 8 (passes-full m d s p)) refl
-  ends-by (no-step {s}) (suc k) (over l p) = rw (stays-by s 9 (final-halt m d s p)) refl
-  ends-by (one-step t c rest) zero h = absurd (none-asked h)
-  ends-by (one-step t c rest) (suc k) h = rw (goes-by t c) (ends-by rest k (shorter h))
+  ends-by (no-step {g}) (suc k) (full l p) =
+      rw (stays-with g 8 (as-known (known-step m g ∙ passes-full (knowing m (g .store)) (good-known m d (g .store)) (g .state) p))) refl
+  ends-by (no-step {g}) (suc k) (over l p) =
+      rw (stays-with g 9 (as-known (known-step m g ∙ final-halt (knowing m (g .store)) (good-known m d (g .store)) (g .state) p))) refl
+  ends-by (no-step {g}) (suc k) (crowded l p) =
+      let t = transition-made (knowing m (g .store)) (good-known m d (g .store)) (g .state) (p .event) (p .state) (p .transition) (p .in-time) in
+      rw (stays-with g 14 (crowding (known-step m g ∙ t .1) (p .too-many))) refl
+  ends-by (one-step t c o rest) zero h = absurd (none-asked h)
+  ends-by (one-step {g = g} t c o rest) (suc k) h = rw (goes-by g t c o) (ends-by rest k (shorter h))
 
--- 0, 8 or 9
-pub ended-number : {m : Model} {asked made n : ℕ} {s : State} → Ended m asked made s n → (n ≡ 0) ⊎ ((n ≡ 8) ⊎ (n ≡ 9))
+-- 0, 8 or 9, or 14
+pub ended-number : {m : Model} {asked made n : ℕ} {g : Moving} → Ended m asked made g n → (n ≡ 0) ⊎ ((n ≡ 8) ⊎ ((n ≡ 9) ⊎ (n ≡ 14)))
 ended-number (done e) = inl refl
 ended-number (full l p) = inr (inl refl)
-ended-number (over l p) = inr (inr refl)
+ended-number (over l p) = inr (inr (inl refl))
+ended-number (crowded l p) = inr (inr (inr refl))
+
+-- where nothing is lent, 14 is not
+none-crowds : (m : Model) (g : Moving) → g .store ≡ none → Crowds m g → ⊥
+none-crowds m g q c = never (g .store) q (c .too-many)
+  where
+    never : (store : Option (List Chunk)) → store ≡ none → overfull (storeAfter m (g .state) (c .event) store) ≡ true → ⊥
+    never none q o = no-true (sym o)
+    never (some cs) q o = let z : _≡_ {A = ℕ} 0 1 = cc in omega arith
+
+-- nor along a path
+pub stays-alone : {m : Model} {es : List Timed} {g g′ : Moving} → Transitions m es g g′ → g .store ≡ none → g′ .store ≡ none
+stays-alone no-step q = q
+stays-alone {m} (one-step {e} {g = g} t c o rest) q = stays-alone rest (ap (storeAfter m (g .state) e) q)
+
+pub ended-alone : {m : Model} {asked made n : ℕ} {g : Moving} → g .store ≡ none → Ended m asked made g n → (n ≡ 0) ⊎ ((n ≡ 8) ⊎ (n ≡ 9))
+ended-alone q (done e) = inl refl
+ended-alone q (full l p) = inr (inl refl)
+ended-alone q (over l p) = inr (inr refl)
+ended-alone {m} {g = g} q (crowded l p) = absurd (none-crowds m g q p)
 
 -- which numbers there are
 data Number : ℕ → Type 0 where
@@ -267,81 +327,107 @@ none-other n (of-steps (inl q)) = (λ e. omega arith, λ e. omega arith, λ e. o
 none-other n (of-steps (inr (inl q))) = (λ e. omega arith, λ e. omega arith, λ e. omega arith, omega arith)
 none-other n (of-steps (inr (inr q))) = (λ e. omega arith, λ e. omega arith, λ e. omega arith, omega arith)
 
-module _ (image : List ℕ) (s : State) (asked : ℕ) where
-  -- by whether the state is well formed
-  abbrev runs : Model → Bool → Run State
-  runs m t = if t then freshFrom m asked s else (ends ill-formed s)
+module _ (image : List ℕ) (s : State) (lent : Option (List ℕ)) (asked : ℕ) where
+  -- by whether the state is well formed, and the words that are lent fit
+  abbrev runs : Model → Bool → Bool → Run Moving
+  runs m t u = if not t then ends ill-formed (alone s) else (if not u then ends bad-store (alone s) else freshFrom m asked (moving s (storeOf lent)))
 
-  well-traced : (m : Model) (end : ℕ) → decode image ≡ Got m end → wellFormed m s ≡ true → freshTraceOf image s asked ≡ freshFrom m asked s
-  unfolding freshTraceOf
-  well-traced m end e w = rw (e, w) refl
+  well-traced : (m : Model) (end : ℕ) → decode image ≡ Got m end → wellFormed m s ≡ true → storeFits (m .types) lent ≡ true
+      → freshTraceLent image s asked lent ≡ freshFrom m asked (moving s (storeOf lent))
+  unfolding freshTraceLent
+  well-traced m end e w f = rw (e, w, f) refl
 
-  pub follows : (m : Model) (end : ℕ) → decode image ≡ Got m end → wellFormed m s ≡ true
-      → let r : Run State = freshTraceOf image s asked in Follows m s asked (r .events) (r .left) (length (r .events)) (r .number)
-  follows m end e w =
-      let d : Decoded m = decoded image m end e in
-      rw (well-traced m end e w) (record {
-        path = run-path m d asked s;
+  pub follows : (m : Model) (end : ℕ) → decode image ≡ Got m end → wellFormed m s ≡ true → storeFits (m .types) lent ≡ true
+      → let r : Run Moving = freshTraceLent image s asked lent in Follows m (moving s (storeOf lent)) asked (r .events) (r .left) (length (r .events)) (r .number)
+  follows m end e w f =
+      let d : RulesGood m = decoded image m end e .rules-good in
+      let g : Moving = moving s (storeOf lent) in
+      rw (well-traced m end e w f) (record {
+        path = run-path m d asked g;
         counted = refl;
-        no-other = λ es s″ p l. transitions-once m d p (run-path m d asked s) l;
-        ended = run-ended m d asked s;
+        no-other = λ es g″ p l. transitions-once m d p (run-path m d asked g) l;
+        ended = run-ended m d asked g;
       })
-
-  pub call-follows : (m : Model) (end : ℕ) → decode image ≡ Got m end → wellFormed m s ≡ true
-      → let a : FreshRan = freshOf image s asked in Follows m s asked (freshTraceOf image s asked .events) (a .state) (a .made) (a .number)
-  unfolding freshOf
-  call-follows m end e w = follows m end e w
 
   -- ---- the numbers
 
-  row : (m : Model) (end : ℕ) → decode image ≡ Got m end → (n : ℕ) → (freshBy s asked (Got m end) .number ≡ n) ↔ AfterFresh s asked m n
-  row m end e n = (there (wellFormed m s) refl, back)
+  row : (m : Model) (end : ℕ) → decode image ≡ Got m end → (n : ℕ) → (freshBy s lent asked (Got m end) .number ≡ n) ↔ AfterFresh s lent asked m n
+  row m end e n = (there (wellFormed m s) (storeFits (m .types) lent) refl refl, back)
     where
-      d : Decoded m
-      d = decoded image m end e
+      d : RulesGood m
+      d = decoded image m end e .rules-good
 
-      there : (t : Bool) → wellFormed m s ≡ t → runs m t .number ≡ n → AfterFresh s asked m n
-      there true w q = subst (AfterFresh s asked m) q (moved w (run-path m d asked s) (run-ended m d asked s))
-      there false w q = subst (AfterFresh s asked m) q (unsound w)
+      there : (t u : Bool) → wellFormed m s ≡ t → storeFits (m .types) lent ≡ u → runs m t u .number ≡ n → AfterFresh s lent asked m n
+      there true true w f q = subst (AfterFresh s lent asked m) q (let g : Moving = moving s (storeOf lent) in moved w f (run-path m d asked g) (run-ended m d asked g))
+      there true false w f q = subst (AfterFresh s lent asked m) q (unfitting w f)
+      there false u w f q = subst (AfterFresh s lent asked m) q (unsound w)
 
-      back : {k : ℕ} → AfterFresh s asked m k → freshBy s asked (Got m end) .number ≡ k
+      back : {k : ℕ} → AfterFresh s lent asked m k → freshBy s lent asked (Got m end) .number ≡ k
       back (unsound w) = rw w refl
-      back (moved w path by) = rw w (ends-by m d path asked by)
+      back (unfitting w f) = rw (w, f) refl
+      back (moved w f path by) = rw (w, f) (ends-by m d path asked by)
 
-  pub number-exactly : (n : ℕ) → (freshOf image s asked .number ≡ n) ↔ GivenBare image (AfterFresh s asked) n
-  unfolding freshOf freshTraceOf
-  number-exactly n = exactly-bare image (λ r. freshBy s asked r .number) (AfterFresh s asked) (λ k at. refl) row n
+  pub number-exactly : (n : ℕ) → (freshRanLent image s asked lent .number ≡ n) ↔ GivenBare image (AfterFresh s lent asked) n
+  unfolding freshTraceLent
+  number-exactly n = exactly-bare image (λ r. freshBy s lent asked r .number) (AfterFresh s lent asked) (λ k at. refl) row n
 
-  pub number-taken : (m : Model) (end : ℕ) → decode image ≡ Got m end → wellFormed m s ≡ true
-      → let n : ℕ = freshOf image s asked .number in (n ≡ 0) ⊎ ((n ≡ 8) ⊎ (n ≡ 9))
-  number-taken m end e w = ended-number (call-follows m end e w .ended)
-
-  given-number : (n : ℕ) → GivenBare image (AfterFresh s asked) n → Number n
-  given-number n (refused u) = let r = unread-range image u in of-image (r .0) (r .1)
-  given-number n (read h e (unsound w)) = of-state
-  given-number n (read h e (moved w path by)) = of-steps (ended-number by)
-
-  pub number-never : let n : ℕ = freshOf image s asked .number in (n ≡ 5 → ⊥) × (n ≡ 7 → ⊥) × (n ≡ 10 → ⊥) × (n < 14)
-  number-never = let n : ℕ = freshOf image s asked .number in none-other n (given-number n (number-exactly n .0 refl))
-
-  refused-left : (r : Read Model) → decode image ≡ r → let t : Run State = freshBy s asked r in Beforehand (t .number) → t ≡ ends (t .number) s
+  refused-left : (r : Read Model) → decode image ≡ r → let t : Run Moving = freshBy s lent asked r in Beforehand (t .number) → t ≡ ends (t .number) (alone s)
   refused-left (Refused n at) e b = refl
-  refused-left (Got m end) e b = by (wellFormed m s) b
+  refused-left (Got m end) e b = by (wellFormed m s) (storeFits (m .types) lent) b
     where
-      late : (n : ℕ) → (n ≡ 0) ⊎ ((n ≡ 8) ⊎ (n ≡ 9)) → Beforehand n → ⊥
+      late : (n : ℕ) → (n ≡ 0) ⊎ ((n ≡ 8) ⊎ ((n ≡ 9) ⊎ (n ≡ 14))) → Beforehand n → ⊥
       late n (inl q) h = omega (arith, h .0)
       late n (inr (inl q)) h = ⊎-elim (λ (l : n < 7). omega arith) (λ (l : 9 < n). omega arith) (h .1)
-      late n (inr (inr q)) h = ⊎-elim (λ (l : n < 7). omega arith) (λ (l : 9 < n). omega arith) (h .1)
+      late n (inr (inr (inl q))) h = ⊎-elim (λ (l : n < 7). omega arith) (λ (l : 9 < n). omega arith) (h .1)
+      late n (inr (inr (inr q))) h = h .2 q
 
-      by : (t : Bool) → Beforehand (runs m t .number) → runs m t ≡ ends (runs m t .number) s
-      by true h = absurd (late (freshFrom m asked s .number) (ended-number (run-ended m (decoded image m end e) asked s)) h)
-      by false h = refl
+      by : (t u : Bool) → Beforehand (runs m t u .number) → runs m t u ≡ ends (runs m t u .number) (alone s)
+      by true true h =
+          let g : Moving = moving s (storeOf lent) in absurd (late (freshFrom m asked g .number) (ended-number (run-ended m (decoded image m end e .rules-good) asked g)) h)
+      by true false h = refl
+      by false u h = refl
 
-  pub call-refused : Beforehand (freshOf image s asked .number)
-      → freshOf image s asked ≡ record { number = freshOf image s asked .number; position = freshOf image s asked .position; state = s; made = 0 }
-  unfolding freshOf freshTraceOf
-  call-refused b = ap (freshRanBy (placeOf (decode image))) (refused-left (decode image) refl b)
+  pub left-refused : Beforehand (freshRanLent image s asked lent .number) → freshTraceLent image s asked lent ≡ ends (freshRanLent image s asked lent .number) (alone s)
+  unfolding freshTraceLent
+  left-refused b = refused-left (decode image) refl b
 
-  pub call-untold : Beforehand (freshOf image s asked .number) → freshTraceOf image s asked .events ≡ []
-  unfolding freshOf freshTraceOf
-  call-untold b = ap (λ (r : Run State). r .events) (refused-left (decode image) refl b)
+  pub call-refused : Beforehand (freshRanLent image s asked lent .number)
+      → let a : FreshRan = freshRanLent image s asked lent in a ≡ record { number = a .number; position = a .position; state = s; made = 0 }
+  call-refused b = ap (freshRanBy (placeOf (decode image))) (left-refused b)
+
+  -- with a store: 15 besides, and 14
+  pub lent-never : let n : ℕ = freshRanLent image s asked lent .number in (n ≡ 5 → ⊥) × (n ≡ 7 → ⊥) × (n ≡ 10 → ⊥) × (n < 16)
+  lent-never = let n : ℕ = freshRanLent image s asked lent .number in by n (number-exactly n .0 refl)
+    where
+      below : (n : ℕ) → (n ≡ 5 → ⊥) × (n ≡ 7 → ⊥) × (n ≡ 10 → ⊥) × (n < 14) → (n ≡ 5 → ⊥) × (n ≡ 7 → ⊥) × (n ≡ 10 → ⊥) × (n < 16)
+      below n h = (h .0, h .1, h .2, omega (arith, h .3))
+
+      by-end : (n : ℕ) → (n ≡ 0) ⊎ ((n ≡ 8) ⊎ ((n ≡ 9) ⊎ (n ≡ 14))) → (n ≡ 5 → ⊥) × (n ≡ 7 → ⊥) × (n ≡ 10 → ⊥) × (n < 16)
+      by-end n (inl q) = (λ e. omega arith, λ e. omega arith, λ e. omega arith, omega arith)
+      by-end n (inr (inl q)) = (λ e. omega arith, λ e. omega arith, λ e. omega arith, omega arith)
+      by-end n (inr (inr (inl q))) = (λ e. omega arith, λ e. omega arith, λ e. omega arith, omega arith)
+      by-end n (inr (inr (inr q))) = (λ e. omega arith, λ e. omega arith, λ e. omega arith, omega arith)
+
+      by : (n : ℕ) → GivenBare image (AfterFresh s lent asked) n → (n ≡ 5 → ⊥) × (n ≡ 7 → ⊥) × (n ≡ 10 → ⊥) × (n < 16)
+      by n (refused u) = let r = unread-range image u in below n (none-other n (of-image (r .0) (r .1)))
+      by n (read h e (unsound w)) = (λ e. omega arith, λ e. omega arith, λ e. omega arith, omega arith)
+      by n (read h e (unfitting w f)) = (λ e. omega arith, λ e. omega arith, λ e. omega arith, omega arith)
+      by n (read h e (moved w f path q)) = by-end n (ended-number q)
+
+-- ---- where nothing is lent
+
+module _ (image : List ℕ) (s : State) (asked : ℕ) where
+  pub number-taken : (m : Model) (end : ℕ) → decode image ≡ Got m end → wellFormed m s ≡ true
+      → let n : ℕ = freshRanLent image s asked none .number in (n ≡ 0) ⊎ ((n ≡ 8) ⊎ (n ≡ 9))
+  unfolding storeFits
+  number-taken m end e w = let h = follows image s none asked m end e w refl in ended-alone (stays-alone (h .path) refl) (h .ended)
+
+  given-number : (n : ℕ) → GivenBare image (AfterFresh s none asked) n → Number n
+  unfolding storeFits
+  given-number n (refused u) = let r = unread-range image u in of-image (r .0) (r .1)
+  given-number n (read h e (unsound w)) = of-state
+  given-number n (read h e (unfitting w f)) = absurd (no-true f)
+  given-number n (read h e (moved w f path by)) = of-steps (ended-alone (stays-alone path refl) by)
+
+  pub number-never : let n : ℕ = freshRanLent image s asked none .number in (n ≡ 5 → ⊥) × (n ≡ 7 → ⊥) × (n ≡ 10 → ⊥) × (n < 14)
+  number-never = let n : ℕ = freshRanLent image s asked none .number in none-other n (given-number n (number-exactly image s none asked n .0 refl))

@@ -2,6 +2,7 @@
 use mathlib.Core.Path.{_≡_, refl, sym}
 use mathlib.Core.Bool.{Bool, true, false, _&&_, _||_, not}
 use mathlib.Core.List.{List, [], _∷_}
+use mathlib.Core.Option.{Option, none, some}
 use Prim.Native.Nat.{ℕ, zero, suc, _+_, _-_, _%_, _^_, _≤_, _<_}
 use native.Mathlib.Omega.{arith}
 use borrow.Author.Tests.{ltb-true, ltb-false, lt-ltb, le-leb, eqb-true, eq-eqb}
@@ -9,12 +10,12 @@ use lib.Dec.{ltb, leb, eqb}
 use lib.ListN.{length}
 use Rattle.meaning.specs.Base.{if_then_else_, every, upFrom}
 use Rattle.meaning.specs.Numbers.{finer, bad-variable, bad-buffer, bad-mask, bad-number}
-use Rattle.meaning.specs.Model.{Model, Sizes, Rule, Test, Action, Deed, Modify, Request, Clear, Named, Term, Symbol, Variable, Fact}
-use Rattle.meaning.specs.State.{slotCount, wellBuffer}
+use Rattle.meaning.specs.Model.{Model, Sizes, Rule, Test, Action, Deed, Modify, Request, Clear, Named, Term, Symbol, Variable, Chunk, Fact}
+use Rattle.meaning.specs.State.{slotCount, wellBuffer, opens}
 use Rattle.meaning.specs.Read.{Got, Reader, field, require, rising, must}
 use Rattle.meaning.specs.Image.{anything, between, aType, aBuffer, aMask, aTerm, kindRule, Header, header, chunk, fact, slotsIn, termOf, terms, masked}
 use Rattle.meaning.specs.Image.{tests, standsIn, isTested, testedType, deed, action, actions, utilityOf, head, body, rule, decode}
-use Rattle.meaning.specs.Calls.{opens}
+use Rattle.meaning.specs.Learning.{knowing}
 use Rattle.laws.specs.BaseLaws.{no-true, and-left, and-right, every-upFrom, by-lt}
 use Rattle.laws.specs.BitsLaws.{fieldAt-lt}
 use Rattle.laws.specs.ReadLaws.{no-got, FieldRead, field-got, must-kept, times-all, split}
@@ -226,6 +227,14 @@ pub record Decoded (m : Model) : Type 0 where
   pub opens-all : length (m .opening) ≡ m .buffers
   pub facts-well : every (λ f. wellBuffer (m .types) (opens (f .chunk))) (m .facts) ≡ true
   pub rules-good : every (goodRule (m .buffers) (m .types)) (m .rules) ≡ true
+
+-- what the transitions take of it; what is known besides the image's facts alters none of it
+abbrev pub RulesGood : Model → Type 0
+RulesGood m = every (goodRule (m .buffers) (m .types)) (m .rules) ≡ true
+
+pub good-known : (m : Model) → RulesGood m → (store : Option (List Chunk)) → RulesGood (knowing m store)
+good-known m d none = d
+good-known m d (some cs) = d
 
 pub decoded : (image : List ℕ) (m : Model) (at : ℕ) → decode image ≡ Got m at → Decoded m
 decoded image m at e =

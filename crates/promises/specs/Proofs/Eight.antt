@@ -6,12 +6,12 @@ use native.Mathlib.Omega.{arith}
 use lib.ListN.{length, replicate, length-append, length-map, length-replicate}
 use Rattle.meaning.specs.declared.State.{State}
 use Rattle.meaning.specs.Model.{Model, Rule, Fact}
-use Rattle.meaning.specs.State.{nilAfter}
+use Rattle.meaning.specs.State.{nilAfter, opens}
 use Rattle.meaning.specs.Choice.{utilities}
 use Rattle.meaning.specs.Fire.{later, after, deedOn, fire}
 use Rattle.meaning.specs.Wait.{wait}
 use Rattle.meaning.specs.Step.{Event, Fired, Waited, Made, stepOf}
-use Rattle.meaning.specs.Calls.{opens, openState}
+use Rattle.meaning.specs.Calls.{openState}
 use Rattle.promises.specs.Proofs.Decoded.{Decoded}
 use Rattle.laws.specs.MarkLaws.{length-change}
 use Rattle.promises.specs.Proofs.Steps.{FiredBy, WaitedBy, step-fired, step-waited}

@@ -94,7 +94,7 @@ module _ (m : Model) (known : Decoded m) (memory : List Fact) (us : List ℤ) (s
   good : (d : Deed) → deedOn (r .actions) b ≡ some d → goodDeed (m .types) (r .tests) b d ≡ true
   good d is =
       let by : Doer (r .actions) b d = deed-some (r .actions) b d is in
-      let own = good-deed m known s k r numbered (match .binding) (match .binds) (by .action) (by .member) in
+      let own = good-deed m (known .rules-good) s k r numbered (match .binding) (match .binds) (by .action) (by .member) in
       subst (λ i. goodDeed (m .types) (r .tests) i d ≡ true) (by .buffer-is′) (subst (λ x. goodDeed (m .types) (r .tests) (by .action .buffer) x ≡ true) (by .deed-is) own)
 
   after-it : (d : Deed) → deedOn (r .actions) b ≡ some d → bufferOf s′ b ≡ done (m .failure) memory (entryOf r s) (bufferOf s b) d

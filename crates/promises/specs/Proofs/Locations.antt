@@ -2,6 +2,7 @@
 use mathlib.Core.Path.{_≡_, refl}
 use mathlib.Core.Logic.{_⊎_, inl, inr}
 use mathlib.Core.List.{List}
+use mathlib.Core.Option.{Option}
 use Prim.Native.Nat.{ℕ, _*_, _≤_, _<_}
 use native.Mathlib.Omega.{arith}
 use lib.ListN.{length}
@@ -10,15 +11,15 @@ use Rattle.meaning.specs.Numbers.{finer, wrong-table}
 use Rattle.meaning.specs.Model.{Model}
 use Rattle.meaning.specs.Read.{Read, Refused, Got}
 use Rattle.meaning.specs.Image.{decode}
-use Rattle.meaning.specs.Calls.{accepted, placeOf, neededBy, neededOf, openOf, runOf, refreshOf}
-use Rattle.meaning.specs.Fresh.{freshOf}
+use Rattle.meaning.specs.Calls.{accepted, placeOf, neededBy, neededOf, openOf, refreshOf}
 use Rattle.laws.specs.CallsLaws.{open-placed, refresh-placed}
 use Rattle.laws.specs.PlaceLaws.{decode-within}
+use Rattle.promises.specs.Words.{ranLent, freshRanLent}
 use Rattle.promises.specs.Sentences.{Given, unread, unfit, taken, GivenBare, refused, read}
-use Rattle.promises.specs.Sentences.{AfterOpen, AfterRefresh, ill, high, renewed, AfterRun, unwell, went, AfterFresh, unsound, moved}
-use Rattle.promises.specs.Sentences.{enough, before-that, stale, late-fire, late-wait, quiet}
+use Rattle.promises.specs.Sentences.{AfterOpen, AfterRefresh, ill, high, renewed, AfterRun, unwell, misfit, went, AfterFresh, unsound, unfitting, moved}
+use Rattle.promises.specs.Sentences.{enough, before-that, no-room, stale, late-fire, late-wait, quiet}
 use Rattle.promises.specs.Places.{HasPlace, Located, nowhere}
-use Rattle.promises.specs.Proofs.Reading.{no-place}
+use Rattle.promises.specs.Proofs.Reading.{no-place, no-place-late}
 use Rattle.promises.specs.Proofs.Placed.{decode-short, refused-located}
 use Rattle.promises.specs.Proofs.Numbers.{unread-refused, refused-accepted, unfit-accepted, taken-accepted, open-number, run-number, refresh-number}
 use Rattle.promises.specs.Proofs.Afresh.{ended-number, number-exactly}
@@ -60,19 +61,20 @@ module _ (image table : List ℕ) where
       by m n (high w l) = inr (omega arith, omega arith)
       by m n (renewed w l) = inl (omega arith)
 
-  pub run-located : (s : State) (asked : ℕ) → Located image (runOf image s table asked .number) (runOf image s table asked .position)
-  unfolding runOf
-  run-located s asked =
-      let n : ℕ = runOf image s table asked .number in
-      given-located image table (AfterRun s table asked) (λ m k a. no-place k (by m k a)) n (run-number image table s asked n .0 refl)
+  pub run-located : (s : State) (lent : Option (List ℕ)) (asked : ℕ) → Located image (ranLent image s table asked lent .number) (ranLent image s table asked lent .position)
+  run-located s lent asked =
+      let n : ℕ = ranLent image s table asked lent .number in
+      given-located image table (AfterRun s table lent asked) by n (run-number image table s lent asked n .0 refl)
     where
-      by : (m : Model) (n : ℕ) → AfterRun s table asked m n → Elsewhere n
-      by m n (unwell w) = inr (omega arith, omega arith)
-      by m n (went w p (enough e)) = inl (omega arith)
-      by m n (went w p (before-that l (stale o d))) = inr (omega arith, omega arith)
-      by m n (went w p (before-that l (late-fire o d e))) = inr (omega arith, omega arith)
-      by m n (went w p (before-that l (late-wait o d e))) = inr (omega arith, omega arith)
-      by m n (went w p (before-that l (quiet o d))) = inr (omega arith, omega arith)
+      by : (m : Model) (n : ℕ) → AfterRun s table lent asked m n → HasPlace n → ⊥
+      by m n (unwell w) = no-place n (inr (omega arith, omega arith))
+      by m n (misfit w f) = no-place-late n (omega arith)
+      by m n (went w f p (enough e)) = no-place n (inl (omega arith))
+      by m n (went w f p (before-that l (stale o d))) = no-place n (inr (omega arith, omega arith))
+      by m n (went w f p (before-that l (late-fire o d e))) = no-place n (inr (omega arith, omega arith))
+      by m n (went w f p (before-that l (late-wait o d e))) = no-place n (inr (omega arith, omega arith))
+      by m n (went w f p (before-that l (quiet o d))) = no-place n (inr (omega arith, omega arith))
+      by m n (went w f p (no-room l q o)) = no-place-late n (omega arith)
 
 -- ---- a call without a table
 -- the table's length
@@ -86,20 +88,21 @@ module _ (image : List ℕ) where
       by (Refused n at) d = refused-located image n at d
       by (Got m end) d = nowhere (no-place 0 (inl (omega arith)))
 
-  module _ (s : State) (asked : ℕ) where
-    bare-elsewhere : (m : Model) (n : ℕ) → AfterFresh s asked m n → Elsewhere n
-    bare-elsewhere m n (unsound w) = inr (omega arith, omega arith)
-    bare-elsewhere m n (moved w p e) = by (ended-number e)
+  module _ (s : State) (lent : Option (List ℕ)) (asked : ℕ) where
+    bare-elsewhere : (m : Model) (n : ℕ) → AfterFresh s lent asked m n → HasPlace n → ⊥
+    bare-elsewhere m n (unsound w) = no-place n (inr (omega arith, omega arith))
+    bare-elsewhere m n (unfitting w f) = no-place-late n (omega arith)
+    bare-elsewhere m n (moved w f p e) = by (ended-number e)
       where
-        by : (n ≡ 0) ⊎ ((n ≡ 8) ⊎ (n ≡ 9)) → Elsewhere n
-        by (inl q) = inl (omega arith)
-        by (inr (inl q)) = inr (omega arith, omega arith)
-        by (inr (inr q)) = inr (omega arith, omega arith)
+        by : (n ≡ 0) ⊎ ((n ≡ 8) ⊎ ((n ≡ 9) ⊎ (n ≡ 14))) → HasPlace n → ⊥
+        by (inl q) = no-place n (inl (omega arith))
+        by (inr (inl q)) = no-place n (inr (omega arith, omega arith))
+        by (inr (inr (inl q))) = no-place n (inr (omega arith, omega arith))
+        by (inr (inr (inr q))) = no-place-late n (omega arith)
 
-    bare-located : (n : ℕ) → GivenBare image (AfterFresh s asked) n → Located image n (placeOf (decode image))
+    bare-located : (n : ℕ) → GivenBare image (AfterFresh s lent asked) n → Located image n (placeOf (decode image))
     bare-located n (refused u) = let d = unread-refused image u in rw (d .1) (refused-located image n (d .0) (d .1))
-    bare-located n (read {m} {end} h e a) = rw (decode-short image h, e) (nowhere (no-place n (bare-elsewhere m n a)))
+    bare-located n (read {m} {end} h e a) = rw (decode-short image h, e) (nowhere (bare-elsewhere m n a))
 
-    pub fresh-located : Located image (freshOf image s asked .number) (freshOf image s asked .position)
-    unfolding freshOf
-    fresh-located = bare-located (freshOf image s asked .number) (number-exactly image s asked (freshOf image s asked .number) .0 refl)
+    pub fresh-located : Located image (freshRanLent image s asked lent .number) (freshRanLent image s asked lent .position)
+    fresh-located = bare-located (freshRanLent image s asked lent .number) (number-exactly image s lent asked (freshRanLent image s asked lent .number) .0 refl)

@@ -2,7 +2,8 @@
 use mathlib.Core.Path.{_≡_, refl, sym, ap, subst, _∙_}
 use mathlib.Core.Logic.{_↔_, _⊎_, inl, inr, ⊎-elim}
 use mathlib.Core.Bool.{Bool, true, false, not}
-use mathlib.Core.List.{List, []}
+use mathlib.Core.List.{List}
+use mathlib.Core.Option.{Option, none, some}
 use Prim.Native.Nat.{ℕ, zero, suc, _*_, _^_, _≤_, _<_}
 use native.Mathlib.Omega.{arith}
 use borrow.Author.Tests.{leb-true, leb-false, le-leb, lt-leb, eqb-true, eqb-false, eq-eqb, ne-eqb}
@@ -10,23 +11,27 @@ use lib.Dec.{leb, eqb}
 use lib.ListN.{length}
 use Rattle.meaning.specs.declared.State.{State}
 use Rattle.meaning.specs.Base.{if_then_else_}
-use Rattle.meaning.specs.Numbers.{finer, all-done, too-long, wrong-table, ill-formed, bad-mark}
-use Rattle.meaning.specs.Model.{Model}
+use Rattle.meaning.specs.Numbers.{finer, all-done, too-long, wrong-table, ill-formed, bad-mark, bad-store}
+use Rattle.meaning.specs.Model.{Model, Chunk}
 use Rattle.meaning.specs.State.{zeroState, wellFormed}
 use Rattle.meaning.specs.Read.{Read, Refused, Got}
 use Rattle.meaning.specs.Image.{model, decode}
 use Rattle.meaning.specs.Match.{freshTable}
 use Rattle.meaning.specs.Refresh.{refresh, refreshCount}
-use Rattle.meaning.specs.Step.{Step, Stopped, Made, stepOf}
+use Rattle.meaning.specs.Step.{Event, Step, Stopped, Made, stepOf}
+use Rattle.meaning.specs.Learning.{knowing, storeAfter, overfull, stepWith}
+use Rattle.meaning.specs.Store.{storeFits, storeOf}
 use Rattle.meaning.specs.Run.{Going, going, Timed, Run, ends, goOn, runFrom}
-use Rattle.meaning.specs.Calls.{accepted, placeOf, neededOf, openState, openedBy, openOf, tracedBy, traceOf, ranBy, runOf, Refreshed, refreshedBy, refreshOf}
-use Rattle.laws.specs.BaseLaws.{by-lt}
+use Rattle.meaning.specs.Calls.{accepted, placeOf, neededOf, openState, openedBy, openOf, tracedBy, traceLent, Ran, ranBy, runOf, Refreshed, refreshedBy, refreshOf}
+use Rattle.laws.specs.BaseLaws.{by-lt, no-true}
+use Rattle.promises.specs.Words.{ranLent}
 use Rattle.promises.specs.Sentences.{of-a-variable, Stops, missing, broken, unbound, unended, Beforehand, Unread, over, lacking, against, trailing, Taken}
 use Rattle.promises.specs.Sentences.{Given, unread, unfit, taken, GivenBare, refused, read}
 use Rattle.promises.specs.Sentences.{AfterOpen, AfterRefresh, ill, high, renewed, stale, late-fire, late-wait, quiet}
-use Rattle.promises.specs.Sentences.{Steps, none-made, then-made, EndsBy, enough, before-that, AfterRun, unwell, went, RanTo}
+use Rattle.promises.specs.Sentences.{Steps, none-made, then-made, EndsBy, enough, before-that, no-room, AfterRun, unwell, misfit, went, RanTo}
 use Rattle.promises.specs.Proofs.Reading.{above, rule-range}
 use Rattle.promises.specs.Proofs.Placed.{decode-long, decode-short, decode-got, model-stops}
+use Rattle.promises.specs.Proofs.Knowing.{Unmade, as-known, crowding, with-stopped, stopped-with}
 use Rattle.promises.specs.Proofs.Stopping.{stopped-why, why-stopped}
 
 -- ---- an image
@@ -202,84 +207,100 @@ module _ (image table : List ℕ) where
     unfolding refreshOf
     refresh-taken m t w l = rw (taken-accepted t, w, lt-leb (2 ^ m .buffers) mark l) refl
 
--- ---- run
+-- ---- run, with words lent or none
 
-run-left : (m : Model) (n : ℕ) (g : Going) → let r : Run Going = runFrom m n g in RanTo m (g .state) (g .table) n (r .events) (ranBy 0 r)
+-- why a step with a store is not made
+run-why : (m : Model) (n : ℕ) (g : Going) (k : ℕ) → Unmade m (g .store) (g .state) (stepOf (knowing m (g .store)) (g .state) (g .table)) k → EndsBy m (suc n) 0 g k
+run-why m n g k (as-known q) = before-that (omega arith) (stopped-why (knowing m (g .store)) (g .state) (g .table) k q)
+run-why m n g k (crowding q o) = no-room (omega arith) q o
+
+run-left : (m : Model) (n : ℕ) (g : Going) → let r : Run Going = runFrom m n g in RanTo m g n (r .events) (ranBy 0 r) (r .left .store)
 unfolding runFrom
 run-left m zero g = record { steps = none-made; counted = refl; unplaced = refl; ended = enough refl }
-run-left m (suc n) g = by (λ g′. run-left m n g′) (stepOf m (g .state) (g .table)) refl
+run-left m (suc n) g = by (λ g′. run-left m n g′) (stepWith m (g .store) (g .state) (g .table)) refl
   where
-    by : ((g′ : Going) → RanTo m (g′ .state) (g′ .table) n (runFrom m n g′ .events) (ranBy 0 (runFrom m n g′))) → (st : Step) → stepOf m (g .state) (g .table) ≡ st
-        → let r : Run Going = goOn m g (λ g′. runFrom m n g′) st in RanTo m (g .state) (g .table) (suc n) (r .events) (ranBy 0 r)
-    by ih (Stopped k) q = record { steps = none-made; counted = refl; unplaced = refl; ended = before-that (omega arith) (stopped-why m (g .state) (g .table) k q) }
+    by : ((g′ : Going) → RanTo m g′ n (runFrom m n g′ .events) (ranBy 0 (runFrom m n g′)) (runFrom m n g′ .left .store)) → (st : Step)
+        → stepWith m (g .store) (g .state) (g .table) ≡ st
+        → let r : Run Going = goOn m g (λ g′. runFrom m n g′) st in RanTo m g (suc n) (r .events) (ranBy 0 r) (r .left .store)
+    by ih (Stopped k) q =
+        record { steps = none-made; counted = refl; unplaced = refl; ended = run-why m n g k (with-stopped m (g .store) (g .state) (g .table) k q) }
     by ih (Made e s′ mark) q =
-        let r = ih (going s′ (refresh (m .rules) s′ mark (g .table))) in
+        let r = ih (going s′ (refresh (m .rules) s′ mark (g .table)) (storeAfter m (g .state) e (g .store))) in
         record { steps = then-made q (r .steps); counted = refl; unplaced = refl; ended = longer (r .ended) }
       where
-        longer : {k number : ℕ} {x : State} {t : List ℕ} → EndsBy m n k x t number → EndsBy m (suc n) (suc k) x t number
+        longer : {k number : ℕ} {x : Going} → EndsBy m n k x number → EndsBy m (suc n) (suc k) x number
         longer (enough p) = enough (ap suc p)
         longer (before-that l w) = before-that (omega arith) w
+        longer (no-room l p o) = no-room (omega arith) p o
 
-run-ends : (m : Model) {es : List Timed} {s s′ : State} {table table′ : List ℕ} → Steps m es s table s′ table′ → (asked : ℕ) {n : ℕ} → EndsBy m asked (length es) s′ table′ n
-    → runFrom m asked (going s table) .number ≡ n
+run-ends : (m : Model) {es : List Timed} {g g′ : Going} → Steps m es g g′ → (asked : ℕ) {n : ℕ} → EndsBy m asked (length es) g′ n → runFrom m asked g .number ≡ n
 unfolding runFrom
 run-ends m none-made zero (enough e) = refl
 run-ends m none-made zero (before-that l w) = absurd (omega arith)
+run-ends m none-made zero (no-room l p o) = absurd (omega arith)
 run-ends m none-made (suc k) (enough e) = absurd (omega arith)
-run-ends m (none-made {s} {table}) (suc k) (before-that l w) = rw (why-stopped m s table w) refl
+run-ends m (none-made {g}) (suc k) (before-that l w) =
+    rw (stopped-with m (g .store) (g .state) (g .table) (as-known (why-stopped (knowing m (g .store)) (g .state) (g .table) w))) refl
+run-ends m (none-made {g}) (suc k) (no-room l p o) = rw (stopped-with m (g .store) (g .state) (g .table) (crowding p o)) refl
 run-ends m (then-made q rest) zero (enough e) = absurd (omega arith)
 run-ends m (then-made q rest) zero (before-that l w) = absurd (omega arith)
+run-ends m (then-made q rest) zero (no-room l p o) = absurd (omega arith)
 run-ends m (then-made q rest) (suc k) (enough e) = rw q (run-ends m rest k (enough (omega arith)))
 run-ends m (then-made q rest) (suc k) (before-that l w) = rw q (run-ends m rest k (before-that (omega arith) w))
+run-ends m (then-made q rest) (suc k) (no-room l p o) = rw q (run-ends m rest k (no-room (omega arith) p o))
 
-module _ (image table : List ℕ) (s : State) (asked : ℕ) where
-  -- by whether the state is well formed
-  abbrev traced : Model → Bool → Run Going
-  traced m t = if t then runFrom m asked (going s table) else (ends ill-formed (going s table))
+module _ (image table : List ℕ) (s : State) (lent : Option (List ℕ)) (asked : ℕ) where
+  -- by whether the state is well formed, and the words that are lent fit
+  abbrev traced : Model → Bool → Bool → Run Going
+  traced m t u = if not t then ends ill-formed (going s table none) else (if not u then ends bad-store (going s table none) else runFrom m asked (going s table (storeOf lent)))
 
-  run-row : (m : Model) (end n : ℕ) → (tracedBy (going s table) asked (Got m end) .number ≡ n) ↔ AfterRun s table asked m n
-  run-row m end n = (there (wellFormed m s) refl, back)
+  run-row : (m : Model) (end n : ℕ) → (tracedBy s table lent asked (Got m end) .number ≡ n) ↔ AfterRun s table lent asked m n
+  run-row m end n = (there (wellFormed m s) (storeFits (m .types) lent) refl refl, back)
     where
-      there : (t : Bool) → wellFormed m s ≡ t → traced m t .number ≡ n → AfterRun s table asked m n
-      there true w e = subst (AfterRun s table asked m) e (let r = run-left m asked (going s table) in went w (r .steps) (r .ended))
-      there false w e = subst (AfterRun s table asked m) e (unwell w)
+      there : (t u : Bool) → wellFormed m s ≡ t → storeFits (m .types) lent ≡ u → traced m t u .number ≡ n → AfterRun s table lent asked m n
+      there true true w f e = subst (AfterRun s table lent asked m) e (let r = run-left m asked (going s table (storeOf lent)) in went w f (r .steps) (r .ended))
+      there true false w f e = subst (AfterRun s table lent asked m) e (misfit w f)
+      there false u w f e = subst (AfterRun s table lent asked m) e (unwell w)
 
-      back : {k : ℕ} → AfterRun s table asked m k → tracedBy (going s table) asked (Got m end) .number ≡ k
+      back : {k : ℕ} → AfterRun s table lent asked m k → tracedBy s table lent asked (Got m end) .number ≡ k
       back (unwell w) = rw w refl
-      back (went w steps by) = rw w (run-ends m steps asked by)
+      back (misfit w f) = rw (w, f) refl
+      back (went w f steps by) = rw (w, f) (run-ends m steps asked by)
 
-  pub run-number : (n : ℕ) → (runOf image s table asked .number ≡ n) ↔ Given image table (AfterRun s table asked) n
-  unfolding runOf traceOf
-  run-number n = exactly image table (λ r. tracedBy (going s table) asked r .number) (AfterRun s table asked) (λ k at. refl) run-row n
+  pub run-number : (n : ℕ) → (ranLent image s table asked lent .number ≡ n) ↔ Given image table (AfterRun s table lent asked) n
+  unfolding traceLent
+  run-number n = exactly image table (λ r. tracedBy s table lent asked r .number) (AfterRun s table lent asked) (λ k at. refl) run-row n
 
-  pub run-taken : (m : Model) → Taken image table m → wellFormed m s ≡ true → RanTo m s table asked (traceOf image s table asked .events) (runOf image s table asked)
-  unfolding runOf traceOf
-  run-taken m t w = rw (taken-accepted image table t, w) (run-left m asked (going s table))
+  pub run-taken : (m : Model) → Taken image table m → wellFormed m s ≡ true → storeFits (m .types) lent ≡ true
+      → let r : Run Going = traceLent image s table asked lent in RanTo m (going s table (storeOf lent)) asked (r .events) (ranLent image s table asked lent) (r .left .store)
+  unfolding traceLent
+  run-taken m t w f = rw (taken-accepted image table t, w, f) (run-left m asked (going s table (storeOf lent)))
 
-  -- a run that went ends by 0, 7, 8 or 9
-  ends-late : (m : Model) {n made : ℕ} {x : State} {t : List ℕ} → EndsBy m asked made x t n → Beforehand n → ⊥
+  -- a run that went ends by 0, 7, 8, 9 or 14
+  ends-late : (m : Model) {n made : ℕ} {x : Going} → EndsBy m asked made x n → Beforehand n → ⊥
   ends-late m (enough e) b = omega (arith, b .0)
   ends-late m (before-that l (stale o d)) b = ⊎-elim (λ (h : 7 < 7). omega arith) (λ (h : 9 < 7). omega arith) (b .1)
   ends-late m (before-that l (late-fire o d e)) b = ⊎-elim (λ (h : 8 < 7). omega arith) (λ (h : 9 < 8). omega arith) (b .1)
   ends-late m (before-that l (late-wait o d e)) b = ⊎-elim (λ (h : 8 < 7). omega arith) (λ (h : 9 < 8). omega arith) (b .1)
   ends-late m (before-that l (quiet o d)) b = ⊎-elim (λ (h : 9 < 7). omega arith) (λ (h : 9 < 9). omega arith) (b .1)
+  ends-late m (no-room l p o) b = b .2 refl
 
-  refused-left : (r : Read Model) → let t : Run Going = tracedBy (going s table) asked r in Beforehand (t .number) → t ≡ ends (t .number) (going s table)
+  refused-left : (r : Read Model) → let t : Run Going = tracedBy s table lent asked r in Beforehand (t .number) → t ≡ ends (t .number) (going s table none)
   refused-left (Refused n at) b = refl
-  refused-left (Got m at) b = by (wellFormed m s) b
+  refused-left (Got m at) b = by (wellFormed m s) (storeFits (m .types) lent) b
     where
-      by : (t : Bool) → Beforehand (traced m t .number) → traced m t ≡ ends (traced m t .number) (going s table)
-      by true b = absurd (ends-late m (run-left m asked (going s table) .ended) b)
-      by false b = refl
+      by : (t u : Bool) → Beforehand (traced m t u .number) → traced m t u ≡ ends (traced m t u .number) (going s table none)
+      by true true b = absurd (ends-late m (run-left m asked (going s table (storeOf lent)) .ended) b)
+      by true false b = refl
+      by false u b = refl
 
-  pub run-refused : Beforehand (runOf image s table asked .number)
-      → runOf image s table asked ≡ record { number = runOf image s table asked .number; position = runOf image s table asked .position; state = s; table = table; made = 0 }
-  unfolding runOf traceOf
-  run-refused b = ap (ranBy (placeOf (accepted image table))) (refused-left (accepted image table) b)
+  pub left-refused : Beforehand (ranLent image s table asked lent .number) → traceLent image s table asked lent ≡ ends (ranLent image s table asked lent .number) (going s table none)
+  unfolding traceLent
+  left-refused b = refused-left (accepted image table) b
 
-  pub trace-refused : Beforehand (runOf image s table asked .number) → traceOf image s table asked .events ≡ []
-  unfolding runOf traceOf
-  trace-refused b = ap (λ (r : Run Going). r .events) (refused-left (accepted image table) b)
+  pub run-refused : Beforehand (ranLent image s table asked lent .number)
+      → let a : Ran = ranLent image s table asked lent in a ≡ record { number = a .number; position = a .position; state = s; table = table; made = 0 }
+  run-refused b = ap (ranBy (placeOf (accepted image table))) (left-refused b)
 
 -- ---- no number is larger than 13
 
@@ -300,13 +321,45 @@ refresh-small image table s mark =
     by m n (high w l) = omega arith
     by m n (renewed w l) = omega arith
 
-pub run-small : (image table : List ℕ) (s : State) (asked : ℕ) → runOf image s table asked .number < 14
-run-small image table s asked = given-small image table (AfterRun s table asked) by (runOf image s table asked .number) (run-number image table s asked (runOf image s table asked .number) .0 refl)
+pub lent-small : (image table : List ℕ) (s : State) (lent : Option (List ℕ)) (asked : ℕ) → ranLent image s table asked lent .number < 16
+lent-small image table s lent asked = small (ranLent image s table asked lent .number) (run-number image table s lent asked (ranLent image s table asked lent .number) .0 refl)
   where
-    by : (m : Model) (n : ℕ) → AfterRun s table asked m n → n < 14
+    by : (m : Model) (n : ℕ) → AfterRun s table lent asked m n → n < 16
     by m n (unwell w) = omega arith
-    by m n (went w p (enough e)) = omega arith
-    by m n (went w p (before-that l (stale o d))) = omega arith
-    by m n (went w p (before-that l (late-fire o d e))) = omega arith
-    by m n (went w p (before-that l (late-wait o d e))) = omega arith
-    by m n (went w p (before-that l (quiet o d))) = omega arith
+    by m n (misfit w f) = omega arith
+    by m n (went w f p (enough e)) = omega arith
+    by m n (went w f p (before-that l (stale o d))) = omega arith
+    by m n (went w f p (before-that l (late-fire o d e))) = omega arith
+    by m n (went w f p (before-that l (late-wait o d e))) = omega arith
+    by m n (went w f p (before-that l (quiet o d))) = omega arith
+    by m n (went w f p (no-room l q o)) = omega arith
+
+    small : (n : ℕ) → Given image table (AfterRun s table lent asked) n → n < 16
+    small n (unread u) = ⊎-elim (λ (l : n < 5). omega arith) (λ (l : (10 < n) × (n < 14)). omega (arith, l .1)) (unread-range image u .1)
+    small n (unfit l e f) = omega arith
+    small n (taken {m} t a) = by m n a
+
+-- where nothing is lent there is no 14 and no 15
+pub run-small : (image table : List ℕ) (s : State) (asked : ℕ) → runOf image s table asked .number < 14
+unfolding runOf storeFits
+run-small image table s asked =
+    given-small image table (AfterRun s table none asked) by (runOf image s table asked .number) (run-number image table s none asked (runOf image s table asked .number) .0 refl)
+  where
+    never : (e : Event) (m : Model) (x : State) (store : Option (List Chunk)) → store ≡ none → overfull (storeAfter m x e store) ≡ true → ⊥
+    never e m x none q o = no-true (sym o)
+    never e m x (some cs) q o = let z : _≡_ {A = ℕ} 0 1 = cc in omega arith
+
+    -- along the steps nothing is lent
+    bare : (m : Model) {es : List Timed} {g g′ : Going} → Steps m es g g′ → g .store ≡ none → g′ .store ≡ none
+    bare m none-made q = q
+    bare m (then-made {e} {g = g} p rest) q = bare m rest (ap (storeAfter m (g .state) e) q)
+
+    by : (m : Model) (n : ℕ) → AfterRun s table none asked m n → n < 14
+    by m n (unwell w) = omega arith
+    by m n (misfit w f) = absurd (no-true f)
+    by m n (went w f p (enough e)) = omega arith
+    by m n (went w f p (before-that l (stale o d))) = omega arith
+    by m n (went w f p (before-that l (late-fire o d e))) = omega arith
+    by m n (went w f p (before-that l (late-wait o d e))) = omega arith
+    by m n (went w f p (before-that l (quiet o d))) = omega arith
+    by m n (went {g = g} w f p (no-room {e} l q o)) = absurd (never e m (g .state) (g .store) (bare m p refl) o)

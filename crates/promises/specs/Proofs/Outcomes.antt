@@ -1,35 +1,41 @@
 -- What a step and a run with the fresh table come to.
 use mathlib.Core.Path.{_≡_, refl, sym, ap, ap₂, subst, _∙_}
 use mathlib.Core.Logic.{_⊎_, inl, inr, ⊎-elim}
-use mathlib.Core.Bool.{true}
+use mathlib.Core.Bool.{Bool, true, false}
 use mathlib.Core.List.{List, _∷_}
+use mathlib.Core.Option.{Option}
 use Prim.Native.Nat.{ℕ, zero, suc, _*_, _≤_, _<_}
 use native.Mathlib.Omega.{arith}
 use borrow.Author.Tests.{eq-eqb}
 use lib.ListN.{length}
 use Rattle.meaning.specs.declared.State.{State}
-use Rattle.meaning.specs.Model.{Model}
+use Rattle.meaning.specs.Model.{Model, Chunk}
 use Rattle.meaning.specs.State.{bufferOf, wellFormed}
 use Rattle.meaning.specs.Read.{Got}
 use Rattle.meaning.specs.Image.{decode}
 use Rattle.meaning.specs.Match.{freshTable}
 use Rattle.meaning.specs.Step.{Event, Step, Stopped, Made, largest, unlessPast, stepOf}
 use Rattle.meaning.specs.Run.{Going, going, Timed, Run, before, runFrom}
-use Rattle.meaning.specs.Calls.{accepted, traceOf, ranBy, runOf}
+use Rattle.meaning.specs.Calls.{accepted, traceLent, ranBy}
+use Rattle.meaning.specs.Fresh.{Moving, moving}
+use Rattle.meaning.specs.Learning.{knowing, overfull, stepWith}
+use Rattle.meaning.specs.Refresh.{refresh}
+use Rattle.meaning.specs.Store.{storeFits, storeOf}
 use Rattle.laws.specs.BaseLaws.{by-lt}
 use Rattle.laws.specs.MatchLaws.{fresh-length}
-use Rattle.promises.specs.Words.{Reached}
-use Rattle.promises.specs.Published.{NoneSelected, Transition, Final, Transitions, no-step, one-step, Passes, Ended, done, full, over, RanOn}
-use Rattle.promises.specs.Proofs.Decoded.{Decoded, decoded}
-use Rattle.promises.specs.Proofs.Runs.{step-fresh, chain-fresh}
+use Rattle.promises.specs.Words.{Reached, ranLent}
+use Rattle.promises.specs.Published.{NoneSelected, Transition, Final, onward, Transitions, no-step, one-step, Passes, Ended, done, full, over, crowded, RanOn}
+use Rattle.promises.specs.Proofs.Decoded.{RulesGood, good-known, decoded}
+use Rattle.promises.specs.Proofs.Runs.{known-step-fresh, chain-fresh}
 use Rattle.promises.specs.Proofs.Machines.{chain-well}
 use Rattle.promises.specs.Proofs.Steps.{no-made, InTime, unless-made, unless-stopped, unless-full, unless-on}
+use Rattle.promises.specs.Proofs.Knowing.{known-fresh, as-known, crowding, with-made, made-with, stopped-with}
 use Rattle.promises.specs.Proofs.Transitions.{transition-once, Outcome, goes, stays, outcome, stays-final}
 
 same-number : (a b : ℕ) → Stopped a ≡ Stopped b → a ≡ b
 same-number a b e = cc
 
-module _ (m : Model) (d : Decoded m) (s : State) where
+module _ (m : Model) (d : RulesGood m) (s : State) where
   abbrev fresh-step : Step
   fresh-step = stepOf m s (freshTable (m .rules) s)
 
@@ -97,79 +103,108 @@ module _ (m : Model) (d : Decoded m) (s : State) where
 
 -- ---- a run
 
-abbrev pub freshly : Model → State → Going
-freshly m s = going s (freshTable (m .rules) s)
+abbrev pub freshly : Model → Moving → Going
+freshly m g = going (g .state) (freshTable (m .rules) (g .state)) (g .store)
+
+-- a step with the fresh table of the image's rules, and what the store knows
+abbrev pub knownStep : Model → Moving → Step
+knownStep m g = stepOf (knowing m (g .store)) (g .state) (freshTable (m .rules) (g .state))
+
+pub known-step : (m : Model) (g : Moving) → knownStep m g ≡ stepOf (knowing m (g .store)) (g .state) (freshTable (knowing m (g .store) .rules) (g .state))
+known-step m g = ap (stepOf (knowing m (g .store)) (g .state)) (known-fresh m (g .store) (g .state))
 
 -- what is promised of a run: of its answer,
 -- and of its events in their order
-abbrev Goes : Model → State → ℕ → Run Going → Type 0
-Goes m s asked r = RanOn m s asked (r .events) (ranBy 0 r)
+abbrev Goes : Model → Moving → ℕ → Run Going → Type 0
+Goes m g asked r = RanOn m g asked (r .events) (ranBy 0 r) (r .left .store)
 
-one-more : (m : Model) (s s′ : State) (e : Event) (n : ℕ) (r : Run Going) → Transition m s e s′ → s′ .clock ≤ largest → Goes m s′ n r
-    → Goes m s (suc n) (before (record { clock = s′ .clock; event = e }) r)
-one-more m s s′ e n r t c g = record { path = one-step t c (g .path); counted = refl; ended = longer (g .ended); fresh = g .fresh }
+one-more : (m : Model) (g : Moving) (s′ : State) (e : Event) (n : ℕ) (r : Run Going) → Transition (knowing m (g .store)) (g .state) e s′ → s′ .clock ≤ largest
+    → overfull (onward m g e s′ .store) ≡ false → Goes m (onward m g e s′) n r → Goes m g (suc n) (before (record { clock = s′ .clock; event = e }) r)
+one-more m g s′ e n r t c o h = record { path = one-step t c o (h .path); counted = refl; ended = longer (h .ended); fresh = h .fresh }
   where
-    longer : {k number : ℕ} {x : State} → Ended m n k x number → Ended m (suc n) (suc k) x number
+    longer : {k number : ℕ} {x : Moving} → Ended m n k x number → Ended m (suc n) (suc k) x number
     longer (done q) = done (ap suc q)
     longer (full l p) = full (omega arith) p
     longer (over l p) = over (omega arith) p
+    longer (crowded l p) = crowded (omega arith) p
 
-stopped-run : (m : Model) (n : ℕ) (s : State) (number : ℕ) → stepOf m s (freshTable (m .rules) s) ≡ Stopped number → Ended m (suc n) 0 s number
-    → Goes m s (suc n) (runFrom m (suc n) (freshly m s))
+stopped-run : (m : Model) (n : ℕ) (g : Moving) (number : ℕ) → stepWith m (g .store) (g .state) (freshTable (m .rules) (g .state)) ≡ Stopped number → Ended m (suc n) 0 g number
+    → Goes m g (suc n) (runFrom m (suc n) (freshly m g))
 unfolding runFrom
-stopped-run m n s number q h = rw q (record { path = no-step; counted = refl; ended = h; fresh = refl })
+stopped-run m n g number q h = rw q (record { path = no-step; counted = refl; ended = h; fresh = refl })
 
-pub made-run : (m : Model) (n : ℕ) (s : State) (e : Event) (s′ : State) (mark : ℕ) → stepOf m s (freshTable (m .rules) s) ≡ Made e s′ mark
-    → runFrom m (suc n) (freshly m s) ≡ before (record { clock = s′ .clock; event = e }) (runFrom m n (freshly m s′))
+pub made-run : (m : Model) (n : ℕ) (g : Moving) (e : Event) (s′ : State) (mark : ℕ) → stepWith m (g .store) (g .state) (freshTable (m .rules) (g .state)) ≡ Made e s′ mark
+    → runFrom m (suc n) (freshly m g) ≡ before (record { clock = s′ .clock; event = e }) (runFrom m n (freshly m (onward m g e s′)))
 unfolding runFrom
-made-run m n s e s′ mark q =
-    rw q (ap (λ (t : List ℕ). before (record { clock = s′ .clock; event = e }) (runFrom m n (going s′ t))) (step-fresh m s (freshTable (m .rules) s) refl e s′ mark q))
+made-run m n g e s′ mark q =
+    let f : refresh (m .rules) s′ mark (freshTable (m .rules) (g .state)) ≡ freshTable (m .rules) s′ =
+    known-step-fresh m (g .store) (g .state) (freshTable (m .rules) (g .state)) refl e s′ mark (with-made m (g .store) (g .state) (freshTable (m .rules) (g .state)) e s′ mark q .0) in
+    rw q (ap (λ (t : List ℕ). before (record { clock = s′ .clock; event = e }) (runFrom m n (going s′ t (onward m g e s′ .store)))) f)
 
-pub run-goes : (m : Model) (d : Decoded m) (n : ℕ) (s : State) → Goes m s n (runFrom m n (freshly m s))
+pub run-goes : (m : Model) (d : RulesGood m) (n : ℕ) (g : Moving) → Goes m g n (runFrom m n (freshly m g))
 unfolding runFrom
-run-goes m d zero s = record { path = no-step; counted = refl; ended = done refl; fresh = refl }
-run-goes m d (suc n) s = by (λ s′. run-goes m d n s′) (outcome m d s)
+run-goes m d zero g = record { path = no-step; counted = refl; ended = done refl; fresh = refl }
+run-goes m d (suc n) g = by (λ g′. run-goes m d n g′) (outcome (knowing m (g .store)) (good-known m d (g .store)) (g .state))
   where
-    by : ((s′ : State) → Goes m s′ n (runFrom m n (freshly m s′))) → Outcome m d s → Goes m s (suc n) (runFrom m (suc n) (freshly m s))
+    table : List ℕ
+    table = freshTable (m .rules) (g .state)
+
+    -- a transition within the clock: with room, or without
+    by-room : ((g′ : Moving) → Goes m g′ n (runFrom m n (freshly m g′))) → (e : Event) (s′ : State) (mark : ℕ) → Transition (knowing m (g .store)) (g .state) e s′
+        → s′ .clock ≤ largest
+        → knownStep m g ≡ Made e s′ mark → (b : Bool) → overfull (onward m g e s′ .store) ≡ b → Goes m g (suc n) (runFrom m (suc n) (freshly m g))
+    by-room ih e s′ mark t h q true o =
+        stopped-run m n g 14 (stopped-with m (g .store) (g .state) table (crowding q o)) (crowded (omega arith) (record { event = e; state = s′; transition = t; in-time = h; too-many = o }))
+    by-room ih e s′ mark t h q false o =
+        subst (λ (r : Run Going). Goes m g (suc n) r) (sym (made-run m n g e s′ mark (made-with m (g .store) (g .state) table e s′ mark q o)))
+        (one-more m g s′ e n (runFrom m n (freshly m (onward m g e s′))) t h o (ih (onward m g e s′)))
+
+    by : ((g′ : Moving) → Goes m g′ n (runFrom m n (freshly m g′))) → Outcome (knowing m (g .store)) (good-known m d (g .store)) (g .state)
+        → Goes m g (suc n) (runFrom m (suc n) (freshly m g))
     by ih (goes e s′ mark t q) =
         by-lt largest (s′ .clock)
-        (λ h. stopped-run m n s 8 (q ∙ unless-full e s′ mark h) (full (omega arith) (record { event = e; state = s′; transition = t; past = h })))
         (λ h.
-        let next : runFrom m (suc n) (freshly m s) ≡ before (record { clock = s′ .clock; event = e }) (runFrom m n (freshly m s′)) = made-run m n s e s′ mark (q ∙ unless-on e s′ mark h) in
-        subst (λ (r : Run Going). Goes m s (suc n) r) (sym next) (one-more m s s′ e n (runFrom m n (freshly m s′)) t h (ih s′)))
-    by ih (stays k z q) = stopped-run m n s 9 q (over (omega arith) (stays-final m d s k z))
+        stopped-run m n g 8 (stopped-with m (g .store) (g .state) table (as-known (known-step m g ∙ q ∙ unless-full e s′ mark h)))
+        (full (omega arith) (record { event = e; state = s′; transition = t; past = h })))
+        (λ h. by-room ih e s′ mark t h (known-step m g ∙ q ∙ unless-on e s′ mark h) (overfull (onward m g e s′ .store)) refl)
+    by ih (stays k z q) =
+        stopped-run m n g 9 (stopped-with m (g .store) (g .state) table (as-known (known-step m g ∙ q)))
+        (over (omega arith) (stays-final (knowing m (g .store)) (good-known m d (g .store)) (g .state) k z))
 
--- ---- the call
+-- ---- the call, with words lent or none
 
-fresh-traced : (image : List ℕ) (m : Model) (at : ℕ) → decode image ≡ Got m at → (s : State) (steps : ℕ) → wellFormed m s ≡ true
-    → traceOf image s (freshTable (m .rules) s) steps ≡ runFrom m steps (freshly m s)
-unfolding traceOf accepted
-fresh-traced image m at d s steps w = rw (d, eq-eqb (length (freshTable (m .rules) s)) (9 * length (m .rules)) (fresh-length (m .rules) s), w) refl
+module _ (image : List ℕ) (m : Model) (at : ℕ) (d : decode image ≡ Got m at) (lent : Option (List ℕ)) (fits : storeFits (m .types) lent ≡ true) where
+  fresh-traced : (s : State) (steps : ℕ) → wellFormed m s ≡ true → traceLent image s (freshTable (m .rules) s) steps lent ≡ runFrom m steps (freshly m (moving s (storeOf lent)))
+  unfolding traceLent accepted
+  fresh-traced s steps w = rw (d, eq-eqb (length (freshTable (m .rules) s)) (9 * length (m .rules)) (fresh-length (m .rules) s), w, fits) refl
 
-pub fresh-runs : (image : List ℕ) (m : Model) (at : ℕ) → decode image ≡ Got m at → (s : State) → wellFormed m s ≡ true → (steps : ℕ)
-    → RanOn m s steps (traceOf image s (freshTable (m .rules) s) steps .events) (runOf image s (freshTable (m .rules) s) steps)
-unfolding runOf
-fresh-runs image m at d s w steps =
-    let g = subst (λ (r : Run Going). Goes m s steps r) (sym (fresh-traced image m at d s steps w)) (run-goes m (decoded image m at d) steps s) in
-    record { path = g .path; counted = g .counted; ended = g .ended; fresh = g .fresh }
+  pub fresh-runs : (s : State) → wellFormed m s ≡ true → (steps : ℕ)
+      → let table : List ℕ = freshTable (m .rules) s in let r : Run Going = traceLent image s table steps lent in
+      RanOn m (moving s (storeOf lent)) steps (r .events) (ranLent image s table steps lent) (r .left .store)
+  fresh-runs s w steps =
+      let g = subst (λ (r : Run Going). Goes m (moving s (storeOf lent)) steps r) (sym (fresh-traced s steps w)) (run-goes m (decoded image m at d .rules-good) steps (moving s (storeOf lent))) in
+      record { path = g .path; counted = g .counted; ended = g .ended; fresh = g .fresh }
 
-pub chain-runs : (image : List ℕ) (m : Model) (at : ℕ) → decode image ≡ Got m at → {s : State} {table : List ℕ} → Reached image s table
-    → (steps : ℕ) → RanOn m s steps (traceOf image s table steps .events) (runOf image s table steps)
-chain-runs image m at d {s} {table} r steps =
-    subst (λ (t : List ℕ). RanOn m s steps (traceOf image s t steps .events) (runOf image s t steps)) (sym (chain-fresh image m at d r))
-    (fresh-runs image m at d s (chain-well image m at d r) steps)
+  pub chain-runs : {s : State} {table : List ℕ} → Reached image s table → (steps : ℕ)
+      → let r : Run Going = traceLent image s table steps lent in RanOn m (moving s (storeOf lent)) steps (r .events) (ranLent image s table steps lent) (r .left .store)
+  chain-runs {s} {table} r steps =
+      subst (λ (t : List ℕ). let r : Run Going = traceLent image s t steps lent in RanOn m (moving s (storeOf lent)) steps (r .events) (ranLent image s t steps lent) (r .left .store))
+      (sym (chain-fresh image m at d r)) (fresh-runs s (chain-well image m at d r) steps)
 
 pub chain-step : (image : List ℕ) (m : Model) (at : ℕ) → decode image ≡ Got m at → {s : State} {table : List ℕ} → Reached image s table
-    → (e : Event) (s′ : State) (mark : ℕ) → stepOf m s table ≡ Made e s′ mark → Transition m s e s′
-chain-step image m at d {s} {table} r e s′ mark h =
-    made-transition m (decoded image m at d) s e s′ mark (ap (stepOf m s) (sym (chain-fresh image m at d r)) ∙ h) .0
+    → (store : Option (List Chunk)) (e : Event) (s′ : State) (mark : ℕ) → stepOf (knowing m store) s table ≡ Made e s′ mark → Transition (knowing m store) s e s′
+chain-step image m at d {s} {table} r store e s′ mark h =
+    made-transition (knowing m store) (good-known m (decoded image m at d .rules-good) store) s e s′ mark
+    (sym (known-step m (moving s store)) ∙ ap (stepOf (knowing m store) s) (sym (chain-fresh image m at d r)) ∙ h) .0
 
 -- there is no other way to make so many transitions
-pub transitions-once : (m : Model) → Decoded m → {es fs : List Timed} {s s₁ s₂ : State} → Transitions m es s s₁ → Transitions m fs s s₂ → length es ≡ length fs → (es ≡ fs) × (s₁ ≡ s₂)
+pub transitions-once : (m : Model) → RulesGood m → {es fs : List Timed} {g g₁ g₂ : Moving} → Transitions m es g g₁ → Transitions m fs g g₂ → length es ≡ length fs
+    → (es ≡ fs) × (g₁ ≡ g₂)
 transitions-once m d no-step no-step l = (refl, refl)
-transitions-once m d no-step (one-step t c p) l = absurd (omega arith)
-transitions-once m d (one-step t c p) no-step l = absurd (omega arith)
-transitions-once m d (one-step {e} {es} {s} {s′} {s″ = s₁} t c p) (one-step {e = f} {es = fs} {s′ = t′} {s″ = s₂} u h q) l =
-    let once : (e ≡ f) × (s′ ≡ t′) = transition-once m d s t u in
-    let rest : (es ≡ fs) × (s₁ ≡ s₂) = transitions-once m d p (subst (λ (x : State). Transitions m fs x s₂) (sym (once .1)) q) (omega arith) in
+transitions-once m d no-step (one-step t c o p) l = absurd (omega arith)
+transitions-once m d (one-step t c o p) no-step l = absurd (omega arith)
+transitions-once m d (one-step {e} {es} {g} {g″ = g₁} {s′} t c o p) (one-step {e = f} {es = fs} {g″ = g₂} {s′ = t′} u h k q) l =
+    let once : (e ≡ f) × (s′ ≡ t′) = transition-once (knowing m (g .store)) (good-known m d (g .store)) (g .state) t u in
+    let same : onward m g f t′ ≡ onward m g e s′ = ap₂ (λ (x : Event) (y : State). onward m g x y) (sym (once .0)) (sym (once .1)) in
+    let rest : (es ≡ fs) × (g₁ ≡ g₂) = transitions-once m d p (subst (λ (x : Moving). Transitions m fs x g₂) same q) (omega arith) in
     (ap₂ (λ (x : Timed) (xs : List Timed). x ∷ xs) (ap₂ (λ (x : Event) (y : State). record { clock = y .clock; event = x }) (once .0) (once .1)) (rest .0), rest .1)

@@ -49,6 +49,15 @@ no-place n h (of-a-rule r) = by h (rule-range r)
     by (inr k) (inl e) = omega (arith, k .0)
     by (inr k) (inr e) = omega (arith, k .1, e .0)
 
+-- nor has one past 13
+pub no-place-late : (n : ℕ) → 13 < n → HasPlace n → ⊥
+no-place-late n h of-a-gap = omega arith
+no-place-late n h (of-a-rule r) = by (rule-range r)
+  where
+    by : (n ≡ 3) ⊎ ((10 < n) × (n < 14)) → ⊥
+    by (inl e) = omega arith
+    by (inr e) = omega (arith, e .1)
+
 -- ---- images that begin alike
 
 pub begins-less : {image image′ : List ℕ} {at : ℕ} → BeginsAs image at image′ → (less : ℕ) → less ≤ at → BeginsAs image less image′

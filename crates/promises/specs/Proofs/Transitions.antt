@@ -26,7 +26,7 @@ use Rattle.meaning.specs.Step.{Event, Fired, Waited, Step, Stopped, unlessPast,
 use Rattle.laws.specs.BaseLaws.{and-left, and-right, every-member}
 use Rattle.promises.specs.Words.{At}
 use Rattle.promises.specs.Published.{Binds, Selected, NoneSelected, Aged, Applied, LeastDelay, Passed, Transition, apply, no-rule, Final}
-use Rattle.promises.specs.Proofs.Decoded.{Decoded, rises, goodDeed, goodAction, goodRule}
+use Rattle.promises.specs.Proofs.Decoded.{RulesGood, rises, goodDeed, goodAction, goodRule}
 use Rattle.laws.specs.MarkLaws.{getD-change, length-change}
 use Rattle.promises.specs.Proofs.Selection.{chosen-own, chosen-selected, chosen-none, selected-once}
 use Rattle.promises.specs.Proofs.Steps.{fire-fresh}
@@ -174,13 +174,13 @@ least-once s j k a b =
 -- ---- Apply: each action has its effect, and all other buffers age;
 -- a firing with the fresh entry does just that
 
-module _ (m : Model) (d : Decoded m) (s : State) where
+module _ (m : Model) (d : RulesGood m) (s : State) where
   module _ (k : ℕ) (r : Rule) (at : At r k (m .rules)) (v : ℕ → ℕ) (binds : Binds r s v) where
     abbrev anew : ℕ → Buffer → Buffer
     anew i b = after (m .failure) (m .facts) (entryOf r s) b (deedOn (r .actions) i)
 
     good : goodRule (m .buffers) (m .types) r ≡ true
-    good = all-at (goodRule (m .buffers) (m .types)) r at (d .rules-good)
+    good = all-at (goodRule (m .buffers) (m .types)) r at d
 
     ups : rises (λ a. a .buffer) 0 (r .actions) ≡ true
     ups = and-right (every (goodAction (m .buffers) (m .types) (r .tests)) (r .actions)) (rises (λ a. a .buffer) 0 (r .actions)) good

@@ -14,7 +14,7 @@ use Rattle.meaning.specs.declared.Buffer.{Buffer}
 use Rattle.meaning.specs.declared.State.{State}
 use Rattle.meaning.specs.Base.{if_then_else_, every, keep, upFrom}
 use Rattle.meaning.specs.Model.{Model, Rule, Test, Action, Deed, Modify, Request, Clear, Named, Term, Symbol, Variable, Fact}
-use Rattle.meaning.specs.State.{nothing, nilAfter, bufferOf, visible, slotCount, wellBuffer, isNil, wellFormed}
+use Rattle.meaning.specs.State.{nothing, nilAfter, bufferOf, visible, slotCount, wellBuffer, isNil, wellFormed, opens}
 use Rattle.meaning.specs.Image.{isVariable, isTested, testedType}
 use Rattle.meaning.specs.Match.{Place, place, places, valueIn, shows, agreed, matches, entryOf}
 use Rattle.meaning.specs.Choice.{utilities}
@@ -22,7 +22,6 @@ use Rattle.meaning.specs.Retrieval.{valueOf, fits, weaker, retrieve, retrieved}
 use Rattle.meaning.specs.Fire.{put, done, later, deedOn, after, change, fire}
 use Rattle.meaning.specs.Wait.{wait}
 use Rattle.meaning.specs.Step.{Event, Fired, Waited, Made, stepOf}
-use Rattle.meaning.specs.Calls.{opens}
 use Rattle.laws.specs.BaseLaws.{no-true, and-left, and-right, every-member, every-append, keep-member}
 use Rattle.laws.specs.HighestLaws.{Best}
 use Rattle.laws.specs.RetrievalLaws.{retrieve-best}

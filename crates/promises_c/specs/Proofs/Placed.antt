@@ -3,6 +3,7 @@ use mathlib.Core.Path.{_≡_, refl}
 use mathlib.Core.Logic.{inl, inr}
 use mathlib.Core.Bool.{Bool, true, false, not}
 use mathlib.Core.List.{List, [], _∷_}
+use mathlib.Core.Option.{Option, none}
 use Prim.Native.Nat.{ℕ, suc, _*_, _^_, _≤_, _<_}
 use native.Mathlib.Omega.{arith}
 use lib.Dec.{leb, eqb}
@@ -15,19 +16,22 @@ use Rattle.meaning.specs.State.{wellFormed}
 use Rattle.meaning.specs.Read.{Read, Refused, Got}
 use Rattle.meaning.specs.Image.{decode}
 use Rattle.meaning.specs.Refresh.{testsMarked, refreshCount}
+use Rattle.meaning.specs.Store.{lentBy}
 use Rattle.meaning.specs.Calls.{fitting, accepted, placeOf, openOf, Refreshed, refreshedBy, refreshOf}
 use Rattle.jirvuntsag.specs.Words.{stateOf, fits}
 use Rattle.jirvuntsag.specs.Told.{unfitBy, lengthIn, openIn, runIn, refreshIn}
 use Rattle.jirvuntsag.specs.Fresh.{freshIn}
+use Rattle.jirvuntsag.specs.Lent.{runLentIn, freshLentIn}
 use Rattle.laws.specs.ImageLaws.{few-rules}
 use Rattle.promises.specs.Places.{Located, nowhere}
-use Rattle.promises.specs.Placing.{position-told, open-position, run-position, refresh-position, fresh-position}
+use Rattle.promises.specs.Placing.{position-told, open-position, run-position, run-lent-position, refresh-position, fresh-position, fresh-lent-position}
 use Rattle.promises.specs.Numbers as numbers
 use Rattle.promises.specs.Proofs.Reading.{no-place}
 use Rattle.promises.specs.Proofs.Numbers.{refused-unread, unread-range, open-small, refresh-small}
 use Rattle.promises_c.specs.Handing.{numberIn, positionIn, Reads}
-use Rattle.promises_c.specs.Proofs.Calling.{answer-reads, unfit-small, unfit-reads, unfit-run, unfit-refresh, run-reads, fit-refresh, by-fits}
-use Rattle.promises_c.specs.Proofs.Alone.{unfit-number, fit-reads, large-reads}
+use Rattle.promises_c.specs.Proofs.Calling.{answer-reads, unfit-small, unfit-reads, toldBy, run-told, lent-told, unfit-run, unfit-refresh, run-reads, lent-reads, fit-refresh, by-fits}
+use Rattle.promises_c.specs.Proofs.Alone.{unfit-number, fit-reads, large-reads, lent-large}
+use Rattle.promises_c.specs.Proofs.Alone as alone
 
 -- ---- the table's length
 
@@ -120,11 +124,22 @@ module _ (image : List ℕ) where
       by (Refused n at) d = position-told image n at d
       by (Got m end) d = unplaced 6 (omega arith) (omega arith)
 
+  large-by : (w table : List ℕ) (steps : ℕ) (lent : Option (List ℕ)) → fits w ≡ false
+      → let a : ℕ = toldBy image w table steps lent .answered in Located image (numberIn a) (positionIn a)
+  large-by w table steps lent f = rw (unfit-run image w table steps lent f) (read-located (unfit-reads (accepted image table) (unfit-small image table)) (large-located table))
+
   pub run-tells : (w table : List ℕ) (steps : ℕ) → steps ≤ 65535 → let a : ℕ = runIn image w table steps .answered in Located image (numberIn a) (positionIn a)
   run-tells w table steps few =
       by-fits w
       (λ f. read-located (run-reads image w f table steps few) (run-position image (stateOf w) table steps))
-      (λ f. rw (unfit-run image w table steps f) (read-located (unfit-reads (accepted image table) (unfit-small image table)) (large-located table)))
+      (λ f. rw (run-told image w table steps) (large-by w table steps none f))
+
+  pub lent-tells : (w table : List ℕ) (steps lent : ℕ) (store : List ℕ) → steps ≤ 65535
+      → let a : ℕ = runLentIn image w table steps lent store .answer .answered in Located image (numberIn a) (positionIn a)
+  lent-tells w table steps lent store few =
+      by-fits w
+      (λ f. read-located (lent-reads image w f table steps lent store few) (run-lent-position image (stateOf w) table steps lent store))
+      (λ f. rw (lent-told image w table steps lent store) (large-by w table steps (lentBy lent store) f))
 
   pub refresh-tells : (w : List ℕ) (mark : ℕ) (table : List ℕ) → let a : ℕ = refreshIn image w mark table .answered in Located image (numberIn a) (positionIn a)
   refresh-tells w mark table =
@@ -137,3 +152,10 @@ module _ (image : List ℕ) where
       by-fits w
       (λ f. read-located (fit-reads image w steps f few) (fresh-position image (stateOf w) steps))
       (λ f. read-located (large-reads image w steps f) bare-located)
+
+  pub fresh-lent-tells : (w : List ℕ) (steps lent : ℕ) (store : List ℕ) → steps ≤ 65535
+      → let a : ℕ = freshLentIn image w steps lent store .answer .answered in Located image (numberIn a) (positionIn a)
+  fresh-lent-tells w steps lent store few =
+      by-fits w
+      (λ f. read-located (alone.lent-reads image w steps lent store f few) (fresh-lent-position image (stateOf w) steps lent store))
+      (λ f. read-located (lent-large image w steps lent store f) bare-located)
