@@ -1,7 +1,7 @@
 /* Jirvuntsag: runs ACT-R models from a packed image.
  *
  * No call allocates, keeps anything between calls, or fails: whatever it is handed, it does its work or answers a number.
- * A call needs less than 131,072 bytes of stack. Calls in several threads need no lock, as long as each has its own state and table.
+ * A call needs less than 131,072 bytes of stack. Calls in several threads need no lock, as long as each has its own state, table and store.
  * Every pointer must point to as much as its length says, and what a call writes must not overlap what else it is handed.
  *
  * Numbers: 0 all that was asked is done; 1 image over 65,536 bytes; 2 a field is not wholly there;
@@ -9,7 +9,8 @@
  * 6 the state is not well formed; 7 the chosen entry is not the fresh one; 8 the clock would pass 4,294,967,295;
  * 9 halted before the steps asked were made; 10 the mark is 2 to the power of the buffer count, or more;
  * 11 a mask has a bit past the type's slots; 12 a variable is not below the rule's count, or stands in no test;
- * 13 a buffer does not exist, does not rise, or is modified untested.
+ * 13 a buffer does not exist, does not rise, or is modified untested; 14 the store would have more than 256 facts;
+ * 15 the store has other than 256 places, a count over 256, or a fact that the image could not hold.
  *
  * With 2, 3, 11, 12 and 13, which are about a field of the image, goes the position of the field's first bit: bits count from 0, and the
  * most significant bit of byte 0 is bit 0. A term is one field, which begins with its kind bit. Of a variable that stands in no test it is the
@@ -26,6 +27,14 @@
  * table and match every rule afresh at each step: for who wants nothing kept that could outlive its chunk, as a memory laboratory.
  * Nobody can tell them apart: for every accepted image and every state the second give the number, count, state and events that the
  * first give from the fresh table, and a refused image gets its number and position from all.
+ *
+ * jirvuntsag_run_lent and jirvuntsag_run_fresh_lent may be lent a store, where a run learns: when a rule clears a visible buffer that holds
+ * another chunk than nil, that chunk joins the store, unless the image or the store has a fact of the same type and slots. It is a fact of
+ * activation 0 and a latency of 50 ms from the next step on, after those of the image. What is pending when it is cleared, and what a request
+ * replaces, is not learned. The other calls are these with nothing lent, and learn nothing.
+ * A store is 2,305 16-bit words: the count, then 256 places of nine words, the type and eight slot values of a learned fact. All zeros is
+ * the empty store. Only the places below the count are read; a run writes to the places from the count on, in the order learned, and raises
+ * the count. It may be kept, copied, and lent to the next run, of either engine.
  */
 #ifndef JIRVUNTSAG_H
 #define JIRVUNTSAG_H
@@ -39,9 +48,9 @@ extern "C" {
 
 /* The version of this header, and by a function that of the library that is linked. */
 #define JIRVUNTSAG_VERSION_MAJOR 0
-#define JIRVUNTSAG_VERSION_MINOR 5
-#define JIRVUNTSAG_VERSION_PATCH 1
-#define JIRVUNTSAG_VERSION "0.5.1"
+#define JIRVUNTSAG_VERSION_MINOR 6
+#define JIRVUNTSAG_VERSION_PATCH 0
+#define JIRVUNTSAG_VERSION "0.6.0"
 const char *jirvuntsag_version(void);
 
 #define JIRVUNTSAG_STATE_WORDS 81
@@ -51,7 +60,17 @@ const char *jirvuntsag_version(void);
 #define JIRVUNTSAG_SLOT(buffer, slot) (2 + 10 * (buffer) + (slot))
 #define JIRVUNTSAG_DELAY(buffer) (10 + 10 * (buffer))
 
-/* Every call answers 64 bits: the number (0 to 13) in the low 16, in the next 16 the count, which is the steps made, the rules counted or the
+/* What a word says is lent: a store. Its other bits say nothing yet; leave them 0. */
+#define JIRVUNTSAG_LENT_STORE 1
+
+/* The words and the places of a store. Where the type and the slot values of a learned fact stand in it, by its place from 0 on; the count is
+ * word 0. */
+#define JIRVUNTSAG_STORE_WORDS 2305
+#define JIRVUNTSAG_STORE_PLACES 256
+#define JIRVUNTSAG_STORE_TYPE(place) (1 + 9 * (place))
+#define JIRVUNTSAG_STORE_SLOT(place, slot) (2 + 9 * (place) + (slot))
+
+/* Every call answers 64 bits: the number (0 to 15) in the low 16, in the next 16 the count, which is the steps made, the rules counted or the
  * words needed, and in the upper 32 the position, at most 524,288. Each of these is a uint32_t. */
 #define JIRVUNTSAG_NUMBER(answer) ((uint32_t)((uint64_t)(answer) & 0xffffu))
 #define JIRVUNTSAG_COUNT(answer) ((uint32_t)((uint64_t)(answer) >> 16 & 0xffffu))
@@ -98,6 +117,23 @@ uint64_t jirvuntsag_run_fresh(const uint8_t *image, size_t image_len, uint32_t s
 /* Runs as jirvuntsag_run_fresh does, with the same answer, and notes each step in events as jirvuntsag_trace does.
  * Leaves: as jirvuntsag_run_fresh; the words of events past those of the steps made as they were. */
 uint64_t jirvuntsag_trace_fresh(const uint8_t *image, size_t image_len, uint32_t state[81], uint16_t steps, uint32_t *events, size_t events_len);
+
+/* Runs as jirvuntsag_trace does, where a store may be lent: `lent` says what is, 0 nothing, JIRVUNTSAG_LENT_STORE a store. What is not lent
+ * is neither read nor written, whatever its length; a null pointer of length 0 will do. No events are noted where events_len is 0.
+ * Answers a number (0 to 9, or 11 to 15), its position, and the steps made. 15 comes after 6: the store's length is not 2,305, its count is
+ * over 256, or a place below the count has a type of 0 or past the image's, a value over 4,095, or a value in a slot past the type's count.
+ * 14 comes after 8: there are not places enough for the chunks that a step would add.
+ * Leaves: the state, the table and the store after the steps made; at 1 to 6, 11 to 13 and 15 all as they were, and no step is made. At 14
+ * the step in question changes nothing. The places of the store past its count stay as they were, word for word. */
+uint64_t jirvuntsag_run_lent(const uint8_t *image, size_t image_len, uint32_t state[81], uint16_t *table, size_t table_len, uint16_t steps,
+                             uint32_t *events, size_t events_len, uint16_t lent, uint16_t *store, size_t store_len);
+
+/* Runs as jirvuntsag_trace_fresh does, where a store may be lent as above. Answers, and leaves in state, events and store, what
+ * jirvuntsag_run_lent does that is handed the fresh table of the state and the same store: a number (0 to 4, 6, 8, 9 or 11 to 15), its
+ * position, and the steps made.
+ * Leaves: the state and the store after the steps made; at 1 to 4, 6, 11 to 13 and 15 both as they were, and no step is made. */
+uint64_t jirvuntsag_run_fresh_lent(const uint8_t *image, size_t image_len, uint32_t state[81], uint16_t steps, uint32_t *events,
+                                   size_t events_len, uint16_t lent, uint16_t *store, size_t store_len);
 
 #ifdef __cplusplus
 }

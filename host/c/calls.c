@@ -1,5 +1,5 @@
-/* The functions of jirvuntsag.h on model A, answers and all that they leave; those without a table are in fresh_calls.c, and the images
- * that are refused in refused.c. Also compiled as C++. Exits with 1 at the first that differs. */
+/* The functions of jirvuntsag.h on model A, answers and all that they leave; those without a table are in fresh_calls.c, those
+ * with a store in lent_calls.c, and the images that are refused in refused.c. Also compiled as C++. Exits with 1 at the first that differs. */
 #include "calls.h"
 
 #include <string.h>
@@ -174,6 +174,7 @@ int main(int count, char **arguments) {
     check_noted(trace_kept);
     check_refresh();
     check_fresh_calls();
+    check_lent_calls();
     check_header();
     return 0;
 }

@@ -45,4 +45,7 @@ void check_noted(Trace trace);
 /* The two calls without a table, in fresh_calls.c. */
 void check_fresh_calls(void);
 
+/* The two calls that may be lent a store, in lent_calls.c. */
+void check_lent_calls(void);
+
 #endif

@@ -35,6 +35,8 @@ bool next_case(Case *into) {
     need(into->table, sizeof into->table[0], into->table_length);
     into->mark = (uint16_t)need_word(UINT16_MAX);
     into->steps = (uint16_t)need_word(LONGEST_EVENTS / 3);
+    into->store_length = need_word(LONGEST_STORE);
+    need(into->store, sizeof into->store[0], into->store_length);
     /* Sometimes room for every step, sometimes for fewer, sometimes for a part of one. */
     into->events_length = 3u * into->steps - (into->image_length + into->mark) % (3u * into->steps + 1);
     return true;

@@ -24,7 +24,7 @@ typedef struct {
 
 static Mode mode;
 static bool is_short;
-static Place image_place, table_place, state_place, events_place;
+static Place image_place, table_place, state_place, events_place, store_place;
 static uint64_t sum = 14695981039346656037u;
 static unsigned long calls;
 
@@ -125,6 +125,28 @@ static void make_fresh_calls(const Case *one, const uint8_t *image) {
     add(events, sizeof events[0] * one->events_length);
 }
 
+/* Takes the store that a call left into the sum. */
+static void note_store(const uint16_t *store, const Case *one) { add(store, sizeof one->store[0] * one->store_length); }
+
+static uint16_t *lend_store(const Case *one) { return lend(&store_place, one->store, sizeof one->store[0] * one->store_length); }
+
+/* Each call that may be lent a store, on its own copies; and with a store that is there and not lent, which must not be looked at. */
+static void make_lent_calls(const Case *one, const uint8_t *image, uint16_t lent) {
+    size_t length = one->image_length, words = one->table_length;
+    uint16_t *table = lend_table(one), *store = lend_store(one);
+    uint32_t *state = lend_state(one), *events = lend_events(one);
+    note_kept(jirvuntsag_run_lent(image, length, state, table, words, one->steps, events, one->events_length, lent, store, one->store_length),
+              state, table, one);
+    add(events, sizeof events[0] * one->events_length);
+    note_store(store, one);
+    store = lend_store(one);
+    state = lend_state(one);
+    events = lend_events(one);
+    note(jirvuntsag_run_fresh_lent(image, length, state, one->steps, events, one->events_length, lent, store, one->store_length), state);
+    add(events, sizeof events[0] * one->events_length);
+    note_store(store, one);
+}
+
 static void make_calls(const Case *one) {
     size_t lent = one->image_length - (is_short && one->image_length > 0);
     const uint8_t *image = lend_to_read(&image_place, one->image, lent);
@@ -133,6 +155,8 @@ static void make_calls(const Case *one) {
     calls++;
     make_kept_calls(one, image);
     make_fresh_calls(one, image);
+    make_lent_calls(one, image, JIRVUNTSAG_LENT_STORE);
+    make_lent_calls(one, image, 0);
 }
 
 int main(int count, char **arguments) {

@@ -12,11 +12,11 @@
 #include "cases.h"
 #include "jirvuntsag.h"
 
-enum { PAGE = 4096, CALLS = 8, PAINT = 0xa5 };
-typedef enum { NOTHING, TABLE_LEN, OPEN, RUN, TRACE, REFRESH, RUN_FRESH, TRACE_FRESH } Call;
+enum { PAGE = 4096, CALLS = 10, PAINT = 0xa5 };
+typedef enum { NOTHING, TABLE_LEN, OPEN, RUN, TRACE, REFRESH, RUN_FRESH, TRACE_FRESH, RUN_LENT, RUN_FRESH_LENT } Call;
 static const char *const NAMES[CALLS] = {
-    "nothing",          "jirvuntsag_table_len", "jirvuntsag_open",      "jirvuntsag_run",
-    "jirvuntsag_trace", "jirvuntsag_refresh",   "jirvuntsag_run_fresh", "jirvuntsag_trace_fresh",
+    "nothing",          "jirvuntsag_table_len",      "jirvuntsag_open",      "jirvuntsag_run",         "jirvuntsag_trace",
+    "jirvuntsag_refresh", "jirvuntsag_run_fresh", "jirvuntsag_trace_fresh", "jirvuntsag_run_lent", "jirvuntsag_run_fresh_lent",
 };
 
 static Case one;
@@ -24,6 +24,7 @@ static Case one;
 static uint16_t table[LONGEST_TABLE];
 static uint32_t state[STATE_WORDS];
 static uint32_t events[LONGEST_EVENTS];
+static uint16_t store[LONGEST_STORE];
 static Call called;
 static ucontext_t here, there;
 
@@ -38,6 +39,12 @@ static void make_call(void) {
     case REFRESH: jirvuntsag_refresh(one.image, length, state, one.mark, table, words); break;
     case RUN_FRESH: jirvuntsag_run_fresh(one.image, length, state, one.steps); break;
     case TRACE_FRESH: jirvuntsag_trace_fresh(one.image, length, state, one.steps, events, one.events_length); break;
+    case RUN_LENT:
+        jirvuntsag_run_lent(one.image, length, state, table, words, one.steps, events, one.events_length, 1, store, one.store_length);
+        break;
+    case RUN_FRESH_LENT:
+        jirvuntsag_run_fresh_lent(one.image, length, state, one.steps, events, one.events_length, 1, store, one.store_length);
+        break;
     }
 }
 
@@ -45,6 +52,7 @@ static void make_call(void) {
 static size_t used_by(Call call, uint8_t *stack, size_t bound) {
     memcpy(table, one.table, sizeof table);
     memcpy(state, one.state, sizeof state);
+    memcpy(store, one.store, sizeof store);
     memset(stack, PAINT, bound);
     if (getcontext(&there) != 0)
         exit(2);

@@ -7,6 +7,7 @@ mod fetching;
 mod figures;
 mod growth;
 mod keeping;
+mod lending;
 mod models;
 mod opened;
 mod peers;

@@ -5,13 +5,16 @@ use std::fmt::Display;
 use jirvuntsag_packing::{largest, model_a, pack, ModelSpec};
 
 use crate::specs::{
-    all_match, counting, few_of_many, pairs, pending, resting, tests_a_rule, tokens, touching, FIRST, LAST,
+    all_match, counting, few_of_many, notes, pairs, pending, resting, tests_a_rule, tokens, touching, Noted, FIRST,
+    LAST,
 };
 
 /// Rules of the models with as many as an image can have.
 const RULES: u16 = 256;
 /// Steps of a long run.
 const STEPS: u16 = 1_000;
+/// Steps of the runs that learn: three for each of 250 facts.
+const NOTES: u16 = 750;
 /// Steps of a run in which a step's own cost counts, and reading the image hardly does.
 const MANY: u16 = 10_000;
 
@@ -69,6 +72,15 @@ pub fn models() -> Vec<Measured> {
         model("254 rules match and rest, two take turns", STEPS, &resting(RULES)),
         model("eight buffers, many pending", STEPS, &pending()),
         model("largest image", 1, &largest()),
+    ]
+}
+
+/// Models that clear a chunk in every third step: one that is known, a new one, and a new one that is asked for again.
+pub fn learning() -> Vec<Measured> {
+    vec![
+        model("clears what is known", NOTES, &notes(Noted::Known)),
+        model("learns 250 facts", NOTES, &notes(Noted::New)),
+        model("learns 250 facts, and recalls each", NOTES, &notes(Noted::Recalled)),
     ]
 }
 

@@ -26,16 +26,21 @@ pub struct Opened<'a> {
 impl<'a> Opened<'a> {
     /// Opens a model and runs it on both engines, one step and all, so that nothing is measured that is not the same.
     pub fn new(model: &'a Measured) -> Opened<'a> {
+        let opened = Opened::unlent(model);
+        opened.agree(1);
+        opened.agree(model.steps);
+        opened
+    }
+
+    /// Opens a model that makes its steps only where a store is lent.
+    pub fn unlent(model: &'a Measured) -> Opened<'a> {
         let decoded = reference::Model::decode(&model.image).expect("a valid model");
         let mut fresh = vec![0; decoded.table_len()];
         let (_, _, state) = reference::open(&model.image, &mut fresh);
         let mut table = vec![0; fresh.len()];
         let (_, proved) = proved::calls::open(&model.image, &mut table);
         assert!(table == fresh, "{}", model.name);
-        let opened = Opened { model, decoded, proved, reference: state, fresh, made: model.steps };
-        opened.agree(1);
-        opened.agree(model.steps);
-        opened
+        Opened { model, decoded, proved, reference: state, fresh, made: model.steps }
     }
 
     /// Runs so many steps on both engines, kept and fresh, which must make them all, and leave the same.

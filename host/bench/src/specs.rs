@@ -141,6 +141,68 @@ pub fn touching(buffers: u8) -> ModelSpec {
     ring_model(8, &places, (0..RING).map(hand_on).chain((0..7 * RING).map(rests)).collect())
 }
 
+/// What a model notes and clears.
+#[derive(Clone, Copy, PartialEq, Eq)]
+pub enum Noted {
+    /// The same each time, which is a fact of the image.
+    Known,
+    /// Another number each time.
+    New,
+    /// Another number each time, which is asked for in the step after it was cleared.
+    Recalled,
+}
+
+/// Types of the model that notes: the goal with its step and number, what follows a number, a sheet with a number on it.
+const GOAL: u8 = 1;
+const FOLLOWS: u8 = 2;
+const SHEET: u8 = 3;
+/// The number on a sheet that is blank.
+const BLANK: u16 = 4_000;
+
+/// Takes a sheet, writes a number on it and clears it, again and again, in three steps each, with numbers from 2 to 500 and
+/// round again. Facts come at once.
+pub fn notes(noted: Noted) -> ModelSpec {
+    const NUMBERS: u16 = 500;
+    let at_once = |chunk| FactSpec { chunk, activation: 10, latency: 0 };
+    let follows = |first: u16| at_once(ChunkSpec::new(FOLLOWS, &[first, first % NUMBERS + 1]));
+    let blank = at_once(ChunkSpec::new(SHEET, &[BLANK, BLANK]));
+    let opening =
+        vec![ChunkSpec::new(GOAL, &[1, 1]), ChunkSpec::new(FOLLOWS, &[1, 2]), ChunkSpec::nil(), ChunkSpec::nil()];
+    ModelSpec {
+        failure: 0,
+        types: vec![2, 2, 2],
+        opening,
+        facts: (1..=NUMBERS).map(follows).chain([blank]).collect(),
+        rules: note_rules(noted),
+    }
+}
+
+/// The rules of that model: to take a sheet and the next number, to write, and to clear.
+fn note_rules(noted: Noted) -> Vec<RuleSpec> {
+    let (number, next) = (Term::Variable(0), Term::Variable(1));
+    let step = |step: u16| (0, Term::Symbol(step));
+    let rule = |variables, tests, actions| RuleSpec { variables, tests, actions, ..RuleSpec::default() };
+    let goal = |named: &[(usize, Term)]| TestSpec::new(0, GOAL, named);
+    let sheet = || TestSpec::new(2, SHEET, &[]);
+    let mut take = vec![
+        ActionSpec::modify(0, &[step(2), (1, next)]),
+        ActionSpec::request(1, FOLLOWS, &[(0, next)]),
+        ActionSpec::request(2, SHEET, &[(0, Term::Symbol(BLANK))]),
+    ];
+    if noted == Noted::Recalled {
+        take.push(ActionSpec::request(3, SHEET, &[(0, number)]));
+    }
+    let written = if noted == Noted::Known { vec![] } else { vec![(0, number)] };
+    let write = vec![ActionSpec::modify(0, &[step(3)]), ActionSpec::modify(2, &written)];
+    let clear = vec![ActionSpec::modify(0, &[step(1)]), ActionSpec::clear(2)];
+    let follows = TestSpec::new(1, FOLLOWS, &[(0, number), (1, next)]);
+    vec![
+        rule(2, vec![goal(&[step(1), (1, number)]), follows], take),
+        rule(1, vec![goal(&[step(2), (1, number)]), sheet()], write),
+        rule(0, vec![goal(&[step(3)]), sheet()], clear),
+    ]
+}
+
 /// A token that asks for a late chunk in one of seven other buffers at each step, and 56 rules that wait for one.
 pub fn pending() -> ModelSpec {
     let hand_on = |number: u16| {

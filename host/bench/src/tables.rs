@@ -7,7 +7,8 @@ use jirvuntsag_reference as reference;
 
 use crate::growth::print_growing;
 use crate::keeping::print_kept;
-use crate::models::{growing, models, WIDTHS};
+use crate::lending::{print_learning, print_lent};
+use crate::models::{growing, learning, models, WIDTHS};
 use crate::opened::{by_proved, by_reference, Opened};
 use crate::progress::Progress;
 use crate::reading::{print_one_step, print_reading};
@@ -61,15 +62,17 @@ fn fetching_rows(models: usize) -> usize {
 
 /// Measures and prints the tables.
 pub fn print_tables() {
-    let (models, growing) = (models(), growing());
+    let (models, growing, learning) = (models(), growing(), learning());
     let all: Vec<Opened> = models.iter().map(Opened::new).collect();
     let grown = growing.iter().map(Vec::len).sum::<usize>();
-    let mut progress = Progress::of(4 * all.len() + grown + fetching_rows(all.len()));
+    let mut progress = Progress::of(5 * all.len() + grown + learning.len() + fetching_rows(all.len()));
     print_beside(&all, &mut progress);
     print_kept(&all, &mut progress);
     print_growing(&growing, &mut progress);
     print_reading(&all, &mut progress);
     print_one_step(&all, &mut progress);
+    print_lent(&all, &mut progress);
+    print_learning(&learning, &mut progress);
     #[cfg(feature = "fetches")]
     crate::fetching::print_fetching(&all, &mut progress);
 }

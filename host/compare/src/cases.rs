@@ -1,10 +1,10 @@
-//! The cases of `vectors/04.txt`, which have requests 2026-01 to 2026-04 in: a call and its answer on two lines.
+//! The cases of `vectors/05.txt`, which have requests 2026-01 to 2026-05 in: a call and its answer on two lines.
 
 use jirvuntsag_reference::{Buffer, State};
 
 use crate::{Engine, Numbered};
 
-const PATH: &str = concat!(env!("CARGO_MANIFEST_DIR"), "/../../vectors/04.txt");
+const PATH: &str = concat!(env!("CARGO_MANIFEST_DIR"), "/../../vectors/05.txt");
 
 /// A call and the answer that it must have, as they are written.
 pub struct Case {
@@ -16,7 +16,7 @@ pub struct Case {
 
 /// All cases.
 pub fn cases() -> Vec<Case> {
-    let text = std::fs::read_to_string(PATH).expect("vectors/04.txt");
+    let text = std::fs::read_to_string(PATH).expect("vectors/05.txt");
     let lines: Vec<&str> = text.lines().collect();
     assert_eq!(lines.len() % 2, 0, "a call without an answer");
     lines.chunks_exact(2).map(|pair| Case { call: pair[0].into(), answer: pair[1].into() }).collect()
@@ -59,16 +59,20 @@ impl Case {
                 let (number, at, state) = (engine.open)(&bytes(image), &mut table);
                 format!("{number} {at} {} {}", show_state(&state), show_words(&table))
             }
-            ["run", image, from, table, steps] => {
-                let mut table = words(table);
+            ["run", image, from, table, steps, lent] => {
+                let (mut table, mut lent) = (words(table), store(lent));
                 let steps = steps.parse().expect("steps");
-                let (number, at, after, made) = (engine.run)(&bytes(image), state(from), &mut table, steps);
-                format!("{number} {at} {} {} {made}", show_state(&after), show_words(&table))
+                let (number, at, after, made) =
+                    (engine.run_lent)(&bytes(image), state(from), &mut table, steps, Some(&mut lent));
+                let (after, table, lent) = (show_state(&after), show_words(&table), show_store(&lent));
+                format!("{number} {at} {after} {table} {made} {lent}")
             }
-            ["fresh", image, from, steps] => {
+            ["fresh", image, from, steps, lent] => {
+                let mut lent = store(lent);
                 let steps = steps.parse().expect("steps");
-                let (number, at, after, made) = (engine.run_fresh)(&bytes(image), state(from), steps);
-                format!("{number} {at} {} {made}", show_state(&after))
+                let (number, at, after, made) =
+                    (engine.run_fresh_lent)(&bytes(image), state(from), steps, Some(&mut lent));
+                format!("{number} {at} {} {made} {}", show_state(&after), show_store(&lent))
             }
             ["refresh", image, from, mark, table] => {
                 let mut table = words(table);
@@ -110,6 +114,27 @@ fn state(text: &str) -> State {
 fn buffer(words: &[u16]) -> Buffer {
     assert_eq!(words.len(), 10);
     Buffer { isa: words[0], slots: words[1..9].try_into().expect("eight slots"), delay: words[9] }
+}
+
+/// `PLACES/COUNT/F0/F1/..`; places that are not listed are nine zeros.
+fn store(text: &str) -> Vec<u16> {
+    let mut parts = text.split('/');
+    let mut number = || parts.next().expect("places and a count").parse().expect("a number");
+    let (places, count): (usize, usize) = (number(), number());
+    let mut store = vec![count as u16];
+    parts.for_each(|fact| store.extend(words(fact)));
+    assert!(store.len() % 9 == 1 && store.len() <= 1 + 9 * places, "{text}");
+    store.resize(1 + 9 * places, 0);
+    store
+}
+
+/// The same from the words, with the places up to the last that is not nine zeros, or up to the count.
+fn show_store(store: &[u16]) -> String {
+    let (count, places) = store.split_first().expect("a count");
+    let places: Vec<&[u16]> = places.chunks_exact(9).collect();
+    let used = places.iter().rposition(|place| **place != [0; 9]).map_or(0, |last| last + 1);
+    let shown = places[..used].iter().map(|place| format!("/{}", show_words(place)));
+    format!("{}/{count}{}", places.len(), shown.collect::<String>())
 }
 
 fn show_words(words: &[u16]) -> String {

@@ -9,7 +9,7 @@ mod same;
 
 pub use by_hand::{always_fires, P1};
 pub use cases::{cases, Case};
-pub use fresh::{hold_fresh, hold_fresh_to};
+pub use fresh::{hold_fresh, hold_fresh_to, hold_lent};
 pub use same::{hold_same, opening, Numbered};
 
 use jirvuntsag_reference as reference;
@@ -31,6 +31,10 @@ type Opens = fn(&[u8], &mut [u16]) -> Opened;
 type Runs<Answer> = fn(&[u8], State, &mut [u16], u16) -> Answer;
 /// A run without a table, by what it answers.
 type RunsFresh<Answer> = fn(&[u8], State, u16) -> Answer;
+/// A run that is lent a table, and a store or none.
+type RunsLent<Answer> = fn(&[u8], State, &mut [u16], u16, Option<&mut [u16]>) -> Answer;
+/// A run without a table that is lent a store or none.
+type RunsFreshLent<Answer> = fn(&[u8], State, u16, Option<&mut [u16]>) -> Answer;
 /// A refresh with a mark.
 type Refreshes = fn(&[u8], &State, u16, &mut [u16]) -> Refreshed;
 
@@ -50,6 +54,14 @@ pub struct Engine {
     pub run_fresh: RunsFresh<Ran>,
     /// The state and each step, without a table.
     pub trace_fresh: RunsFresh<Told>,
+    /// The state and the steps made; the table is written, and a store if it is lent.
+    pub run_lent: RunsLent<Ran>,
+    /// The state and each step; the table is written, and a store if it is lent.
+    pub trace_lent: RunsLent<Told>,
+    /// The state and the steps made, without a table; a store is written if it is lent.
+    pub run_fresh_lent: RunsFreshLent<Ran>,
+    /// The state and each step, without a table; a store is written if it is lent.
+    pub trace_fresh_lent: RunsFreshLent<Told>,
     /// The count of refreshed rules; the table is written.
     pub refresh: Refreshes,
     /// The lines of the printing program.
@@ -72,6 +84,10 @@ pub const REFERENCE: Engine = Engine {
     trace: reference::trace,
     run_fresh: reference::run_fresh,
     trace_fresh: reference::trace_fresh,
+    run_lent: reference::run_lent,
+    trace_lent: reference::trace_lent,
+    run_fresh_lent: reference::run_fresh_lent,
+    trace_fresh_lent: reference::trace_fresh_lent,
     refresh: reference::refresh,
     print: reference::print,
 };
@@ -85,6 +101,10 @@ pub const PROVED: Engine = Engine {
     trace: proved::trace,
     run_fresh: proved::run_fresh,
     trace_fresh: proved::trace_fresh,
+    run_lent: proved::run_lent,
+    trace_lent: proved::trace_lent,
+    run_fresh_lent: proved::run_fresh_lent,
+    trace_fresh_lent: proved::trace_fresh_lent,
     refresh: proved::refresh,
     print: printing::print_proved,
 };

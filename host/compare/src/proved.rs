@@ -68,6 +68,26 @@ pub fn trace_fresh(image: &[u8], state: State, steps: u16) -> Told {
     traced(calls::trace_fresh(image, &to_proved(&state), steps))
 }
 
+/// The number, the position, the state and the steps made, where a store may be lent.
+pub fn run_lent(image: &[u8], state: State, table: &mut [u16], steps: u16, store: Option<&mut [u16]>) -> Ran {
+    ran(calls::run_lent(image, &to_proved(&state), table, steps, store))
+}
+
+/// The number, the position, the state and each step, where a store may be lent.
+pub fn trace_lent(image: &[u8], state: State, table: &mut [u16], steps: u16, store: Option<&mut [u16]>) -> Told {
+    traced(calls::trace_lent(image, &to_proved(&state), table, steps, store))
+}
+
+/// The number, the position, the state and the steps made, without a table, where a store may be lent.
+pub fn run_fresh_lent(image: &[u8], state: State, steps: u16, store: Option<&mut [u16]>) -> Ran {
+    ran(calls::run_fresh_lent(image, &to_proved(&state), steps, store))
+}
+
+/// The number, the position, the state and each step, without a table, where a store may be lent.
+pub fn trace_fresh_lent(image: &[u8], state: State, steps: u16, store: Option<&mut [u16]>) -> Told {
+    traced(calls::trace_fresh_lent(image, &to_proved(&state), steps, store))
+}
+
 /// The number, the position and the count.
 pub fn refresh(image: &[u8], state: &State, mark: u16, table: &mut [u16]) -> Refreshed {
     let (number, count) = calls::refresh(image, &to_proved(state), mark, table);

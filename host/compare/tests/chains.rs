@@ -1,11 +1,12 @@
-//! Chains of calls, refused ones among them: each is handed the state and the table that the call before it left.
+//! Chains of calls, refused ones among them: each is handed the state and the table that the call before it left, and the store
+//! if it is lent one.
 
 use std::collections::BTreeMap;
 
 use jirvuntsag_compare::{hold_fresh_to, Engine, Numbered, Ran, BOTH, PROVED, REFERENCE};
-use jirvuntsag_generate::{broken_state, clock, damage, each_seed, mark, model, steps, Rng};
+use jirvuntsag_generate::{broken_state, clock, damage, each_seed, mark, model, steps, store, Rng};
 use jirvuntsag_packing::{pack_with_fields, ModelSpec, Packed};
-use jirvuntsag_reference::{Event, Model, State};
+use jirvuntsag_reference::{Event, Model, State, STORE_WORDS};
 
 /// Links of a chain.
 const LINKS: usize = 24;
@@ -18,6 +19,10 @@ enum Link {
     Run(u16),
     Trace(u16),
     Refresh(u16),
+    RunLent(u16),
+    TraceLent(u16),
+    /// A run that is lent this store, fit or not, in place of the one in hand; the next is lent what it leaves.
+    OtherStore(Vec<u16>),
     /// A run, a refresh and a fresh run that are handed this image.
     DamagedImage(Vec<u8>),
     /// A run, a refresh and a fresh run that are handed this state.
@@ -33,6 +38,7 @@ enum Link {
 struct Hand {
     state: State,
     table: Vec<u16>,
+    store: Vec<u16>,
 }
 
 /// What the calls of a link answer: numbers with their positions, counts and steps.
@@ -53,13 +59,13 @@ impl Said {
 
     /// Whether each call was refused, so that nothing may have changed.
     fn refused(&self) -> bool {
-        self.numbers.iter().all(|(number, _)| matches!(number, 1..=6 | 10..=13))
+        self.numbers.iter().all(|(number, _)| matches!(number, 1..=6 | 10..=13 | 15))
     }
 }
 
 /// A link that fits anywhere in a chain.
-fn link(rng: &mut Rng, spec: &ModelSpec, packed: &Packed) -> Link {
-    match rng.below(20) {
+fn link(rng: &mut Rng, spec: &ModelSpec, packed: &Packed, at: &State) -> Link {
+    match rng.below(28) {
         0..=6 => Link::Run(steps(rng).min(200)),
         7..=9 => Link::Trace(steps(rng).min(200)),
         10..=12 => Link::Refresh(mark(rng, spec.opening.len())),
@@ -67,6 +73,9 @@ fn link(rng: &mut Rng, spec: &ModelSpec, packed: &Packed) -> Link {
         15 => Link::BrokenState(Box::new(broken_state(rng, spec).1)),
         16 => Link::LongTable,
         17..=18 => Link::SetClock(clock(rng)),
+        20..=23 => Link::RunLent(steps(rng).min(200)),
+        24..=26 => Link::TraceLent(steps(rng).min(200)),
+        27 => Link::OtherStore(store(rng, spec, at).1),
         _ => Link::SetWord(rng.word() as usize, rng.pick(&[0, 1, 1, 2, 65_535])),
     }
 }
@@ -122,6 +131,30 @@ fn make(engine: &Engine, image: &[u8], link: &Link, hand: &mut Hand) -> Said {
             let (number, position, count) = (engine.refresh)(image, &hand.state, *mark, &mut hand.table);
             said.note(number, position, count);
         }
+        Link::RunLent(steps) => {
+            let (number, position, state, made) =
+                (engine.run_lent)(image, hand.state, &mut hand.table, *steps, Some(&mut hand.store));
+            hand.state = state;
+            said.note(number, position, made);
+        }
+        Link::TraceLent(steps) => {
+            let (number, position, state, events) =
+                (engine.trace_lent)(image, hand.state, &mut hand.table, *steps, Some(&mut hand.store));
+            hand.state = state;
+            said.note(number, position, events.len() as u16);
+            said.events = events;
+        }
+        Link::OtherStore(other) => {
+            let mut lent = other.clone();
+            let (number, position, state, made) =
+                (engine.run_lent)(image, hand.state, &mut hand.table, 3, Some(&mut lent));
+            hand.state = state;
+            said.note(number, position, made);
+            match number {
+                1..=6 | 11..=13 | 15 => assert!(lent == *other, "refused by {number}"),
+                _ => hand.store = lent,
+            }
+        }
         Link::SetClock(clock) => hand.state.clock = *clock,
         Link::SetWord(at, value) => {
             let words = hand.table.len().max(1);
@@ -138,6 +171,7 @@ fn make(engine: &Engine, image: &[u8], link: &Link, hand: &mut Hand) -> Said {
 fn keeps(link: &Link, said: &Said) -> bool {
     match link {
         Link::Run(_) | Link::Trace(_) | Link::Refresh(_) | Link::SetClock(_) => true,
+        Link::RunLent(_) | Link::TraceLent(_) | Link::OtherStore(_) => true,
         Link::DamagedImage(_) | Link::BrokenState(_) | Link::LongTable => said.refused(),
         Link::SetWord(..) => false,
     }
@@ -160,7 +194,7 @@ impl Chain {
         let [proved, reference] = BOTH.map(|engine| {
             let mut table = engine.zeros(image);
             let (_, _, state) = (engine.open)(image, &mut table);
-            Hand { state, table }
+            Hand { state, table, store: vec![0; STORE_WORDS] }
         });
         Chain { image: image.to_vec(), decoded, proved, reference, kept: true }
     }
@@ -177,23 +211,31 @@ impl Chain {
         self.kept = self.kept && keeps(link, &said);
         if self.kept {
             assert_eq!(self.proved.table, self.decoded.fresh_table(&self.proved.state), "kept after {link:?}");
-            self.hold_fresh(before.state, link, &said);
+            self.hold_fresh(&before, link, &said);
         }
         said
     }
 
     /// While the table is kept nobody can tell a fresh run from a kept one: that of the link, and one from where it led.
-    fn hold_fresh(&self, before: State, link: &Link, said: &Said) {
-        let Hand { state, table } = &self.proved;
+    fn hold_fresh(&self, before: &Hand, link: &Link, said: &Said) {
+        let Hand { state, table, store } = &self.proved;
         for engine in BOTH {
             if let Link::Trace(steps) = *link {
                 let (number, position) = said.numbers[0];
-                hold_fresh_to(engine, &self.image, before, steps, &(number, position, *state, said.events.clone()));
+                let told = (number, position, *state, said.events.clone());
+                hold_fresh_to(engine, &self.image, before.state, steps, &told);
             }
             if let Link::Run(steps) = *link {
                 let (number, position) = said.numbers[0];
                 let ran = (number, position, *state, said.counts[0]);
-                assert_eq!((engine.run_fresh)(&self.image, before, steps), ran, "{} {link:?}", engine.name);
+                assert_eq!((engine.run_fresh)(&self.image, before.state, steps), ran, "{} {link:?}", engine.name);
+            }
+            if let Link::RunLent(steps) | Link::TraceLent(steps) = *link {
+                let (number, position) = said.numbers[0];
+                let (ran, mut lent) = ((number, position, *state, said.counts[0]), before.store.clone());
+                let fresh = (engine.run_fresh_lent)(&self.image, before.state, steps, Some(&mut lent));
+                assert_eq!(fresh, ran, "{} {link:?}", engine.name);
+                assert!(lent == *store, "{} {link:?}: the stores differ", engine.name);
             }
             let kept = (engine.trace)(&self.image, *state, &mut table.clone(), BESIDE);
             hold_fresh_to(engine, &self.image, *state, BESIDE, &kept);
@@ -207,7 +249,7 @@ fn chain(rng: &mut Rng, numbers: &mut BTreeMap<u8, u32>) {
     let packed = pack_with_fields(&spec);
     let mut chain = Chain::open(&packed.bytes);
     for _ in 0..LINKS {
-        let said = chain.add(&link(rng, &spec, &packed));
+        let said = chain.add(&link(rng, &spec, &packed, &chain.proved.state));
         said.numbers.iter().for_each(|(number, _)| *numbers.entry(*number).or_default() += 1);
         if !chain.decoded.is_well_formed(&chain.proved.state) {
             // A damaged image that is accepted may leave a state that this one refuses from here on.
@@ -221,7 +263,7 @@ fn chains_of_calls_with_refused_ones_between() {
     let mut numbers = BTreeMap::new();
     each_seed(50_000, 6_000, |_, mut rng| chain(&mut rng, &mut numbers));
     println!("{numbers:?}");
-    for number in 0..=13 {
+    for number in 0..=15 {
         assert!(numbers.contains_key(&number), "no chain met {number}: {numbers:?}");
     }
 }

@@ -1,15 +1,16 @@
 //! Writes calls for the drivers in `host/c` to standard output: `cargo run --example cases -- COUNT [SEED]`.
 //!
 //! A case is, in little-endian words of 32 bits: the image's length and its bytes; the 81 words of a state; the table's
-//! length and its words of 16 bits; the mark; the steps. The first case is model A from its opening, the second the largest
-//! image; then come each cut and each flipped bit of model A, and COUNT random cases.
+//! length and its words of 16 bits; the mark; the steps; the store's length and its words of 16 bits. The first case is
+//! model A from its opening, the second the largest image; then come each cut and each flipped bit of model A, and COUNT
+//! random cases.
 
 use std::io::{self, Write};
 use std::process::ExitCode;
 
 use jirvuntsag_generate::{case, Case, Rng};
 use jirvuntsag_packing::{largest, model_a, pack};
-use jirvuntsag_reference::{open, table_len};
+use jirvuntsag_reference::{open, table_len, STORE_WORDS};
 
 const USAGE: &str = "usage: cases COUNT [SEED]
 Writes model A, the largest image, each cut and flipped bit of model A, and COUNT random cases from SEED (1) on, as calls
@@ -21,7 +22,7 @@ const STEPS: u16 = 300;
 fn opening(image: Vec<u8>) -> Case {
     let mut table = vec![0; table_len(&image).2];
     let (_, _, state) = open(&image, &mut table);
-    Case { image, state, table, mark: 1, steps: STEPS }
+    Case { image, state, table, mark: 1, steps: STEPS, store: vec![0; STORE_WORDS] }
 }
 
 /// The words of a case's state, one of them too large for its field in about one case of ten.
@@ -47,6 +48,8 @@ fn bytes(rng: &mut Rng, case: &Case) -> Vec<u8> {
     bytes.extend(case.table.iter().flat_map(|word| word.to_le_bytes()));
     bytes.extend(word(usize::from(case.mark)));
     bytes.extend(word(usize::from(case.steps.min(STEPS))));
+    bytes.extend(word(case.store.len()));
+    bytes.extend(case.store.iter().flat_map(|word| word.to_le_bytes()));
     bytes
 }
 

@@ -7,6 +7,7 @@ use crate::image::damage;
 use crate::model::model;
 use crate::rng::Rng;
 use crate::state::{broken_state, mark, state, steps};
+use crate::store::store;
 use crate::table::{guessed_table, table};
 
 /// Arguments for open, run, refresh and print.
@@ -22,6 +23,8 @@ pub struct Case {
     pub mark: u16,
     /// The steps for a run.
     pub steps: u16,
+    /// The words of a store that is lent to a run, unfit in about one case of three.
+    pub store: Vec<u16>,
 }
 
 /// The case of a seed.
@@ -37,5 +40,6 @@ pub fn case(seed: u64) -> Case {
     };
     let mark = mark(&mut rng, spec.opening.len());
     let steps = steps(&mut rng);
-    Case { image, state, table, mark, steps }
+    let store = store(&mut rng, &spec, &state).1;
+    Case { image, state, table, mark, steps, store }
 }

@@ -1,6 +1,6 @@
 //! A deterministic generator for differential tests of document 01.
 //!
-//! The same seed always gives the same models, states, tables, marks and images;
+//! The same seed always gives the same models, states, tables, marks, stores and images;
 //! there is no other source of randomness.
 
 mod case;
@@ -11,6 +11,7 @@ mod rng;
 mod seeds;
 mod shape;
 mod state;
+mod store;
 mod table;
 
 pub use case::{case, Case};
@@ -20,4 +21,5 @@ pub use rng::Rng;
 pub use seeds::{each_seed, SEED_VARIABLE, TIMES_VARIABLE};
 pub use shape::Shape;
 pub use state::{broken_state, clock, mark, state, steps, BrokenBy};
+pub use store::{store, StoreKind};
 pub use table::{guessed_table, table, TableKind};

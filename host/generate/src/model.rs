@@ -214,6 +214,7 @@ impl Draft<'_> {
     fn action(&mut self, buffer: usize, tests: &[TestSpec], variables: u16) -> ActionSpec {
         let tested = tests.iter().find(|test| usize::from(test.buffer) == buffer);
         let deed = match (self.rng.below(10), tested) {
+            _ if self.rng.chance(self.shape.clears) => Deed::Clear,
             (0..=4, Some(test)) => Deed::Modify(self.pattern(test.isa, variables, 50)),
             (0..=8, _) if self.shape.types > 0 => {
                 let isa = self.type_for(buffer).max(1);

@@ -27,6 +27,8 @@ pub struct Shape {
     pub full: usize,
     /// Chance in a hundred that a rule changes what it tests, so that runs do not stay at one rule.
     pub lively: usize,
+    /// Chance in a hundred that an action is a clear, whatever else it could be: where a store is lent, it may learn.
+    pub clears: usize,
 }
 
 impl Shape {
@@ -44,6 +46,7 @@ impl Shape {
             symbols: rng.from_to(2, 5),
             full: rng.pick(&[0, 10, 30]),
             lively: rng.pick(&[0, 70, 90, 100]),
+            clears: rng.pick(&[0, 0, 30, 60]),
         }
     }
 
@@ -62,6 +65,7 @@ impl Shape {
             symbols: 1,
             full: 0,
             lively: 0,
+            clears: 0,
         }
     }
 
@@ -79,6 +83,7 @@ impl Shape {
             symbols: rng.from_to(2, 4),
             full: 20,
             lively: rng.pick(&[0, 80, 100]),
+            clears: rng.pick(&[0, 20, 50]),
         }
     }
 
@@ -116,6 +121,7 @@ impl Shape {
             symbols: 4_096,
             full: 85,
             lively: 50,
+            clears: 10,
         }
     }
 

@@ -72,7 +72,7 @@ fn buffer(rng: &mut Rng, spec: &ModelSpec, isa: u8) -> Buffer {
 }
 
 /// A value that the model's chunks hold, or a small or any one.
-fn value(rng: &mut Rng, spec: &ModelSpec) -> u16 {
+pub(crate) fn value(rng: &mut Rng, spec: &ModelSpec) -> u16 {
     let facts = spec.facts.len();
     match rng.below(10) {
         0..=4 if facts > 0 => {

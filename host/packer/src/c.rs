@@ -9,7 +9,7 @@ use crate::pack::{pack_fields, pack_text};
 use crate::runs::{run_all, Runs};
 
 /// What the calls below look like. It changes when they do.
-const INTERFACE: u32 = 1;
+const INTERFACE: u32 = 2;
 
 /// What `jirvuntsag_packer_runs` is to run, as [`Runs`] says: addresses, each with how many things are there.
 #[repr(C)]
@@ -31,6 +31,10 @@ pub struct Batch {
     pub states: *const u32,
     /// How many words: 81 for each run, or 0.
     pub states_len: usize,
+    /// What the stores have learned before.
+    pub stores: *const u16,
+    /// How many words: one and nine for each fact, for each run, or 0.
+    pub stores_len: usize,
     /// The flags of the events.
     pub keep: *const u8,
     /// How many flags: 257 for each image, or 0.
@@ -67,7 +71,8 @@ pub unsafe extern "C" fn jirvuntsag_packer_fields(fields: *const u16, count: usi
     answered(move || pack_fields(fields))
 }
 
-/// Makes runs: part 1 has 84 words for each, part 2 the events that are kept. There are fewer where it was stopped.
+/// Makes runs: part 1 has 84 words for each, part 2 the events that are kept, part 3 what the stores have then. There are
+/// fewer where it was stopped.
 ///
 /// # Safety
 /// `batch` is the address of a batch, and each address in it has as many things as it says, or it says 0; `stop` is null,
@@ -81,6 +86,7 @@ pub unsafe extern "C" fn jirvuntsag_packer_runs(batch: *const Batch) -> *mut Ans
             ends: slice(batch.ends, batch.ends_len),
             jobs: slice(batch.jobs, batch.jobs_len),
             states: slice(batch.states, batch.states_len),
+            stores: slice(batch.stores, batch.stores_len),
             keep: slice(batch.keep, batch.keep_len),
             steps: batch.steps,
             stop: batch.stop.as_ref(),

@@ -12,17 +12,24 @@ use jirvuntsag_text::Flaw;
 const TEXT: &str = include_str!("../../../examples/counting.model");
 const IMAGE: &[u8] = include_bytes!("../../../examples/counting.image");
 
-/// The error and the first two parts of an answer, which is freed.
-fn taken(answer: *mut Answer) -> (String, Vec<u8>, Vec<u8>) {
+/// The error and the parts of an answer, which is freed.
+fn parts(answer: *mut Answer) -> (String, [Vec<u8>; 3]) {
     let part = |number| {
         let mut length = usize::MAX;
         let at = unsafe { jirvuntsag_packer_part(answer, number, &mut length) };
         unsafe { std::slice::from_raw_parts(at, length) }.to_vec()
     };
-    let parts = (String::from_utf8(part(0)).expect("UTF-8"), part(1), part(2));
-    assert!(part(3).is_empty() && part(u32::MAX).is_empty());
+    let parts = (String::from_utf8(part(0)).expect("UTF-8"), [part(1), part(2), part(3)]);
+    assert!(part(4).is_empty() && part(u32::MAX).is_empty());
     unsafe { jirvuntsag_packer_free(answer) };
     parts
+}
+
+/// The error and the first two parts of an answer that has no third.
+fn taken(answer: *mut Answer) -> (String, Vec<u8>, Vec<u8>) {
+    let (error, [first, second, third]) = parts(answer);
+    assert!(third.is_empty());
+    (error, first, second)
 }
 
 fn packed(text: &[u8]) -> (String, Vec<u8>, Vec<u8>) {
@@ -33,7 +40,7 @@ fn words(bytes: &[u8]) -> Vec<u32> {
     bytes.chunks_exact(4).map(|four| u32::from_ne_bytes(four.try_into().expect("four"))).collect()
 }
 
-/// Runs of one image, with all events kept.
+/// Runs of one image that are lent no store, with all events kept.
 fn run(image: &[u8], jobs: &[u32], states: &[u32], steps: u16) -> (String, Vec<u8>, Vec<u8>) {
     run_unless(std::ptr::null(), image, jobs, states, steps)
 }
@@ -47,7 +54,37 @@ fn run_unless(
     steps: u16,
 ) -> (String, Vec<u8>, Vec<u8>) {
     let (ends, keep) = ([image.len() as u32], [1; 257]);
-    let batch = Batch {
+    taken(unsafe { jirvuntsag_packer_runs(&batch(image, &ends, jobs, states, &keep, steps, stop)) })
+}
+
+/// The rows of runs, their events, and what their stores have then.
+type Learned = (Vec<u32>, Vec<u32>, Vec<u16>);
+
+/// Runs of the counting model from its opening, with or without events, that are lent stores; or the error.
+fn learn(jobs: &[u32], stores: &[u16], keep: &[u8]) -> Result<Learned, String> {
+    let ends = [IMAGE.len() as u32];
+    let bare = batch(IMAGE, &ends, jobs, &[], keep, 1_000, std::ptr::null());
+    let batch = Batch { stores: stores.as_ptr(), stores_len: stores.len(), ..bare };
+    let (error, [rows, events, learned]) = parts(unsafe { jirvuntsag_packer_runs(&batch) });
+    let learned = learned.chunks_exact(2).map(|two| u16::from_ne_bytes(two.try_into().expect("two"))).collect();
+    if error.is_empty() {
+        Ok((words(&rows), words(&events), learned))
+    } else {
+        Err(error)
+    }
+}
+
+/// A batch of runs of one image that are lent no store.
+fn batch(
+    image: &[u8],
+    ends: &[u32; 1],
+    jobs: &[u32],
+    states: &[u32],
+    keep: &[u8],
+    steps: u16,
+    stop: *const AtomicU8,
+) -> Batch {
+    Batch {
         images: image.as_ptr(),
         images_len: image.len(),
         ends: ends.as_ptr(),
@@ -56,12 +93,13 @@ fn run_unless(
         jobs_len: jobs.len(),
         states: states.as_ptr(),
         states_len: states.len(),
+        stores: std::ptr::null(),
+        stores_len: 0,
         keep: keep.as_ptr(),
         keep_len: keep.len(),
         steps,
         stop,
-    };
-    taken(unsafe { jirvuntsag_packer_runs(&batch) })
+    }
 }
 
 #[test]
@@ -171,6 +209,38 @@ fn runs_that_cannot_be_made_are_told() {
     assert_eq!(words(&run(IMAGE, &[0], &broken, 1).1)[..2], [6, 0]);
 }
 
+/// Each run has its store, or none, to itself; the goal that the counting model clears is count 3 3.
+#[test]
+fn runs_learn_what_they_clear_where_a_store_is_lent() {
+    const NOTHING: u16 = u16::MAX;
+    let goal = [2, 3, 3, 0, 0, 0, 0, 0, 0];
+    let other = [1, 7, 8, 0, 0, 0, 0, 0, 0];
+    let given = [&[0, NOTHING, 1][..], &other, &[1], &goal].concat();
+    let left = [&[1][..], &goal, &[NOTHING, 2], &other, &goal, &[1], &goal].concat();
+    for keep in [&[][..], &[1; 257]] {
+        let (rows, events, learned) = learn(&[0; 4], &given, keep).expect("runs");
+        assert_eq!(
+            (rows.len(), events.len(), learned),
+            (4 * 84, if keep.is_empty() { 0 } else { 4 * 7 * 3 }, left.clone())
+        );
+        assert!(rows.chunks_exact(84).all(|row| row[..2] == [9, 7] && row[3] == 550));
+    }
+    let full = [&[256][..], &[1, 7, 8, 0, 0, 0, 0, 0, 0].repeat(256)].concat();
+    let (rows, _, learned) = learn(&[0], &full, &[]).expect("a run");
+    assert_eq!((&rows[..4], learned), (&[14, 5, 0, 350][..], full));
+}
+
+#[test]
+fn stores_that_cannot_be_lent_are_told() {
+    assert_eq!(learn(&[0], &[257], &[]), Err("the store of run 0 has 257 facts, and there are 256 places".into()));
+    assert_eq!(learn(&[0; 2], &[0, 1, 2, 3], &[]), Err("the words end within the store of run 1".into()));
+    assert_eq!(learn(&[0; 2], &[0], &[]), Err("1 stores are not one for each of 2 runs".into()));
+    // a fact that the image could not hold is for the library to refuse, and stays as it is
+    let unfit = [1, 3, 0, 0, 0, 0, 0, 0, 0, 0];
+    let (rows, _, learned) = learn(&[0], &unfit, &[]).expect("a row");
+    assert_eq!((&rows[..4], &learned[..]), (&[15, 0, 0, 0][..], &unfit[..]));
+}
+
 #[test]
 fn a_stopped_call_begins_no_further_run() {
     assert_eq!(run_unless(&AtomicU8::new(1), IMAGE, &[0; 9], &[], 5), Default::default());
@@ -179,5 +249,5 @@ fn a_stopped_call_begins_no_further_run() {
 
 #[test]
 fn the_interface_has_its_number() {
-    assert_eq!(jirvuntsag_packer_interface(), 1);
+    assert_eq!(jirvuntsag_packer_interface(), 2);
 }

@@ -1,6 +1,6 @@
-//! The seven calls as they are: on an image's bytes and a table's words, with all that they give back, refused or not.
+//! The nine calls as they are: on an image's bytes and the words of a table and a store, with all that they give back, refused or not.
 
-use crate::linked;
+use crate::linked::{self, Lent};
 use crate::number::{Number, Refusal};
 use crate::state::{Event, State};
 use crate::words::{self, events, number_and_count, state_of, words_of};
@@ -52,5 +52,58 @@ pub fn trace_fresh(image: &[u8], state: &State, steps: u16) -> (Number, State, V
     let mut words = words_of(state);
     let mut noted = vec![0; words::EVENT * usize::from(steps)];
     let (number, made) = number_and_count(linked::trace_fresh(image, &mut words, steps, &mut noted));
+    (number, state_of(&words), events(&noted, made))
+}
+
+/// Runs as [`run`] does, where a store may be lent, the words of [`crate::Store`]: a chunk that is cleared joins it.
+/// With none it is [`run`].
+pub fn run_lent(
+    image: &[u8],
+    state: &State,
+    table: &mut [u16],
+    steps: u16,
+    store: Option<&mut [u16]>,
+) -> (Number, State, u16) {
+    let mut words = words_of(state);
+    let answer = linked::run_lent(image, &mut words, table, steps, &mut [], Lent::of(store));
+    let (number, made) = number_and_count(answer);
+    (number, state_of(&words), made)
+}
+
+/// Runs as [`run_lent`] does, and tells each step made.
+pub fn trace_lent(
+    image: &[u8],
+    state: &State,
+    table: &mut [u16],
+    steps: u16,
+    store: Option<&mut [u16]>,
+) -> (Number, State, Vec<Event>) {
+    let mut words = words_of(state);
+    let mut noted = vec![0; words::EVENT * usize::from(steps)];
+    let answer = linked::run_lent(image, &mut words, table, steps, &mut noted, Lent::of(store));
+    let (number, made) = number_and_count(answer);
+    (number, state_of(&words), events(&noted, made))
+}
+
+/// Runs as [`run_fresh`] does, where a store may be lent. All that it answers and leaves is what [`run_lent`] does, handed
+/// the fresh table of the state and the same store.
+pub fn run_fresh_lent(image: &[u8], state: &State, steps: u16, store: Option<&mut [u16]>) -> (Number, State, u16) {
+    let mut words = words_of(state);
+    let answer = linked::run_fresh_lent(image, &mut words, steps, &mut [], Lent::of(store));
+    let (number, made) = number_and_count(answer);
+    (number, state_of(&words), made)
+}
+
+/// Runs as [`run_fresh_lent`] does, and tells each step made.
+pub fn trace_fresh_lent(
+    image: &[u8],
+    state: &State,
+    steps: u16,
+    store: Option<&mut [u16]>,
+) -> (Number, State, Vec<Event>) {
+    let mut words = words_of(state);
+    let mut noted = vec![0; words::EVENT * usize::from(steps)];
+    let answer = linked::run_fresh_lent(image, &mut words, steps, &mut noted, Lent::of(store));
+    let (number, made) = number_and_count(answer);
     (number, state_of(&words), events(&noted, made))
 }

@@ -1,6 +1,7 @@
-//! What the runs without a table leave of the words that they are lent: tests below the types, which never lend such words.
+//! What runs leave of the words that they are lent: tests below the types, which never lend such words.
 
-use crate::linked;
+use crate::linked::{self, Lent};
+use crate::store::Store;
 use crate::words::{EVENT, STATE};
 
 /// What a word holds that is not to be written.
@@ -77,5 +78,75 @@ fn a_run_ends_as_it_does_when_it_is_told() {
         let answer = linked::run_fresh(&image, &mut ran, steps);
         assert_eq!(linked::trace_fresh(&image, &mut traced, steps, &mut []), answer);
         assert_eq!(ran, traced);
+    }
+}
+
+/// Both runs that may be lent a store: the answer of each, and that they leave the same in state, events and store.
+fn lend(image: &[u8], state: &mut [u32; STATE], steps: u16, events: &mut [u32], word: u16, store: &mut [u16]) -> u64 {
+    let (mut kept_state, mut kept_events, mut kept_store) = (*state, events.to_vec(), store.to_vec());
+    let mut table = vec![0; (linked::table_len(image) >> 16) as u16 as usize];
+    linked::refresh(image, state, 3, &mut table);
+    let lent = Lent { word, store: &mut kept_store };
+    let kept = linked::run_lent(image, &mut kept_state, &mut table, steps, &mut kept_events, lent);
+    let fresh = linked::run_fresh_lent(image, state, steps, events, Lent { word, store });
+    assert_eq!((kept, kept_state, &kept_events[..], &kept_store[..]), (fresh, *state, &events[..], &store[..]));
+    fresh
+}
+
+#[test]
+fn what_is_not_lent_is_neither_read_nor_written_whatever_its_length() {
+    let (image, opening) = counting();
+    let mut after = opening;
+    let answer = linked::run_fresh(&image, &mut after, 8);
+    // The other bits of the word say nothing yet.
+    for word in [0, 2, 4, 6, 0xfffe] {
+        for length in [0, 1, 10, 2_304, Store::WORDS, 2_306] {
+            let (mut state, mut store) = (opening, vec![0xdead; length]);
+            assert_eq!(lend(&image, &mut state, 8, &mut [], word, &mut store), answer, "{word} {length}");
+            assert!(state == after && store.iter().all(|&one| one == 0xdead), "{word} {length}");
+        }
+    }
+}
+
+#[test]
+fn a_store_that_is_lent_is_written_as_far_as_it_is_counted() {
+    let (image, opening) = counting();
+    for word in [1, 3, 5, 0xffff] {
+        let (mut state, mut store) = (opening, vec![0xdead; Store::WORDS]);
+        store[0] = 0;
+        let mut events = [UNTOUCHED; 8 * EVENT];
+        assert_eq!(lend(&image, &mut state, 8, &mut events, word, &mut store), 7 << 16 | 9);
+        assert_eq!((&store[..10], events[7 * EVENT]), (&[1, 2, 3, 3, 0, 0, 0, 0, 0, 0][..], UNTOUCHED));
+        assert!(store[10..].iter().all(|&one| one == 0xdead));
+        // What is known is not learned again.
+        let (mut again, before) = (opening, store.clone());
+        assert_eq!(lend(&image, &mut again, 8, &mut [], word, &mut store), 7 << 16 | 9);
+        assert!(again == state && store == before);
+    }
+}
+
+#[test]
+fn a_refused_run_leaves_every_word_of_the_store() {
+    let (image, opening) = counting();
+    let mut large = opening;
+    large[5] = 65_536;
+    let fit = vec![0; Store::WORDS];
+    let mut over = fit.clone();
+    over[0] = 257;
+    let other: &[u8] = &[2];
+    let cases = [
+        (other, opening, fit.clone(), 3),
+        (&image, large, fit.clone(), 6),
+        (&image, large, over.clone(), 6),
+        (&image, opening, over, 15),
+        (&image, opening, vec![0; 2_304], 15),
+        (&image, opening, vec![], 15),
+    ];
+    for (image, from, store, answer) in cases {
+        for steps in [0, 1, u16::MAX] {
+            let (mut state, mut lent, mut events) = (from, store.clone(), [UNTOUCHED; 9]);
+            assert_eq!(lend(image, &mut state, steps, &mut events, 1, &mut lent), answer);
+            assert!(state == from && lent == store && events == [UNTOUCHED; 9]);
+        }
     }
 }

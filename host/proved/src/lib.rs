@@ -5,7 +5,7 @@
 //! in the image if that is refused for one of its fields, and has changed nothing; a run that was made says by an [`End`] why
 //! it made no more steps. No call panics, keeps anything between calls, or asks for memory but for what it gives back; each
 //! needs less than 131,072 bytes of stack.
-//! [`calls`] has the seven calls of the library as they are, on bytes and words that the caller owns.
+//! [`calls`] has the nine calls of the library as they are, on bytes and words that the caller owns.
 //!
 //! ```
 //! use jirvuntsag_proved::{End, Model, Refusal, Step};
@@ -52,6 +52,29 @@
 //! # Ok::<(), Box<dyn std::error::Error>>(())
 //! ```
 
+//!
+//! # What is cleared is remembered, where a store is lent
+//!
+//! [`Model::run_lent`] and [`Model::run_fresh_lent`] may be lent a [`Store`]: a chunk that a rule clears from a visible buffer
+//! joins it, unless the image or the store has it already, and requests find it from the next step on, after the facts of the
+//! image. A store is a value: it can be kept, copied, compared and lent to the next run, of either engine.
+//!
+//! ```
+//! use jirvuntsag_proved::{End, Model, Store};
+//!
+//! # let path = concat!(env!("CARGO_MANIFEST_DIR"), "/../../examples/pupil.image");
+//! # let image = std::fs::read(path)?;
+//! let (model, state, mut table) = Model::open(&image)?;
+//! let mut store = Store::new();
+//! let ran = model.run_lent(state, &mut table, 1_000, Some(&mut store))?;
+//! assert_eq!((ran.end, ran.made, store.len()), (End::Halted, 15, 1));
+//!
+//! // what it has learned it need not work out again
+//! let again = model.run_fresh_lent(state, 1_000, Some(&mut store))?;
+//! assert_eq!((again.end, again.made, store.len()), (End::Halted, 3, 1));
+//! # Ok::<(), Box<dyn std::error::Error>>(())
+//! ```
+
 #[cfg(feature = "bench")]
 pub mod bench;
 pub mod calls;
@@ -61,10 +84,12 @@ mod linked;
 mod model;
 mod number;
 mod state;
+mod store;
 mod table;
 mod words;
 
 pub use model::{Model, Ran};
 pub use number::{End, Number, Refusal};
 pub use state::{Buffer, Event, State, Step};
+pub use store::{Chunk, Store};
 pub use table::{Entry, Table};

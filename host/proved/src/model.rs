@@ -3,6 +3,7 @@
 use crate::calls;
 use crate::number::{End, Number, Refusal};
 use crate::state::{Event, State};
+use crate::store::Store;
 use crate::table::Table;
 
 /// A model: an image that was accepted.
@@ -61,6 +62,46 @@ impl<'a> Model<'a> {
     /// Runs as [`Model::run_fresh`] does, and tells each step made.
     pub fn trace_fresh(&self, state: State, steps: u16) -> Result<(Ran, Vec<Event>), Refusal> {
         told(calls::trace_fresh(self.image, &state, steps))
+    }
+
+    /// Runs as [`Model::run`] does, where a store may be lent: a chunk that a rule clears from a visible buffer joins it, and
+    /// requests find what is there after the facts of the image. A refused run leaves table and store as they were; a run that
+    /// ends by [`End::StoreFull`] has made the steps before the one for whose chunks there is no place.
+    pub fn run_lent(
+        &self,
+        state: State,
+        table: &mut Table,
+        steps: u16,
+        store: Option<&mut Store>,
+    ) -> Result<Ran, Refusal> {
+        ran(calls::run_lent(self.image, &state, table.words_mut(), steps, store.map(Store::words_mut)))
+    }
+
+    /// Runs as [`Model::run_lent`] does, and tells each step made.
+    pub fn trace_lent(
+        &self,
+        state: State,
+        table: &mut Table,
+        steps: u16,
+        store: Option<&mut Store>,
+    ) -> Result<(Ran, Vec<Event>), Refusal> {
+        told(calls::trace_lent(self.image, &state, table.words_mut(), steps, store.map(Store::words_mut)))
+    }
+
+    /// Runs as [`Model::run_fresh`] does, where a store may be lent. It gives and leaves in the store what
+    /// [`Model::run_lent`] does that is handed the fresh table of the state and the same store.
+    pub fn run_fresh_lent(&self, state: State, steps: u16, store: Option<&mut Store>) -> Result<Ran, Refusal> {
+        ran(calls::run_fresh_lent(self.image, &state, steps, store.map(Store::words_mut)))
+    }
+
+    /// Runs as [`Model::run_fresh_lent`] does, and tells each step made.
+    pub fn trace_fresh_lent(
+        &self,
+        state: State,
+        steps: u16,
+        store: Option<&mut Store>,
+    ) -> Result<(Ran, Vec<Event>), Refusal> {
+        told(calls::trace_fresh_lent(self.image, &state, steps, store.map(Store::words_mut)))
     }
 }
 

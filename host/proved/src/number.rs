@@ -42,6 +42,8 @@ pub enum Refusal {
         /// Where the buffer begins; of one that is modified untested, the action's kind.
         at: u32,
     },
+    /// 15: the lent store has other than 256 places, a count over 256, or a fact that the image could not hold.
+    Store,
 }
 
 /// Why a run that was made made no more steps.
@@ -55,6 +57,8 @@ pub enum End {
     ClockFull,
     /// 9: halted before the steps asked were made.
     Halted,
+    /// 14: the lent store would have more than 256 facts.
+    StoreFull,
 }
 
 /// What a call answers: it was refused, or it came to an end.
@@ -67,7 +71,7 @@ pub enum Number {
 }
 
 impl Refusal {
-    /// Its number: 1 to 6, or 10 to 13.
+    /// Its number: 1 to 6, 10 to 13, or 15.
     pub fn number(self) -> u8 {
         match self {
             Refusal::TooLong => 1,
@@ -80,6 +84,7 @@ impl Refusal {
             Refusal::Mask { .. } => 11,
             Refusal::Variable { .. } => 12,
             Refusal::Buffer { .. } => 13,
+            Refusal::Store => 15,
         }
     }
 
@@ -91,7 +96,12 @@ impl Refusal {
             | Refusal::Mask { at }
             | Refusal::Variable { at }
             | Refusal::Buffer { at } => Some(at),
-            Refusal::TooLong | Refusal::Follows | Refusal::TableLength | Refusal::State | Refusal::Mark => None,
+            Refusal::TooLong
+            | Refusal::Follows
+            | Refusal::TableLength
+            | Refusal::State
+            | Refusal::Mark
+            | Refusal::Store => None,
         }
     }
 
@@ -113,24 +123,28 @@ impl Refusal {
             Refusal::Mask { .. } => "a mask has a bit past the type's slots",
             Refusal::Variable { .. } => "a variable is not below the rule's count, or stands in no test",
             Refusal::Buffer { .. } => "a buffer does not exist, does not rise, or is modified untested",
+            Refusal::Store => {
+                "the store has other than 256 places, a count over 256, or a fact that the image could not hold"
+            }
         }
     }
 }
 
 impl End {
-    /// Its number: 0, or 7 to 9.
+    /// Its number: 0, 7 to 9, or 14.
     pub fn number(self) -> u8 {
         match self {
             End::Done => 0,
             End::Stale => 7,
             End::ClockFull => 8,
             End::Halted => 9,
+            End::StoreFull => 14,
         }
     }
 }
 
 impl Number {
-    /// Its number, 0 to 13.
+    /// Its number, 0 to 15.
     pub fn number(self) -> u8 {
         match self {
             Number::Ended(end) => end.number(),
@@ -154,7 +168,7 @@ impl Number {
         }
     }
 
-    /// What a number of the library means, with its position. It is proved to give 0 to 13, and a position with those alone
+    /// What a number of the library means, with its position. It is proved to give 0 to 15, and a position with those alone
     /// that are about a field; any other is never told as one of these.
     pub(crate) fn of(number: u16, position: u32) -> Number {
         let at = position;
@@ -173,7 +187,9 @@ impl Number {
             11 => Number::Refused(Refusal::Mask { at }),
             12 => Number::Refused(Refusal::Variable { at }),
             13 => Number::Refused(Refusal::Buffer { at }),
-            other => unreachable!("the library answered {other}, which is none of its numbers 0 to 13"),
+            14 => Number::Ended(End::StoreFull),
+            15 => Number::Refused(Refusal::Store),
+            other => unreachable!("the library answered {other}, which is none of its numbers 0 to 15"),
         };
         if told.position() != position {
             unreachable!("the library answered {number} with the position {position}, and {number} has none");
@@ -196,6 +212,7 @@ impl fmt::Display for End {
             End::Stale => "the chosen entry is not the fresh one",
             End::ClockFull => "the clock would pass 4,294,967,295",
             End::Halted => "halted before the steps asked were made",
+            End::StoreFull => "the store would have more than 256 facts",
         })
     }
 }
@@ -227,7 +244,7 @@ mod tests {
 
     #[test]
     fn each_number_means_itself() {
-        for number in 0..=13 {
+        for number in 0..=15 {
             let told = Number::of(number, 0);
             assert_eq!((u16::from(told.number()), told.position()), (number, 0));
         }
@@ -245,7 +262,7 @@ mod tests {
 
     #[test]
     fn the_other_numbers_have_no_position() {
-        for number in (0..=13).filter(|number| !ABOUT_A_FIELD.contains(number)) {
+        for number in (0..=15).filter(|number| !ABOUT_A_FIELD.contains(number)) {
             assert!(!Number::of(number, 0).to_string().contains("at bit"));
             let refused = std::panic::catch_unwind(|| Number::of(number, 1)).expect_err("a position for no field");
             let said = refused.downcast_ref::<String>().expect("words");
@@ -255,8 +272,8 @@ mod tests {
     }
 
     #[test]
-    #[should_panic(expected = "the library answered 14, which is none of its numbers 0 to 13")]
+    #[should_panic(expected = "the library answered 16, which is none of its numbers 0 to 15")]
     fn a_number_that_is_not_known_is_named() {
-        Number::of(14, 0);
+        Number::of(16, 0);
     }
 }

@@ -2,7 +2,7 @@
 
 use std::collections::BTreeSet;
 
-use jirvuntsag_proved::{calls, End, Model, Number, Refusal, State, Table};
+use jirvuntsag_proved::{calls, Chunk, End, Model, Number, Refusal, State, Store, Table};
 
 /// The shipped model that counts from 1 to 3.
 fn counting() -> Vec<u8> {
@@ -154,6 +154,59 @@ fn each_end_of_a_fresh_run_is_told() {
     assert_eq!(end(State { clock: u32::MAX - 200, ..state }, 7), Ok((End::ClockFull, 3)));
 }
 
+/// The chunk that the counting model clears at its end: count 3, 3.
+const COUNTED: Chunk = Chunk { isa: 2, slots: [3, 3, 0, 0, 0, 0, 0, 0] };
+
+#[test]
+fn a_run_learns_where_a_store_is_lent() {
+    let image = counting();
+    let (model, state, table) = Model::open(&image).expect("an accepted image");
+    let plain = model.run(state, &mut table.clone(), 1_000);
+    let mut store = Store::new();
+    assert_eq!(model.run_lent(state, &mut table.clone(), 1_000, Some(&mut store)), plain);
+    assert_eq!(store.facts().collect::<Vec<_>>(), [COUNTED]);
+    assert_eq!(store, Store::from_facts(&[COUNTED]).expect("one fact"));
+    // By each way of running, and the same store handed on learns it once.
+    let kept = store.clone();
+    let traced = model.trace_lent(state, &mut table.clone(), 1_000, Some(&mut store)).expect("a run");
+    assert_eq!((Ok(traced.0), &store), (plain, &kept));
+    let fresh = model.trace_fresh_lent(state, 1_000, Some(&mut store)).expect("a run");
+    assert_eq!((fresh, &store), (traced, &kept));
+    let mut fresh_store = Store::new();
+    assert_eq!((model.run_fresh_lent(state, 1_000, Some(&mut fresh_store)), &fresh_store), (plain, &kept));
+    // Without one nothing is learned.
+    assert_eq!(model.run_lent(state, &mut table.clone(), 1_000, None), plain);
+    assert_eq!(model.run_fresh_lent(state, 1_000, None), plain);
+}
+
+#[test]
+fn a_store_that_is_full_ends_a_run_and_one_that_does_not_fit_is_refused() {
+    let image = counting();
+    let (model, state, table) = Model::open(&image).expect("an accepted image");
+    let facts = |count: u16| {
+        let other = |first| Chunk { isa: 1, slots: [first, 9, 0, 0, 0, 0, 0, 0] };
+        Store::from_facts(&(0..count).map(|number| other(100 + number)).collect::<Vec<_>>()).expect("facts")
+    };
+    let mut full = facts(256);
+    let ran = model.run_lent(state, &mut table.clone(), 1_000, Some(&mut full)).expect("a run");
+    assert_eq!((ran.end, ran.made, full == facts(256)), (End::StoreFull, 5, true));
+    assert_eq!(model.run_fresh_lent(state, 1_000, Some(&mut full)), Ok(ran));
+    assert_eq!(ran.end.to_string(), "the store would have more than 256 facts");
+    let mut nearly = facts(255);
+    let ran = model.run_lent(state, &mut table.clone(), 1_000, Some(&mut nearly)).expect("a run");
+    assert_eq!((ran.end, nearly.len(), nearly.facts().last()), (End::Halted, 256, Some(COUNTED)));
+    let unfit = [Chunk { isa: 0, ..COUNTED }, Chunk { isa: 3, ..COUNTED }, Chunk { slots: [4_096; 8], ..COUNTED }];
+    for chunk in unfit {
+        let mut store = Store::from_facts(&[COUNTED, chunk]).expect("two facts");
+        let before = store.clone();
+        assert_eq!(model.run_lent(state, &mut table.clone(), 1, Some(&mut store)), Err(Refusal::Store));
+        assert_eq!(model.trace_fresh_lent(state, 1, Some(&mut store)), Err(Refusal::Store));
+        assert_eq!(store, before);
+    }
+    let mut short = Store::from_words(vec![0; 2_304]);
+    assert_eq!(model.run_fresh_lent(state, 0, Some(&mut short)), Err(Refusal::Store));
+}
+
 #[test]
 fn each_number_has_its_own_words() {
     let at = 0;
@@ -168,13 +221,14 @@ fn each_number_has_its_own_words() {
         Refusal::Mask { at },
         Refusal::Variable { at },
         Refusal::Buffer { at },
+        Refusal::Store,
     ];
-    let ends = [End::Done, End::Stale, End::ClockFull, End::Halted].map(Number::Ended);
+    let ends = [End::Done, End::Stale, End::ClockFull, End::Halted, End::StoreFull].map(Number::Ended);
     let all = [&refusals.map(Number::Refused)[..], &ends].concat();
     let numbers: BTreeSet<u8> = all.iter().map(|number| number.number()).collect();
-    assert_eq!(numbers, (0..=13).collect());
+    assert_eq!(numbers, (0..=15).collect());
     let words: BTreeSet<String> = all.iter().map(Number::to_string).collect();
-    assert_eq!(words.len(), 14);
+    assert_eq!(words.len(), 16);
     assert!(refusals.iter().all(|refusal| refusal.to_string().starts_with(refusal.words())));
 }
 

@@ -1,5 +1,6 @@
 //! The state as a run works on it: slots and delays side by side, and what each buffer shows.
 
+use crate::parts::Chunk;
 use crate::place::Place;
 use crate::plan::Plan;
 use crate::state::{Buffer, State};
@@ -55,6 +56,14 @@ impl Board {
         let nothing = plan.shows - 1;
         let shows = if self.delays[b] == 0 { usize::from(self.isas[b]).min(nothing) } else { nothing };
         self.shown[b] = (b * plan.shows + shows) as u16;
+    }
+
+    /// The chunk that is visible in a buffer, if it is not nil.
+    #[inline]
+    pub fn seen(&self, buffer: u8) -> Option<Chunk> {
+        let b = usize::from(buffer) & (BUFFERS - 1);
+        let (rows, _) = self.slots.as_chunks::<SLOTS>();
+        (self.delays[b] == 0 && self.isas[b] != 0).then(|| Chunk { isa: self.isas[b] as u8, slots: rows[b] })
     }
 
     /// Sets one slot of a buffer that stays visible.

@@ -2,11 +2,13 @@
 
 use crate::board::Board;
 use crate::decode::decode_parts;
+use crate::learning::Learner;
 use crate::matching::Known;
 use crate::model::Model;
 use crate::refusal::Refusal;
 use crate::state::{Buffer, State};
 use crate::step::{Runner, Step};
+use crate::store::{facts_in, UNFIT};
 use crate::WORDS;
 
 /// A step that was made and the clock after it.
@@ -48,9 +50,20 @@ pub fn open(image: &[u8], table: &mut [u16]) -> (u8, u32, State) {
 
 /// Runs up to `steps` steps: the number, the position, the state and the steps made.
 pub fn run(image: &[u8], state: State, table: &mut [u16], steps: u16) -> (u8, u32, State, u16) {
+    run_lent(image, state, table, steps, None)
+}
+
+/// The same, where a store may be lent.
+pub fn run_lent(
+    image: &[u8],
+    state: State,
+    table: &mut [u16],
+    steps: u16,
+    store: Option<&mut [u16]>,
+) -> (u8, u32, State, u16) {
     match Model::decode(image) {
         Ok(model) => {
-            let (number, after, made) = model.run(state, table, steps);
+            let (number, after, made) = model.run_lent(state, table, steps, store);
             (number, 0, after, made)
         }
         Err(Refusal { number, at }) => (number, at, state, 0),
@@ -70,9 +83,20 @@ pub fn refresh(image: &[u8], state: &State, mark: u16, table: &mut [u16]) -> (u8
 
 /// A run that also tells each step.
 pub fn trace(image: &[u8], state: State, table: &mut [u16], steps: u16) -> (u8, u32, State, Vec<Event>) {
+    trace_lent(image, state, table, steps, None)
+}
+
+/// The same, where a store may be lent.
+pub fn trace_lent(
+    image: &[u8],
+    state: State,
+    table: &mut [u16],
+    steps: u16,
+    store: Option<&mut [u16]>,
+) -> (u8, u32, State, Vec<Event>) {
     match Model::decode(image) {
         Ok(model) => {
-            let (number, after, events) = model.trace(state, table, steps);
+            let (number, after, events) = model.trace_lent(state, table, steps, store);
             (number, 0, after, events)
         }
         Err(Refusal { number, at }) => (number, at, state, Vec::new()),
@@ -106,13 +130,29 @@ impl Model {
 
     /// `run` on a decoded model.
     pub fn run(&self, state: State, table: &mut [u16], steps: u16) -> (u8, State, u16) {
-        self.run_telling(state, table, steps, |_| ())
+        self.run_lent(state, table, steps, None)
+    }
+
+    /// `run_lent` on a decoded model.
+    pub fn run_lent(&self, state: State, table: &mut [u16], steps: u16, store: Option<&mut [u16]>) -> (u8, State, u16) {
+        self.run_telling(state, table, steps, store, |_| ())
     }
 
     /// `trace` on a decoded model.
     pub fn trace(&self, state: State, table: &mut [u16], steps: u16) -> (u8, State, Vec<Event>) {
+        self.trace_lent(state, table, steps, None)
+    }
+
+    /// `trace_lent` on a decoded model.
+    pub fn trace_lent(
+        &self,
+        state: State,
+        table: &mut [u16],
+        steps: u16,
+        store: Option<&mut [u16]>,
+    ) -> (u8, State, Vec<Event>) {
         let mut events = Vec::new();
-        let (number, state, _) = self.run_telling(state, table, steps, |event| events.push(event));
+        let (number, state, _) = self.run_telling(state, table, steps, store, |event| events.push(event));
         (number, state, events)
     }
 
@@ -147,12 +187,20 @@ impl Model {
         state: State,
         table: &mut [u16],
         steps: u16,
+        store: Option<&mut [u16]>,
         mut tell: impl FnMut(Event),
     ) -> (u8, State, u16) {
         if let Some(number) = self.refusal(&state, table) {
             return (number, state, 0);
         }
-        let mut runner = Runner::new(self, &state, table);
+        let learner = match store {
+            None => None,
+            Some(words) => match facts_in(&self.parts.types, words) {
+                Some(facts) => Some(Learner::new(words, &facts)),
+                None => return (UNFIT, state, 0),
+            },
+        };
+        let mut runner = Runner::new(self, &state, table, learner);
         for made in 0..steps {
             let kind = match runner.step() {
                 Step::Fire(rule) => Kind::Fire(rule),

@@ -1,9 +1,10 @@
-//! An independent engine for document 01 with change requests 2026-01 to 2026-03; 2026-04 changes no answer.
+//! An independent engine for document 01 with change requests 2026-01 to 2026-05; 2026-04 changes no answer.
 //!
 //! An image is decoded once into ordinary structs ([`Model`]); a run keeps the
 //! matches from step to step and matches again only the rules that test a marked
 //! buffer. A fresh run ([`run_fresh`]) keeps nothing, and is written by itself.
-//! Every call is total: any bytes, state, table, mark and step count. A call on an
+//! Both runs can be lent a store, where cleared chunks are learned ([`run_lent`], [`run_fresh_lent`]).
+//! Every call is total: any bytes, state, table, mark, step count and store. A call on an
 //! image answers its number and the position that goes with it: the first bit of the
 //! field for which the image is refused, 0 with every number that is about no field.
 
@@ -12,6 +13,7 @@ mod board;
 mod calls;
 mod decode;
 mod fresh;
+mod learning;
 mod matching;
 mod memory;
 mod model;
@@ -23,10 +25,11 @@ mod refusal;
 mod set;
 mod state;
 mod step;
+mod store;
 mod well_formed;
 
-pub use calls::{open, refresh, run, table_len, trace, Event, Kind};
-pub use fresh::{run_fresh, trace_fresh};
+pub use calls::{open, refresh, run, run_lent, table_len, trace, trace_lent, Event, Kind};
+pub use fresh::{run_fresh, run_fresh_lent, trace_fresh, trace_fresh_lent};
 pub use model::Model;
 pub use parts::{Action, Chunk, Deed, Fact, Pattern, Rule, Term, Test};
 pub use print::{print, PRINTED_STEPS};
@@ -43,3 +46,7 @@ pub const WORDS: usize = 9;
 pub const IMAGE_LIMIT: usize = 65_536;
 /// Milliseconds of one firing.
 pub const FIRING: u16 = 50;
+/// Places of a store, for so many learned facts.
+pub const PLACES: usize = 256;
+/// Words of a store: the count, then type and slots of each place.
+pub const STORE_WORDS: usize = 1 + PLACES * (1 + SLOTS);

@@ -16,6 +16,31 @@ pub(crate) struct Memory {
     failure: u16,
 }
 
+/// The slots that a request names, by rising slot, and what they must hold.
+pub(crate) struct Wanted {
+    slots: [(usize, u16); SLOTS],
+    count: usize,
+}
+
+impl Wanted {
+    /// The terms of a pattern under an entry's variables.
+    #[inline]
+    pub fn new(pattern: &Pattern, entry: &[u16; WORDS]) -> Wanted {
+        let mut wanted = Wanted { slots: [(0, 0); SLOTS], count: 0 };
+        for (slot, term) in pattern.packed() {
+            wanted.slots[wanted.count & 7] = (slot, term.value(entry));
+            wanted.count += 1;
+        }
+        wanted
+    }
+
+    /// Each slot that is named with its value.
+    #[inline]
+    pub fn named(&self) -> &[(usize, u16)] {
+        &self.slots[..self.count.min(SLOTS)]
+    }
+}
+
 impl Memory {
     /// Orders the facts of a model.
     pub fn new(parts: &Parts) -> Memory {
@@ -43,24 +68,22 @@ impl Memory {
         }
     }
 
-    /// What a request leaves in its buffer: the best fact that fits, or nil late.
+    /// The best fact that fits a request, as it leaves it in its buffer.
     #[inline]
-    pub fn answer(&self, isa: u8, pattern: &Pattern, entry: &[u16; WORDS]) -> Buffer {
-        let mut wanted = [(0, 0); SLOTS];
-        let mut count = 0;
-        for (slot, term) in pattern.packed() {
-            wanted[count & 7] = (slot, term.value(entry));
-            count += 1;
-        }
-        match self.find(isa, &wanted[..count.min(SLOTS)]) {
-            Some(found) => Buffer { isa: u16::from(isa), slots: self.slots[found], delay: self.latencies[found] },
-            None => Buffer { delay: self.failure, ..Buffer::default() },
-        }
+    pub fn answer(&self, isa: u8, wanted: &Wanted) -> Option<Buffer> {
+        let found = self.find(isa, wanted.named())?;
+        Some(Buffer { isa: u16::from(isa), slots: self.slots[found], delay: self.latencies[found] })
+    }
+
+    /// What a request leaves that no fact fits: nil, late.
+    #[inline]
+    pub fn nothing(&self) -> Buffer {
+        Buffer { delay: self.failure, ..Buffer::default() }
     }
 
     /// The first fact of a type that holds the wanted values.
     #[inline]
-    fn find(&self, isa: u8, wanted: &[(usize, u16)]) -> Option<usize> {
+    pub fn find(&self, isa: u8, wanted: &[(usize, u16)]) -> Option<usize> {
         let mut from = usize::from(self.starts[usize::from(isa) & 63]);
         let end = usize::from(self.starts[(usize::from(isa) & 63) + 1]);
         let holds = |fact: &usize, wanted: &[(usize, u16)]| {
@@ -82,7 +105,7 @@ impl Memory {
 
 /// Where a value first stands; whole blocks are compared without branches, which the compiler makes vectors of.
 #[inline]
-fn position(list: &[u16], value: u16) -> Option<usize> {
+pub(crate) fn position(list: &[u16], value: u16) -> Option<usize> {
     const BLOCK: usize = 16;
     let (blocks, _) = list.as_chunks::<BLOCK>();
     let holds = |block: &[u16; BLOCK]| block.iter().fold(false, |hit, &one| hit | (one == value));

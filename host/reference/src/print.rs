@@ -4,11 +4,12 @@ use std::fmt::Write;
 
 use crate::calls::Kind;
 use crate::model::Model;
+use crate::STORE_WORDS;
 
 /// Most steps of a printed run.
 pub const PRINTED_STEPS: u16 = 1_000;
 
-/// The lines that the printing program writes for this standard input.
+/// The lines that the printing program writes for this standard input. It lends an empty store, so that a printed run learns.
 pub fn print(image: &[u8]) -> String {
     let model = match Model::decode(image) {
         Ok(model) => model,
@@ -16,7 +17,8 @@ pub fn print(image: &[u8]) -> String {
     };
     let state = model.open_state();
     let mut table = model.fresh_table(&state);
-    let (number, _, events) = model.trace(state, &mut table, PRINTED_STEPS);
+    let mut store = [0; STORE_WORDS];
+    let (number, _, events) = model.trace_lent(state, &mut table, PRINTED_STEPS, Some(&mut store));
     let mut lines = String::new();
     for event in &events {
         let (word, value) = match event.kind {

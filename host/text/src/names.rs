@@ -71,6 +71,14 @@ impl Names {
         self.symbols.get(&number).cloned().unwrap_or_else(|| format!("x{number}"))
     }
 
+    /// A chunk by its names: its type, and each slot with its value; what has no name is called by its number. Of nil it is the
+    /// type alone.
+    pub fn chunk(&self, isa: u16, slots: &[u16]) -> String {
+        let Some(names) = self.types.get(usize::from(isa)) else { return format!("t{isa}") };
+        let values = names.slots.iter().zip(slots).map(|(slot, &value)| format!(" {slot}={}", self.symbol(value)));
+        format!("{}{}", names.name, values.collect::<String>())
+    }
+
     /// The names as a JSON file.
     pub fn to_json(&self) -> String {
         let types = self.types.iter().map(|one| named(&one.name, "slots", &one.slots));

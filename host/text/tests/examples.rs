@@ -4,11 +4,11 @@ use std::path::{Path, PathBuf};
 
 use jirvuntsag_compare::{Engine, PROVED, REFERENCE};
 use jirvuntsag_packing::{model_a, pack};
-use jirvuntsag_reference::{Kind, State};
+use jirvuntsag_reference::{Kind, State, STORE_WORDS};
 use jirvuntsag_text::{Model, Names};
 
 /// Names of all examples.
-const NAMES: [&str; 9] = [
+const NAMES: [&str; 10] = [
     "addition",
     "count-chr",
     "count-rule",
@@ -16,9 +16,12 @@ const NAMES: [&str; 9] = [
     "count-vanilla",
     "counting",
     "parents",
+    "pupil",
     "rule-order",
     "successor",
 ];
+/// Those of them that nobody has published.
+const OWN: [&str; 2] = ["counting", "pupil"];
 
 fn folder() -> PathBuf {
     Path::new(env!("CARGO_MANIFEST_DIR")).join("../../examples")
@@ -37,15 +40,20 @@ fn model(name: &str) -> Model {
     Model::from_text(&text(name, "model")).unwrap_or_else(|error| panic!("{}", error.in_file(name)))
 }
 
-/// Opens and runs an example; gives its steps and the state at its end.
-fn run(engine: &Engine, name: &str) -> (Vec<(u32, Kind)>, State) {
+/// Opens and runs an example with a store; gives its steps and the state at its end.
+fn run_with(engine: &Engine, name: &str, store: &mut [u16]) -> (Vec<(u32, Kind)>, State) {
     let image = bytes(name, "image");
     let mut table = engine.zeros(&image);
     let (number, at, state) = (engine.open)(&image, &mut table);
     assert_eq!((number, at), (0, 0));
-    let (number, at, state, events) = (engine.trace)(&image, state, &mut table, 1_000);
+    let (number, at, state, events) = (engine.trace_lent)(&image, state, &mut table, 1_000, Some(store));
     assert_eq!((number, at), (9, 0), "{name} halts");
     (events.iter().map(|event| (event.clock, event.kind)).collect(), state)
+}
+
+/// The same with an empty store, as the printing program does.
+fn run(engine: &Engine, name: &str) -> (Vec<(u32, Kind)>, State) {
+    run_with(engine, name, &mut [0; STORE_WORDS])
 }
 
 #[test]
@@ -89,7 +97,7 @@ fn images_are_the_published_models() {
         let hex: String = bytes(name, "image").iter().map(|byte| format!("{byte:02x}")).collect();
         assert_eq!(hex, wanted, "{name}");
     }
-    assert_eq!(published.lines().count(), NAMES.len() - 1);
+    assert_eq!(published.lines().count(), NAMES.len() - OWN.len());
     assert_eq!(bytes("counting", "image"), pack(&model_a()));
 }
 
@@ -137,7 +145,7 @@ fn times_and_rules_are_the_published_ones() {
 }
 
 /// What the first buffers hold at the end.
-const ENDS: [(&str, [&str; 2]); 9] = [
+const ENDS: [(&str, [&str; 2]); 10] = [
     ("addition", ["add 5 2 7", "chunk"]),
     ("count-chr", ["chunk", "count-order 4 5"]),
     ("count-rule", ["count 4", "chunk"]),
@@ -145,6 +153,7 @@ const ENDS: [(&str, [&str; 2]); 9] = [
     ("count-vanilla", ["chunk", "count-order 4 5"]),
     ("counting", ["chunk", "chunk"]),
     ("parents", ["g Max Alice Bob done", "parent Alice Bob Max"]),
+    ("pupil", ["task 3 2 nil done 5", "chunk"]),
     ("rule-order", ["foo v3", "bar y"]),
     ("successor", ["g 3", "chunk"]),
 ];
@@ -163,5 +172,21 @@ fn end_states_are_the_published_ones() {
                 assert_eq!(buffer.delay, 0);
             }
         }
+    }
+}
+
+/// The pupil learns one fact, the sum, and a run that is lent the store knows it from the start.
+#[test]
+fn the_pupil_remembers() {
+    let names = model("pupil").names().clone();
+    for engine in [&PROVED, &REFERENCE] {
+        let mut store = [0; STORE_WORDS];
+        let (steps, first) = run_with(engine, "pupil", &mut store);
+        assert_eq!((steps.len(), store[0]), (15, 1), "{}", engine.name);
+        assert_eq!(names.chunk(store[1], &store[2..10]), "sum first=3 second=2 result=5");
+        let (steps, again) = run_with(engine, "pupil", &mut store);
+        let fires = [(50, Kind::Fire(0)), (100, Kind::Wait(50)), (150, Kind::Fire(1))];
+        assert_eq!((&steps[..], store[0]), (&fires[..], 1), "{}", engine.name);
+        assert_eq!(again.buffers[0], first.buffers[0], "the same answer");
     }
 }

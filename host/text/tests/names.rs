@@ -104,6 +104,15 @@ fn names_of_another_model_are_refused() {
 }
 
 #[test]
+fn a_chunk_is_printed_by_its_names() {
+    let model = Model::from_text("type sum first second\nbuffer goal sum first one second two\n").expect("a model");
+    let names = model.names();
+    assert_eq!(names.chunk(1, &[1, 2, 0, 0, 0, 0, 0, 0]), "sum first=one second=two");
+    assert_eq!(names.chunk(1, &[0, 9, 0, 0, 0, 0, 0, 0]), "sum first=nil second=x9");
+    assert_eq!((names.chunk(0, &[0; 8]), names.chunk(7, &[1; 8])), ("chunk".into(), "t7".into()));
+}
+
+#[test]
 fn a_main_that_gives_it_up_prints_the_sentence() {
     let printed = |text: &str| format!("Error: {:?}", Model::from_text(text).expect_err(text));
     assert_eq!(printed("type chunk"), "Error: 1:6: type 'chunk' is declared twice");

@@ -5,7 +5,8 @@ mod calling;
 use calling::{block, call, examples, file, printed, refused, EXAMPLES};
 
 /// What is said of engines that do the same, before how the run ended.
-const SAME: &str = "both engines do the same: number, state, count and every event, step by step and in one call.\n";
+const SAME: &str =
+    "both engines do the same: number, state, count, every event and what is learned, step by step and in one call.\n";
 
 /// What `jirvuntsag-tool compare` prints in the folder of the examples.
 fn compare(arguments: &[&str]) -> String {

@@ -20,6 +20,9 @@ The buffers hold at the end:
   goal       chunk (empty)
   retrieval  chunk (empty)
 
+The run learned, in this order:
+  at 400 ms  count current=3 target=3
+
 The rules, and how they stand at the end:
   start  fired once; does not match: goal holds chunk, not count
   go-on  fired 2 times; does not match: goal holds chunk, not count
@@ -27,6 +30,23 @@ The rules, and how they stand at the end:
 ";
     assert_eq!(explained(&["counting.model"]), wanted);
     assert_eq!(explained(&["counting.image", "--names", "counting.names.json"]), wanted);
+}
+
+/// What the pupil counted it clears, and finds when it is asked again.
+#[test]
+fn a_run_that_learns() {
+    let told = explained(&["pupil.model"]);
+    let wanted = "The buffers hold at the end:
+  goal       task first=3 second=2 count=nil step=done answer=5
+  sheet      chunk (empty)
+  retrieval  chunk (empty)
+
+The run learned, in this order:
+  at 950 ms  sum first=3 second=2 result=5
+
+The rules";
+    assert!(told.contains(wanted), "{told}");
+    assert!(!explained(&["pupil.model", "--steps", "11"]).contains("learned"));
 }
 
 #[test]

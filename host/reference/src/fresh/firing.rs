@@ -7,18 +7,18 @@ use crate::SLOTS;
 
 /// The actions of a rule that fires. Delays have fallen already: a buffer that is acted on gets one of its own.
 #[inline]
-pub fn act(parts: &Parts, chosen: &Chosen, state: &mut State) {
+pub fn act(parts: &Parts, learned: &[Fact], chosen: &Chosen, state: &mut State) {
     let rule = &parts.rules[usize::from(chosen.number)];
     for action in parts.actions(rule) {
         // No action sees what another wrote: it reads the values that were bound, and of the state its own buffer alone.
         let buffer = &mut state.buffers[usize::from(action.buffer)];
-        change(parts, action, &chosen.values, buffer);
+        change(parts, learned, action, &chosen.values, buffer);
     }
 }
 
 /// One action on its buffer.
 #[inline]
-fn change(parts: &Parts, action: &Action, values: &Values, buffer: &mut Buffer) {
+fn change(parts: &Parts, learned: &[Fact], action: &Action, values: &Values, buffer: &mut Buffer) {
     match action.deed {
         Deed::Modify => {
             for (slot, term) in action.pattern.packed() {
@@ -26,25 +26,31 @@ fn change(parts: &Parts, action: &Action, values: &Values, buffer: &mut Buffer) 
             }
             buffer.delay = 0;
         }
-        Deed::Request(isa) => *buffer = answer(parts, isa, &action.pattern, values),
+        Deed::Request(isa) => *buffer = answer(parts, learned, isa, &action.pattern, values),
         Deed::Clear => *buffer = Buffer::default(),
     }
 }
 
 /// What a request leaves in its buffer: the best fact that fits, or nil late.
 #[inline]
-fn answer(parts: &Parts, isa: u8, pattern: &Pattern, values: &Values) -> Buffer {
-    match retrieve(parts, isa, &Wanted::new(pattern, values)) {
+fn answer(parts: &Parts, learned: &[Fact], isa: u8, pattern: &Pattern, values: &Values) -> Buffer {
+    match retrieve([&parts.facts, learned], isa, &Wanted::new(pattern, values)) {
         Some(fact) => Buffer { isa: u16::from(isa), slots: fact.chunk.slots, delay: fact.latency },
         None => Buffer { delay: parts.failure, ..Buffer::default() },
     }
 }
 
-/// Of the facts of a type that fit, the one of highest activation, the first among equals.
+/// Of the facts of a type that fit, the image's and then those learned, the one of highest activation, the first among equals.
 #[inline]
-fn retrieve<'a>(parts: &'a Parts, isa: u8, wanted: &Wanted) -> Option<&'a Fact> {
-    let mut best: Option<&Fact> = None;
-    for fact in &parts.facts {
+fn retrieve<'a>(memory: [&'a [Fact]; 2], isa: u8, wanted: &Wanted) -> Option<&'a Fact> {
+    let [of_image, learned] = memory;
+    better(learned, isa, wanted, better(of_image, isa, wanted, None))
+}
+
+/// The first of these facts that fits and is of higher activation than the best so far, and than the others here; else that one.
+#[inline]
+fn better<'a>(facts: &'a [Fact], isa: u8, wanted: &Wanted, mut best: Option<&'a Fact>) -> Option<&'a Fact> {
+    for fact in facts {
         let better = best.is_none_or(|best| best.activation < fact.activation);
         if better && fact.chunk.isa == isa && wanted.fits(&fact.chunk.slots) {
             best = Some(fact);

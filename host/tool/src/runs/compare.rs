@@ -26,7 +26,7 @@ pub fn compare(arguments: Arguments) -> Result<(), Failure> {
 fn same(told: &Told) -> String {
     let steps = if told.count == 1 { "step" } else { "steps" };
     format!(
-        "both engines do the same: number, state, count and every event, step by step and in one call.
+        "both engines do the same: number, state, count, every event and what is learned, step by step and in one call.
 The run ended by {} after {} {steps}, at {} ms.\n",
         told.number.number(),
         told.count,

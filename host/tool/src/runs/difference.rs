@@ -2,7 +2,7 @@
 
 use std::fmt;
 
-use jirvuntsag_proved::{Buffer, Event, Number, Step};
+use jirvuntsag_proved::{Buffer, Chunk, Event, Number, Step};
 use jirvuntsag_text::Names;
 
 use super::told::Told;
@@ -28,6 +28,10 @@ impl Difference {
             let (kept, fresh) = (&kept.state.buffers[at], &fresh.state.buffers[at]);
             Difference::of(format_args!("buffer {name}"), kept, fresh, shown_buffer)
         };
+        let fact = |at: usize| {
+            let (kept, fresh) = (&kept.learned.get(at), &fresh.learned.get(at));
+            Difference::of(format_args!("learned fact {}", at + 1), kept, fresh, shown_fact)
+        };
         let (told, told_too) = (kept.events.len(), fresh.events.len());
         (0..told.min(told_too))
             .find_map(event)
@@ -36,6 +40,7 @@ impl Difference {
             .or_else(|| Difference::of("the events told", &told, &told_too, usize::to_string))
             .or_else(|| Difference::of("the clock", &kept.state.clock, &fresh.state.clock, u32::to_string))
             .or_else(|| (0..kept.state.buffers.len()).find_map(buffer))
+            .or_else(|| (0..kept.learned.len().max(fresh.learned.len())).find_map(fact))
     }
 
     /// A difference in one thing, if there is one.
@@ -70,6 +75,11 @@ fn shown_event(names: &Names, event: &Event) -> String {
         }
         Step::Wait { ms } => format!("{} wait {ms}", event.clock),
     }
+}
+
+/// All words of a learned fact, by number; an engine may have learned less.
+fn shown_fact(fact: &Option<&Chunk>) -> String {
+    fact.map_or("none".into(), Chunk::to_string)
 }
 
 /// All words of a buffer, by number: what an engine left need not have a name.

@@ -1,6 +1,6 @@
 //! The proved library, by either of its engines.
 
-use jirvuntsag_proved::{calls, Event, Number, Refusal};
+use jirvuntsag_proved::{calls, Event, Number, Refusal, Store};
 pub use jirvuntsag_proved::{Buffer, State, Step};
 use jirvuntsag_text::Model;
 
@@ -31,7 +31,7 @@ impl Engine {
     }
 }
 
-/// A run under way.
+/// A run under way. It begins with an empty store, as a printed run does, and learns.
 #[derive(Clone)]
 pub struct Run {
     image: Vec<u8>,
@@ -41,6 +41,8 @@ pub struct Run {
     table: Option<Vec<u16>>,
     /// The state after the steps made.
     pub state: State,
+    /// What they learned.
+    pub store: Store,
 }
 
 impl Run {
@@ -53,7 +55,7 @@ impl Run {
         let (number, state) = calls::open(&image, &mut table);
         number.ended().map_err(refused)?;
         let table = matches!(engine, Engine::Kept).then_some(table);
-        Ok(Run { image, buffers, rules, table, state })
+        Ok(Run { image, buffers, rules, table, state, store: Store::new() })
     }
 
     /// Makes a step and says what it was, or gives the number with which none is made.
@@ -78,20 +80,22 @@ impl Run {
 
 impl Steps for Run {
     fn run(&mut self, steps: u16) -> Told {
+        let store = Some(self.store.words_mut());
         let (number, state, count) = match &mut self.table {
-            Some(table) => calls::run(&self.image, &self.state, table, steps),
-            None => calls::run_fresh(&self.image, &self.state, steps),
+            Some(table) => calls::run_lent(&self.image, &self.state, table, steps, store),
+            None => calls::run_fresh_lent(&self.image, &self.state, steps, store),
         };
         self.state = state;
-        Told { number, state, count, events: Vec::new() }
+        Told { number, state, count, events: Vec::new(), learned: self.store.facts().collect() }
     }
 
     fn trace(&mut self, steps: u16) -> Told {
+        let store = Some(self.store.words_mut());
         let (number, state, events) = match &mut self.table {
-            Some(table) => calls::trace(&self.image, &self.state, table, steps),
-            None => calls::trace_fresh(&self.image, &self.state, steps),
+            Some(table) => calls::trace_lent(&self.image, &self.state, table, steps, store),
+            None => calls::trace_fresh_lent(&self.image, &self.state, steps, store),
         };
         self.state = state;
-        Told { number, state, count: events.len() as u16, events }
+        Told { number, state, count: events.len() as u16, events, learned: self.store.facts().collect() }
     }
 }

@@ -20,10 +20,11 @@ pub fn explain(arguments: Arguments) -> Result<(), Failure> {
     let held = model_of_file(&arguments.input, arguments.option("--names"))?;
     let traced = Traced::new(&held.model, Engine::asked(&arguments), steps)?;
     let text = format!(
-        "{}\n{}\n{}\n{}{}",
+        "{}\n{}\n{}\n{}{}{}",
         traced.text,
         end(&traced),
         buffers(&held.model, &traced.run.state),
+        learned(held.model.names(), &traced),
         rules(&held.model, &traced),
         hints(&arguments.input, &held.lone).map(|hints| format!("\n{hints}")).unwrap_or_default()
     );
@@ -36,7 +37,7 @@ fn end(traced: &Traced) -> String {
     let why = match traced.number {
         Number::Ended(End::Done) => "the steps asked are made".into(),
         Number::Ended(End::Halted) => "no rule matches, and nothing is on its way".into(),
-        other @ (Number::Ended(End::Stale | End::ClockFull) | Number::Refused(_)) => other.to_string(),
+        other @ (Number::Ended(End::Stale | End::ClockFull | End::StoreFull) | Number::Refused(_)) => other.to_string(),
     };
     let steps = if traced.made == 1 { "step" } else { "steps" };
     format!("The run ended by {} after {} {steps}, at {clock} ms: {why}.\n", traced.number.number(), traced.made)
@@ -53,15 +54,23 @@ fn buffers(model: &Model, state: &State) -> String {
     format!("The buffers hold at the end:\n{}", lines.collect::<String>())
 }
 
+/// What the run learned, each fact with the time of the step that cleared it; nothing if it learned nothing.
+fn learned(names: &Names, traced: &Traced) -> String {
+    if traced.run.store.is_empty() {
+        return String::new();
+    }
+    let lines = traced.run.store.facts().zip(&traced.learned_at).map(|(fact, clock)| {
+        let chunk = names.chunk(fact.isa, &fact.slots);
+        format!("  at {clock} ms  {chunk}\n")
+    });
+    format!("The run learned, in this order:\n{}\n", lines.collect::<String>())
+}
+
 /// A chunk with its slots, and when it can be seen.
 fn chunk(names: &Names, buffer: &Buffer) -> String {
-    let isa = &names.types[usize::from(buffer.isa)];
-    let mut text = if buffer.isa == 0 { format!("{CHUNK} (empty)") } else { isa.name.clone() };
-    for (slot, &value) in isa.slots.iter().zip(&buffer.slots) {
-        // Writing to a string cannot fail.
-        let _ = write!(text, " {slot}={}", names.symbol(value));
-    }
+    let mut text = if buffer.isa == 0 { format!("{CHUNK} (empty)") } else { names.chunk(buffer.isa, &buffer.slots) };
     if buffer.delay > 0 {
+        // Writing to a string cannot fail.
         let _ = write!(text, ", which rules see in {} ms", buffer.delay);
     }
     text

@@ -117,7 +117,7 @@ impl<'m> Lines<'m> {
             Number::Ended(End::Done) => "the steps asked are made".into(),
             Number::Ended(End::ClockFull) => "the clock would pass 4294967295 ms".into(),
             Number::Ended(End::Halted) => "no events left to process".into(),
-            Number::Ended(End::Stale) | Number::Refused(_) => number.to_string(),
+            Number::Ended(End::Stale | End::StoreFull) | Number::Refused(_) => number.to_string(),
         };
         self.line(clock, "------", &format!("Stopped because {why}"));
     }

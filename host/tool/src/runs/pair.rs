@@ -69,7 +69,7 @@ mod tests {
     use super::{compared, Pair};
     use crate::runs::progress::Progress;
     use crate::runs::told::{Steps, Told};
-    use jirvuntsag_proved::{End, Event, Number, State, Step};
+    use jirvuntsag_proved::{Chunk, End, Event, Number, State, Step};
     use jirvuntsag_text::Model;
 
     /// An engine that is made up: rule 0 fires at each step, and a fault may spoil what is told.
@@ -89,7 +89,8 @@ mod tests {
             let event = |at: u16| Event { clock: self.state.clock + 50 * u32::from(at), step: Step::Fire { rule: 0 } };
             let events: Vec<Event> = (1..=steps).map(event).collect();
             self.state.clock += 50 * u32::from(steps);
-            let mut told = Told { number: Number::Ended(End::Done), state: self.state, count: steps, events };
+            let mut told =
+                Told { number: Number::Ended(End::Done), state: self.state, count: steps, events, learned: Vec::new() };
             (self.fault)(steps, &mut told);
             told
         }
@@ -158,6 +159,13 @@ mod tests {
         assert_eq!(found.expect("a place"), format!("at step 1, in buffer goal:\n  kept   {empty}\n  fresh  {other}"));
         let found = place(|_, told| told.state.buffers[7].delay = 1).expect("a place");
         assert!(found.starts_with("at step 1, in buffer 7:\n"), "{found}");
+    }
+
+    #[test]
+    fn a_fact_that_one_engine_alone_has_learned() {
+        let found = place(|_, told| told.learned.push(Chunk { isa: 1, ..Chunk::default() })).expect("a place");
+        let fact = "learned fact 1:\n  kept   none\n  fresh  type 1, slots 0 0 0 0 0 0 0 0";
+        assert_eq!(found, format!("at step 1, in {fact}"));
     }
 
     #[test]

@@ -1,6 +1,6 @@
 //! What a call that makes steps tells.
 
-use jirvuntsag_proved::{Event, Number, State};
+use jirvuntsag_proved::{Chunk, Event, Number, State};
 
 /// What a call answered and left.
 pub struct Told {
@@ -12,6 +12,8 @@ pub struct Told {
     pub count: u16,
     /// What each step did, if it was asked for.
     pub events: Vec<Event>,
+    /// What is learned after them, in the order learned.
+    pub learned: Vec<Chunk>,
 }
 
 /// What makes steps, from where it stands.

@@ -27,6 +27,8 @@ pub struct Traced {
     pub made: u16,
     /// How often each rule fired.
     pub fired: Vec<u16>,
+    /// The clock after the step that learned each fact of the store.
+    pub learned_at: Vec<u32>,
     /// The run, at its end.
     pub run: Run,
 }
@@ -37,6 +39,7 @@ impl Traced {
         let mut run = Run::open(model, engine)?;
         let mut lines = Lines::opening(model, &run.state);
         let mut fired = vec![0; model.spec().rules.len()];
+        let mut learned_at = Vec::new();
         let mut made = 0;
         let number = loop {
             if made == steps {
@@ -49,12 +52,13 @@ impl Traced {
                 Err(number) => break number,
             };
             lines.step(&before, &run.state, step);
+            learned_at.resize(run.store.len(), run.state.clock);
             if let Step::Fire { rule } = step {
                 fired[usize::from(rule)] += 1;
             }
             made += 1;
         };
         lines.stop(run.state.clock, number);
-        Ok(Traced { text: lines.text, number, made, fired, run })
+        Ok(Traced { text: lines.text, number, made, fired, learned_at, run })
     }
 }
