@@ -24,11 +24,21 @@ retrieval is pending for another 100 ms
 >>> branch.matching()
 [Match(rule=1, name='go-on', utility=0, values={'number': '1', 'next': '3'})]
 
-A run keeps the matches of all rules in a table, since that is quicker; one that is opened with `fresh=True` keeps nothing but its
-state and matches every rule afresh at each step. Nobody can tell them apart by what they answer, which is proved.
+A run keeps the matches of all rules in a table, since that is quicker; one that is opened with `fresh=True` keeps no table and
+matches every rule afresh at each step. Nobody can tell them apart by what they answer, which is proved.
 
 >>> model.open(fresh=True).run() == model.open().run()
 True
+
+A run learns: a chunk that a rule clears joins the run's store, where later requests find it. The store is a value that can be
+kept and lent to the next run; one that is opened with `store=None` learns nothing.
+
+>>> pupil = jv.Model.load("examples/pupil.model")
+>>> run = pupil.open()
+>>> run.run().made, run.store
+(15, <Store of 1 fact: sum first=3 second=2 result=5>)
+>>> pupil.open(store=run.store).run().made
+3
 
 What is refused is raised as `Refused`, with its number, what that means and, where a field of the image is at fault, the bit
 where that begins; what Python can tell by itself as ValueError or TypeError. Nothing is altered by a call that raises, but for
@@ -48,6 +58,7 @@ from .rules import Fact, Rule
 from .rows import Row
 from .run import Run
 from .states import Buffer
+from .stores import Store
 from .sweeping import SweepFailed, sweep
 from .symbols import symbol
 from .version import VERSION as __version__
@@ -69,6 +80,7 @@ __all__ = [
     "Row",
     "Rule",
     "Run",
+    "Store",
     "SweepFailed",
     "__version__",
     "base_level",

@@ -17,10 +17,12 @@ from .wording import LONGEST_LINE, shown, shown_path
 PROGRAM = "python3 -m jirvuntsag"
 
 EXPLAIN = """\
-Runs a model from its opening and tells the run in words: each step and what it changed, the buffers at the end, why the run
-ended, and for each rule whether it matches then, or the first of its tests that does not hold."""
+Runs a model from its opening and tells the run in words: each step and what it changed, why the run ended, the buffers at the
+end, what was learned (the run begins with an empty store, as a printed run does, and learns what it clears), and for each rule
+whether it matches then, or the first of its tests that does not hold."""
 TIMELINE = """\
 Runs a model from its opening and writes a timeline as SVG: the steps, and what each buffer holds, against the clock.
+The run begins with an empty store, as a printed run does, and learns what it clears.
 Hatched bars are pending. Every bar says all that it stands for where a pointer rests on it."""
 
 

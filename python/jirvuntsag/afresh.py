@@ -5,23 +5,28 @@ from .calls import EVENT_WORDS, STATE_WORDS
 from .engines import Fresh
 from .packer import FLAGS
 from .pieces import trace_in_pieces
+from .stores import long_words, short_stores, short_words
 
 FIRE = 0
 
 
 def run_all_afresh(runs, stop=None):
     """Makes runs as `packer.run_all` does, each from its own state, with the same words for each run and each event."""
-    rows, events = array("I"), array("I")
+    rows, events, learned = array("I"), array("I"), array("H")
+    stores = short_stores(runs.stores)
     for at, job in enumerate(runs.jobs):
         if stop is not None and stop.value:
             break
         state = runs.states[STATE_WORDS * at : STATE_WORDS * (at + 1)]
         flags = runs.keep[FLAGS * job : FLAGS * (job + 1)]
-        number, made, (state,), told = _run(runs.images[job], (state,), runs.steps, flags)
+        kept = state, long_words(next(stores, None))
+        number, made, (state, store), told = _run(runs.images[job], kept, runs.steps, flags)
         rows.extend([number, made, len(told) // EVENT_WORDS])
         rows.extend(state)
         events.extend(told)
-    return [rows, events]
+        if runs.stores:
+            learned.extend(short_words(store))
+    return [rows, events, learned]
 
 
 def _run(image, kept, steps, flags):

@@ -1,8 +1,8 @@
-"""The seven calls of the library, on words.
+"""The nine calls of the library, on words.
 
 What is handed in is checked and copied, and what is given back is new: no call alters its arguments, and the library never
 sees memory that Python could change or free meanwhile. An image is bytes, a state 81 words of 32 bits, a table nine words of
-16 bits for each rule. See include/jirvuntsag.h for what the words are.
+16 bits for each rule, a store 2,305 words of 16 bits. See include/jirvuntsag.h for what the words are.
 
 Every answer has a number and a `position`: for a number that is about a field of the image (2, 3, 11, 12, 13) the first bit of
 that field, counted from 0, the most significant bit of byte 0; for every other number 0.
@@ -16,6 +16,9 @@ that field, counted from 0, the most significant bit of byte 0; for every other 
 (9, 7)
 >>> run_fresh(image, opened.state, 100)[:2]
 (9, 7)
+>>> learned = run_lent(image, opened.state, opened.table, 100, [0] * 2305)
+>>> learned.number, learned.made, list(learned.store[:4])
+(9, 7, [1, 2, 3, 3])
 >>> refused = run_fresh(image[:1] + bytes([0x90]) + image[2:], opened.state, 100)  # nine buffers
 >>> refused.number, refused.position
 (3, 8)
@@ -24,7 +27,7 @@ import ctypes
 import functools
 import operator
 from array import array
-from typing import NamedTuple
+from typing import NamedTuple, Optional
 
 from .libraries import NoLibrary, load_library
 from .version import VERSION as MODULE_VERSION
@@ -41,6 +44,10 @@ _IMAGE = [ctypes.c_char_p, ctypes.c_size_t]
 _STATE = [ctypes.POINTER(ctypes.c_uint32)]
 _TABLE = [ctypes.POINTER(ctypes.c_uint16), ctypes.c_size_t]
 _EVENTS = [ctypes.POINTER(ctypes.c_uint32), ctypes.c_size_t]
+_LENT = [ctypes.c_uint16, ctypes.POINTER(ctypes.c_uint16), ctypes.c_size_t]
+
+# what a word says is lent
+_A_STORE = 1
 
 # the arguments of each call of include/jirvuntsag.h; all of them answer 64 bits
 _ARGUMENTS = {
@@ -51,6 +58,8 @@ _ARGUMENTS = {
     "jirvuntsag_refresh": _IMAGE + _STATE + [ctypes.c_uint16] + _TABLE,
     "jirvuntsag_run_fresh": _IMAGE + _STATE + [ctypes.c_uint16],
     "jirvuntsag_trace_fresh": _IMAGE + _STATE + [ctypes.c_uint16] + _EVENTS,
+    "jirvuntsag_run_lent": _IMAGE + _STATE + _TABLE + [ctypes.c_uint16] + _EVENTS + _LENT,
+    "jirvuntsag_run_fresh_lent": _IMAGE + _STATE + [ctypes.c_uint16] + _EVENTS + _LENT,
 }
 
 
@@ -111,6 +120,29 @@ class TracedFresh(NamedTuple):
     position: int
 
 
+class RanLent(NamedTuple):
+    """What `run_lent` gives back; `store` is None where none was lent."""
+
+    number: int
+    made: int
+    state: array
+    table: array
+    events: array
+    store: Optional[array]
+    position: int
+
+
+class RanFreshLent(NamedTuple):
+    """What `run_fresh_lent` gives back: there is no table; `store` is None where none was lent."""
+
+    number: int
+    made: int
+    state: array
+    events: array
+    store: Optional[array]
+    position: int
+
+
 class Refreshed(NamedTuple):
     """What `refresh_table` gives back; `count` is how many rules test a marked buffer."""
 
@@ -151,6 +183,11 @@ def _copy_of(code, words, what):
     except OverflowError as error:
         largest = 256 ** array(code).itemsize - 1
         raise ValueError(f"each word of a {what} must be from 0 to {largest:,}") from error
+
+
+def small_words(words, what):
+    """Words of 16 bits in a new array."""
+    return _copy_of("H", words, what)
 
 
 def _state_of(state):
@@ -219,7 +256,7 @@ def trace_steps(image, state, table, steps):
     """Runs as `run_steps` does, and gives events too: of each step the clock after it; 0 and the rule, or 1 and the ms."""
     image, state, table = _image_of(image), _state_of(state), _copy_of("H", table, "table")
     steps = small_number(steps, "the steps asked")
-    events = array("I", bytes(4 * EVENT_WORDS * steps))
+    events = _room_for(steps)
     answer = _library().jirvuntsag_trace(
         image, len(image), _lent(state), _lent(table), len(table), steps, _lent(events), len(events)
     )
@@ -253,7 +290,47 @@ def run_fresh(image, state, steps):
 def trace_fresh(image, state, steps):
     """Runs as `run_fresh` does, and gives events as `trace_steps` does."""
     image, state, steps = _image_of(image), _state_of(state), small_number(steps, "the steps asked")
-    events = array("I", bytes(4 * EVENT_WORDS * steps))
+    events = _room_for(steps)
     answer = _library().jirvuntsag_trace_fresh(image, len(image), _lent(state), steps, _lent(events), len(events))
     number, made, position = _taken_apart(answer)
     return TracedFresh(number, made, state, events[: EVENT_WORDS * made], position)
+
+
+def run_lent(image, state, table, steps, store=None, *, events=True):
+    """Runs as `trace_steps` does, where a store may be lent: the run learns, and `store` is what it has then.
+
+    Without a store nothing is lent, and nothing is learned. Without `events` none are told.
+
+    >>> run_lent(b"", [0] * 81, [], 1, [0] * 2305).number
+    2
+    """
+    image, state, table = _image_of(image), _state_of(state), small_words(table, "table")
+    steps, store = small_number(steps, "the steps asked"), None if store is None else small_words(store, "store")
+    noted = _room_for(steps if events else 0)
+    answer = _library().jirvuntsag_run_lent(
+        image, len(image), _lent(state), _lent(table), len(table), steps, _lent(noted), len(noted), *_lending(store)
+    )
+    number, made, position = _taken_apart(answer)
+    return RanLent(number, made, state, table, noted[: EVENT_WORDS * made], store, position)
+
+
+def run_fresh_lent(image, state, steps, store=None, *, events=True):
+    """Runs as `trace_fresh` does, where a store may be lent as to `run_lent`."""
+    image, state, steps = _image_of(image), _state_of(state), small_number(steps, "the steps asked")
+    store = None if store is None else small_words(store, "store")
+    noted = _room_for(steps if events else 0)
+    answer = _library().jirvuntsag_run_fresh_lent(
+        image, len(image), _lent(state), steps, _lent(noted), len(noted), *_lending(store)
+    )
+    number, made, position = _taken_apart(answer)
+    return RanFreshLent(number, made, state, noted[: EVENT_WORDS * made], store, position)
+
+
+def _room_for(steps):
+    """The words for the events of so many steps."""
+    return array("I", bytes(4 * EVENT_WORDS * steps))
+
+
+def _lending(store):
+    """What is lent, as the library is told: a word that says it, the words of the store, and how many they are."""
+    return (0, None, 0) if store is None else (_A_STORE, _lent(store), len(store))

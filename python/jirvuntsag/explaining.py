@@ -1,8 +1,9 @@
-"""A run told in words: each step and what it changed, the buffers at the end, why it ended, why each rule does not match."""
+"""A run told in words: each step and what it changed, its end, what was learned, why each rule does not match."""
 from .calls import small_number
 from .model import Model
 from .refusals import HALTED, MEANINGS, Refused
 from .run import Run
+from .stores import chunk_text
 from .wording import printable
 
 STEPS = 1000
@@ -12,7 +13,8 @@ REQUEST = 1  # the kind of an action that asks for a fact
 def explain(run, steps=STEPS, *, fresh=False):
     """Tells the next steps of a run, or of a model from its opening. The run itself is not moved.
 
-    With `fresh` no table is kept, as with `Model.open`; what is told is the same.
+    With `fresh` no table is kept, as with `Model.open`; what is told is the same. A model is lent an empty store, as by the
+    printing program, so that its run learns; a run goes on with the store that it has, or with none.
 
     >>> import jirvuntsag as jv
     >>> print(explain(jv.Model.load("examples/counting.model"), steps=2))
@@ -41,23 +43,38 @@ def explain(run, steps=STEPS, *, fresh=False):
     run = run.open(fresh=fresh) if isinstance(run, Model) else run.copy(fresh=fresh or run.fresh)
     steps = small_number(steps, "the steps asked")
     start = [f"at {run.clock:,} ms", *_held(run)]
-    events, steps_told, number = _steps(run, steps)
-    end = [_end(run, len(events), number), "", "The buffers then:", *_held(run), "", "The rules then:"]
+    events, steps_told, learned, number = _steps(run, steps)
+    end = [_end(run, len(events), number), "", "The buffers then:", *_held(run), "", *learned, "The rules then:"]
     lines = [*start, *steps_told, "", *end, *_rules(run, {event.rule for event in events})]
     return "".join(f"{printable(line)}\n" for line in lines)
 
 
 def _steps(run, steps):
-    """Makes the steps: their events, the lines that tell them, and the number that they end by."""
-    events, lines, before = [], [], dict(run.buffers)
+    """Makes the steps: their events, the lines that tell them, those of what they learned, and the number that they end by."""
+    events, lines, learned, number = [], [], [], None
+    before, known = dict(run.buffers), _known(run)
     try:
         for event in run.steps(steps):
             events.append(event)
             lines += [_step(run, event), *_changed(run, before, _asked(run, event))]
-            before = dict(run.buffers)
+            learned += _learned(run, event, known)
+            before, known = dict(run.buffers), _known(run)
     except Refused as refused:
-        return events, lines, refused.number
-    return events, lines, HALTED if len(events) < steps else 0
+        number = refused.number
+    if number is None:
+        number = HALTED if len(events) < steps else 0
+    return events, lines, ["Learned, in this order:", *learned, ""] if learned else [], number
+
+
+def _known(run):
+    """How many facts are in the store of a run; none if it is lent none."""
+    return 0 if run.store is None else len(run.store)
+
+
+def _learned(run, event, known):
+    """A line for each fact that a step has learned."""
+    facts = [] if _known(run) == known else [*run.store][known:]
+    return [f"    at {event.clock:,} ms  {chunk_text(fact)}" for fact in facts]
 
 
 def _step(run, event):

@@ -13,6 +13,7 @@ from .rules import fact_from, rule_from
 from .run import Run
 from .shape import fields_of, shape_of
 from .states import Buffers, state_words
+from .stores import EMPTY, lent_words
 from .vocabulary import Vocabulary
 from .wording import shown_path
 
@@ -111,11 +112,14 @@ class Model:
         """How a model is kept by `copy` and `pickle`: all else is made from these two."""
         return Model, (self.image, self.names)
 
-    def open(self, *, fresh=False):
+    def open(self, *, fresh=False, store=EMPTY):
         """A run from the opening state. With `fresh` it keeps no table and matches every rule afresh at each step.
 
         Both run alike, word for word, which is proved: the run that keeps its matches is the quicker one, and in the one that
         keeps nothing no match can outlive its chunk.
+
+        A run learns what its rules clear, as a printed run does: it is lent an empty store, if nothing else is said. `store`
+        may be a `Store` of facts that are known from the start, or None: then nothing is lent, and nothing is learned.
 
         >>> model = Model.load("examples/counting.image")
         >>> run = model.open()
@@ -125,13 +129,17 @@ class Model:
         <Run at 0 ms, keeping nothing: {0: 2 0=#1 1=#3, 1: 0}>
         >>> model.open(fresh=True).run() == run.run()
         True
+        >>> run.store, model.open(store=None).store
+        (<Store of 1 fact: 2 0=#3 1=#3>, None)
         """
-        return Run(self, self._opened.state) if fresh else Run(self, self._opened.state, self._opened.table)
+        table = None if fresh else self._opened.table
+        return Run(self, self._opened.state, table, lent_words(store, self))
 
-    def at(self, state, *, fresh=False):
+    def at(self, state, *, fresh=False, store=EMPTY):
         """A run from any well-formed state: plain data as `Run.state` gives it, or 81 words as `Run.words` does.
 
-        With `fresh` it keeps no table, as with `open`.
+        With `fresh` it keeps no table, and `store` is what it is lent, as with `open`: `store=run.store` goes on with what a
+        run has learned.
 
         >>> model = Model.load("examples/counting.image")
         >>> run = model.at({"clock": 350, "buffers": {0: {"type": 2, "slots": {0: 3, 1: 3}}}})
@@ -139,7 +147,8 @@ class Model:
         ['400 fire 2']
         """
         words = state_words(state, self.vocabulary) if isinstance(state, dict) else state
-        return Run(self, *(Fresh if fresh else Keeping).at(self, words))
+        state, *table, store = (Fresh if fresh else Keeping).at(self, words, lent_words(store, self))
+        return Run(self, state, table[0] if table else None, store)
 
     @property
     def start(self):

@@ -11,7 +11,7 @@ from .libraries import NoLibrary, load_library
 from .wording import shown_lines
 
 VARIABLE = "JIRVUNTSAG_PACKER"
-INTERFACE = 1
+INTERFACE = 2
 LARGEST_TEXT = 16 * 1024 * 1024
 FLAGS = 257
 
@@ -27,6 +27,7 @@ class _Batch(ctypes.Structure):
         ("ends", _WORDS), ("ends_len", _SIZE),
         ("jobs", _WORDS), ("jobs_len", _SIZE),
         ("states", _WORDS), ("states_len", _SIZE),
+        ("stores", _SMALL), ("stores_len", _SIZE),
         ("keep", _BYTES), ("keep_len", _SIZE),
         ("steps", ctypes.c_uint16), ("stop", ctypes.POINTER(ctypes.c_uint8)),
     ]  # fmt: skip
@@ -51,7 +52,8 @@ class Runs(NamedTuple):
 
     `images`: bytes; `jobs`: for each run the number of its image; `states`: 81 words for each run, or none, if each begins
     with its image's opening; `keep`: 257 flags for each image that say which events are kept, one for each rule and the last
-    for waits, or none; `steps`: the most steps of a run.
+    for waits, or none; `steps`: the most steps of a run; `stores`: for each run the count of what its store has learned before
+    and nine words for each fact, or 65,535 alone if it is lent none, or none at all, if no run is lent one.
     """
 
     images: list
@@ -59,6 +61,7 @@ class Runs(NamedTuple):
     states: array
     keep: bytes
     steps: int
+    stores: array = array("H")
 
 
 @functools.lru_cache(maxsize=1)
@@ -115,7 +118,8 @@ def pack_fields(fields):
 
 
 def run_all(runs, stop=None):
-    """Makes runs: 84 words for each, its number, the steps made, the events kept and the state; three words for each event.
+    """Makes runs: 84 words for each, its number, the steps made, the events kept and the state; three words for each event;
+    and for each what its store has then, in the words of `Runs.stores`.
 
     Where another thread makes the value of `stop`, a byte of ctypes, 1, no further run is begun, and there are fewer words.
     """
@@ -124,12 +128,14 @@ def run_all(runs, stop=None):
         at += len(image)
         ends.append(at)
     images = b"".join(runs.images)
-    lent = [(ctypes.c_uint32 * len(words)).from_buffer(words) if words else None for words in (ends, runs.jobs, runs.states)]
-    sizes = [len(words) for words in (ends, runs.jobs, runs.states)]
-    pairs = [value for pair in zip(lent, sizes) for value in pair]
+    given = [ends, runs.jobs, runs.states, runs.stores]
+    types = [ctypes.c_uint32] * 3 + [ctypes.c_uint16]
+    lent = [(word * len(words)).from_buffer(words) if words else None for word, words in zip(types, given)]
+    pairs = [value for pair in zip(lent, map(len, given)) for value in pair]
     stopped = None if stop is None else ctypes.pointer(stop)
     batch = _Batch(images, len(images), *pairs, runs.keep, len(runs.keep), runs.steps, stopped)
-    return [array("I", part) for part in _parts(_packer().jirvuntsag_packer_runs(ctypes.byref(batch)), 2)]
+    parts = _parts(_packer().jirvuntsag_packer_runs(ctypes.byref(batch)), 3)
+    return [array(code, part) for code, part in zip("IIH", parts)]
 
 
 def words_of_refusal(image, head):

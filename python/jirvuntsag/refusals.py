@@ -17,6 +17,8 @@ MEANINGS = (
     "a mask has a bit past the type's slots",
     "a variable is not below the rule's count, or stands in no test",
     "a buffer does not exist, does not rise, or is modified untested",
+    "the store would have more than 256 facts",
+    "the store has other than 256 places, a count over 256, or a fact that the image could not hold",
 )
 
 # the numbers that are about a field of the image: these alone have a position
@@ -24,7 +26,7 @@ ABOUT_A_FIELD = (2, 3, 11, 12, 13)
 
 
 class Refused(Exception):
-    """A call was refused by a number, 1 to 13.
+    """A call was refused by a number, 1 to 15.
 
     `position` says for 2, 3, 11, 12 and 13 where the field begins that is at fault: bits count from 0, and bit 0 is the most
     significant one of the first byte. For a variable that stands in no test it is the bit after the rule's last test. For
@@ -33,7 +35,7 @@ class Refused(Exception):
     `words` says what is wrong: of an image that is no model the field, the value in it and the rule that it breaks, where the
     packer is at hand, which knows them; otherwise the `meaning` of the number.
 
-    `made` and `events` are of the steps that a run made before it was refused (by 7 or 8): these remain made.
+    `made` and `events` are of the steps that a run made before it was refused (by 7, 8 or 14): these remain made.
 
     >>> print(Refused(3, position=53))
     refused by 3 at bit 53 (byte 6, bit 5 of it): a version, count, type or action kind breaks its rule

@@ -3,6 +3,7 @@ from .calls import EVENT_WORDS
 from .events import events_from
 from .refusals import HALTED, MEANINGS
 from .states import Buffers, state_from
+from .stores import long_words, short_stores, store_from
 
 ROW_WORDS = 84
 
@@ -18,11 +19,12 @@ class Row:
     (True, 550, ['400 fire stop'])
     """
 
-    __slots__ = ("item", "model", "_words", "_at", "_events")
+    __slots__ = ("item", "model", "_words", "_at", "_events", "_learned")
 
-    def __init__(self, item, model, words, at, events):
+    def __init__(self, item, model, words, at, events, learned=None):
         # the words are those of a whole batch: nothing is taken out until it is asked for
         self.item, self.model, self._words, self._at, self._events = item, model, words, at, events
+        self._learned = learned
 
     @property
     def number(self):
@@ -50,8 +52,18 @@ class Row:
 
     @property
     def state(self):
-        """The state at the end, as plain data: `row.model.at(row.state)` goes on from there."""
+        """The state at the end, as plain data: `row.model.at(row.state, store=row.store)` goes on from there."""
         return state_from(self._state, self.model.vocabulary)
+
+    @property
+    def store(self):
+        """What was learned by the end: a `Store`, or None if none was lent.
+
+        >>> import jirvuntsag as jv
+        >>> jv.sweep([jv.Model.load("examples/counting.model")])[0].store
+        <Store of 1 fact: count current=3 target=3>
+        """
+        return None if self._learned is None else store_from(long_words(self._learned), self.model)
 
     @property
     def events(self):
@@ -80,7 +92,8 @@ class Row:
 
     def __reduce__(self):
         """How a row is kept by `pickle`: with its own words alone."""
-        return Row, (self.item, self.model, self._words[self._at : self._at + ROW_WORDS], 0, self._events)
+        words = self._words[self._at : self._at + ROW_WORDS]
+        return Row, (self.item, self.model, words, 0, self._events, self._learned)
 
     def __repr__(self):
         return f"<Row end {self.number} {self.made} at {self.clock} ms: {self.buffers!r}>"
@@ -88,13 +101,10 @@ class Row:
 
 def rows_from(items, models, made):
     """The rows of a batch: for each run its item, its model, and its words among those that the packer gave."""
-    words, events = made
-    if not events:
-        starts = range(0, len(words), ROW_WORDS)
-        return [Row(item, model, words, start, events) for item, model, start in zip(items, models, starts)]
-    rows, at = [], 0
+    words, events, learned = made
+    rows, at, stores = [], 0, short_stores(learned)
     for item, model, start in zip(items, models, range(0, len(words), ROW_WORDS)):
         end = at + EVENT_WORDS * words[start + 2]
-        rows.append(Row(item, model, words, start, events[at:end]))
+        rows.append(Row(item, model, words, start, events[at:end] if events else events, next(stores, None)))
         at = end
     return rows

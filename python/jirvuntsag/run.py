@@ -1,4 +1,4 @@
-"""A run of a model: a state, with its table if one is kept, which moves on by steps."""
+"""A run of a model: a state, with its table if one is kept and its store if one is lent, which moves on by steps."""
 import functools
 import itertools
 import operator
@@ -12,6 +12,7 @@ from .matches import Match, first_miss
 from .pieces import trace_in_pieces
 from .refusals import HALTED, Refused
 from .states import Buffer, Buffers, buffer_words, clock_of, place, state_from, state_words
+from .stores import lent_words, store_from
 
 
 def _alone(method):
@@ -29,11 +30,15 @@ class Run:
     """A run, made by `Model.open` or `Model.at`. Its table is always the fresh one, so that number 7 never comes
     (but for a run that was pickled before request 2026-01: `run.model.at(run.words)` goes on from there).
 
-    With `fresh=True` it has no table: every rule is matched afresh at each step, and nothing is kept but the state. All that a
-    run can do it does alike and with the same answers, which is proved; copies and pickles keep nothing, either.
+    With `fresh=True` it has no table: every rule is matched afresh at each step, and no match is kept. All that a run can do it
+    does alike and with the same answers, which is proved; copies and pickles keep nothing, either.
+
+    It learns: a chunk that a rule clears joins its store, as `Store` says, and requests find it there from the next step on.
+    With `store=None` it is lent none, and learns nothing.
 
     A model that halts is no error: `step` gives None, `steps` ends, `run` says 9. A clock that would pass its largest is
-    one: `Refused`, by 8, after the steps that could be made.
+    one: `Refused`, by 8, after the steps that could be made. So is a step that would learn more than the store has places
+    for: `Refused`, by 14.
 
     Threads may share a run: each call has it for itself, and the others wait. What two of them do with it in several calls
     goes in any order, so that a run of its own (`copy`) is what a thread mostly wants. A model is never written to.
@@ -49,16 +54,18 @@ class Run:
     (550, 50)
     """
 
-    def __init__(self, model, state, table=None):
+    def __init__(self, model, state, table=None, store=None):
         self._model = model
         self._engine = Fresh if table is None else Keeping
         # what is kept is replaced, all at once, and never written to: state and table always fit, and copies may share them
-        self._kept = (array("I", state),) if table is None else (array("I", state), array("H", table))
+        tables = () if table is None else (array("H", table),)
+        self._kept = (array("I", state), *tables, None if store is None else array("H", store))
         self._lock = threading.RLock()
 
     def __reduce__(self):
-        """How a run is copied and kept by `copy` and `pickle`: with its table, if it has one, and without its lock."""
-        return Run, (self._model, *self._kept)
+        """How a run is copied and kept by `copy` and `pickle`: with table and store, if it has them, and without its lock."""
+        state, *table, store = self._kept
+        return Run, (self._model, state, table[0] if table else None, store)
 
     @property
     def model(self):
@@ -67,7 +74,7 @@ class Run:
 
     @property
     def fresh(self):
-        """Nothing is kept from step to step but the state: the run has no table.
+        """No matches are kept from step to step: the run has no table.
 
         >>> from jirvuntsag import Model
         >>> model = Model.load("examples/counting.image")
@@ -102,6 +109,11 @@ class Run:
         return self._kept[0]
 
     @property
+    def lent(self):
+        """The words of the store that a run from here is lent, or None: an array that must not be written to."""
+        return self._kept[-1]
+
+    @property
     def state(self):
         """The state as plain data. What it is set to becomes the state, and the table, if one is kept, is made to fit it.
 
@@ -121,6 +133,28 @@ class Run:
     @_alone
     def state(self, state):
         self._move_to(state_words(state, self._model.vocabulary))
+
+    @property
+    def store(self):
+        """What the run has learned, and what it was lent: a `Store`, or None if it is lent none and learns nothing.
+
+        What it is set to is lent from here on. State and store are apart: a run may go back without forgetting, or forget.
+
+        >>> from jirvuntsag import Model, Store
+        >>> run = Model.load("examples/pupil.model").open()
+        >>> run.store, str(run.run()), run.store
+        (<Store of no facts>, 'end 9 15', <Store of 1 fact: sum first=3 second=2 result=5>)
+        >>> run.store = None
+        >>> repr(run)[:33]
+        '<Run at 1100 ms, learning nothing'
+        """
+        words = self.lent
+        return None if words is None else store_from(words, self._model)
+
+    @store.setter
+    @_alone
+    def store(self, store):
+        self._kept = (*self._kept[:-1], lent_words(store, self._model))
 
     @property
     def table(self):
@@ -247,15 +281,17 @@ class Run:
     def copy(self, *, fresh=None):
         """Another run from here, which goes its own way: with a table or without, as this one, if nothing else is said.
 
+        What this one has learned it knows, too; what either learns from here on the other does not.
+
         >>> from jirvuntsag import Model
         >>> run = Model.load("examples/counting.image").open()
         >>> other = run.copy(fresh=True)
         >>> other.run() == run.run(), other.words == run.words
         (True, True)
         """
-        if fresh is None or bool(fresh) == self.fresh:
-            return Run(self._model, *self._kept)
-        return self._model.at(self._kept[0], fresh=fresh)
+        function, arguments = self.__reduce__()
+        run = function(*arguments)
+        return run if fresh is None or bool(fresh) == self.fresh else self._model.at(run.words, fresh=fresh, store=run.store)
 
     def _move_to(self, words):
         """Takes another state."""
@@ -267,7 +303,8 @@ class Run:
         return Match(rule, vocabulary.rules.name(rule), self._model.shape.rules[rule].utility, named)
 
     def __repr__(self):
-        return f"<Run at {self.clock} ms{', keeping nothing' if self.fresh else ''}: {self.buffers!r}>"
+        told = f"{', keeping nothing' if self.fresh else ''}{', learning nothing' if self.lent is None else ''}"
+        return f"<Run at {self.clock} ms{told}: {self.buffers!r}>"
 
 
 def _count(number):

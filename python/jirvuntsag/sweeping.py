@@ -7,6 +7,7 @@ from .batches import Asked, Batch, make_and_run
 from .calls import MOST_STEPS, small_number
 from .progress import reporter
 from .rows import rows_from
+from .stores import EMPTY, check_store
 
 LARGEST_BATCH = 256
 
@@ -30,7 +31,17 @@ class SweepFailed(RuntimeError):
 
 
 def sweep(
-    items, make=None, *, steps=MOST_STEPS, events=False, fresh=False, executor=None, workers=None, progress=None, rows=None
+    items,
+    make=None,
+    *,
+    steps=MOST_STEPS,
+    events=False,
+    fresh=False,
+    store=EMPTY,
+    executor=None,
+    workers=None,
+    progress=None,
+    rows=None,
 ):
     """Runs every item to its end, or for at most so many steps: a `Row` for each, in the order given.
 
@@ -39,6 +50,8 @@ def sweep(
 
     `events`: False for none, True for all, or the name or names of rules whose firings are kept.
     `fresh`: no run keeps a table, as with `Model.open`; a Run that keeps none never gets one. The rows are the same.
+    `store`: what the run of each Model is lent, as with `Model.open`: an empty store, if nothing is said, so that each learns,
+    as a printed run does, for itself alone; a `Store`; or None, and nothing is learned. A Run goes by its own.
     `executor`: anything with `submit` as in concurrent.futures; without one, as many threads as there are cores (`workers`).
     `progress`: None for a line if standard error is a terminal, True, False, or a function of how many are done, of how many.
     `rows`: a list that is filled as rows come. Handed in again, what is done in it is not done again.
@@ -55,9 +68,10 @@ def sweep(
     >>> [row.clock for row in sweep([0, 500, 1000], lambda ms: model.replace(failure=ms), fresh=True)]
     [400, 850, 1350]
     """
+    check_store(store)
     items, rows = list(items), [] if rows is None else rows
     kept = events if isinstance(events, bool) else (events,) if isinstance(events, str) else tuple(events)
-    work = Work(items, make, Asked(small_number(steps, "the steps asked"), kept, bool(fresh)), rows)
+    work = Work(items, make, Asked(small_number(steps, "the steps asked"), kept, bool(fresh), store), rows)
     report, end = reporter(progress, "sweep")
     try:
         if executor is not None:

@@ -3,7 +3,7 @@ import json
 import random
 import unittest
 
-from jirvuntsag import MEANINGS, Model, Names, Refused, calls
+from jirvuntsag import MEANINGS, Model, Names, Refused, Store, calls
 
 from . import COUNTING, COUNTING_NAMES
 
@@ -176,6 +176,11 @@ class AnyThing(unittest.TestCase):
             answered += self.hold(calls.run_steps, one, two, three, four)
             answered += self.hold(calls.refresh_table, one, two, three, four)
             answered += self.hold(calls.run_fresh, one, two, three)
+            answered += self.hold(calls.run_lent, one, two, three, four, chooser.choice(THINGS))
+            answered += self.hold(calls.run_fresh_lent, one, two, three, four)
+            answered += self.hold(Store, one, two)
+            answered += self.hold(Store.from_words, one, chooser.choice([run.model, two]))
+            answered += self.hold(lambda store: run.model.open(store=store), one)
             answered += self.hold(chooser.choice([run, fresh]).copy().put, one, two, three, four)
             answered += self.hold(lambda state, keep: run.model.at(state, fresh=keep), one, chooser.random() < 0.5)
         self.assertGreater(answered, 100)

@@ -1,7 +1,7 @@
 """What docs/DIFFERENCES.md says of this machine, each on a model of a rule or two."""
 import unittest
 
-from jirvuntsag import Model
+from jirvuntsag import Model, Store
 
 from . import COUNTING
 from .packing import Rule, pack
@@ -9,9 +9,9 @@ from .packing import Rule, pack
 NIL = (0,)
 
 
-def run_of(*opening, facts=(), rules=(), types=(2,), failure=200):
+def run_of(*opening, facts=(), rules=(), types=(2,), failure=200, store=Store()):
     """A run of a small model; type 1 has two slots, if nothing else is said."""
-    return Model(pack(types, opening, facts, rules, failure)).open()
+    return Model(pack(types, opening, facts, rules, failure)).open(store=store)
 
 
 def lines(run, steps=20):
@@ -112,11 +112,20 @@ class Choosing(unittest.TestCase):
 class Keeping(unittest.TestCase):
     """What is kept."""
 
-    def test_what_is_cleared_or_replaced_is_not_remembered(self):
-        for forget in [(1, "clear")], [(1, "request", 1, {0: 7})]:
-            first = Rule([(0, 1, {1: 0}), (1, 1, {})], [(0, "modify", {1: 1}), *forget])
-            then = Rule([(0, 1, {1: 1})], [(0, "clear"), (1, "request", 1, {0: 8})], -1)
-            run = run_of((1, 5, 0), (1, 8, 8), facts=[((1, 7, 7), 0, 0)], rules=[first, then], failure=0)
+    def asked_again(self, deed, store):
+        """A run whose first rule does something to what buffer 1 holds, and whose second asks for it."""
+        first = Rule([(0, 1, {1: 0}), (1, 1, {})], [(0, "modify", {1: 1}), deed])
+        then = Rule([(0, 1, {1: 1})], [(0, "modify", {1: 2}), (1, "request", 1, {0: 8})], -1)
+        return run_of((1, 5, 0), (1, 8, 8), facts=[((1, 7, 7), 0, 0)], rules=[first, then], failure=0, store=store)
+
+    def test_what_is_cleared_is_remembered_where_a_store_is_lent(self):
+        run = self.asked_again((1, "clear"), Store())
+        self.assertEqual(lines(run), ["50 fire 0", "100 fire 1", "150 wait 50"])
+        self.assertEqual(run.buffers[1].slots, {0: 8, 1: 8})
+
+    def test_what_is_replaced_is_not_remembered_nor_anything_where_no_store_is_lent(self):
+        for deed, store in ((1, "request", 1, {0: 7}), Store()), ((1, "clear"), None), ((1, "request", 1, {0: 7}), None):
+            run = self.asked_again(deed, store)
             self.assertEqual(lines(run), ["50 fire 0", "100 fire 1"])
             self.assertEqual(run.buffers[1].type, 0)
 

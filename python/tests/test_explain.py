@@ -38,6 +38,9 @@ The buffers then:
     goal       empty
     retrieval  empty
 
+Learned, in this order:
+    at 400 ms  count current=3 target=3
+
 The rules then:
     start  does not match: goal holds chunk, not count
     go-on  does not match: goal holds chunk, not count
@@ -73,6 +76,17 @@ class Words(unittest.TestCase):
             for rule, line in zip(run.model.rules, told):
                 words = "matches" if rule in matching else f"does not match: {run.why_not(rule)}"
                 self.assertTrue(line.split(maxsplit=1)[0] == rule and words in line, line)
+
+    def test_what_is_learned_on_the_way_is_told_with_its_time(self):
+        model = jv.Model.load(EXAMPLES / "pupil.model")
+        told = jv.explain(model)
+        self.assertIn("\n\nLearned, in this order:\n    at 950 ms  sum first=3 second=2 result=5\n\nThe rules then:\n", told)
+        run = model.open()
+        run.run()
+        for other in model.open(store=run.store), model.open(store=None), run:
+            self.assertNotIn("Learned", jv.explain(other))
+        self.assertNotIn("Learned", jv.explain(model, 11))
+        self.assertIn("It ends at 150 ms after 3 steps", jv.explain(model.open(store=run.store)))
 
     def test_ends(self):
         self.assertIn("all that were asked for (end 0)", jv.explain(jv.Model(FOREVER), 5))

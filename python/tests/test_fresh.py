@@ -68,7 +68,7 @@ def slow(ms):
 class FreshRuns(test_runs.Runs):
     """All that is tested of runs, with runs that keep nothing."""
 
-    FRESH, TRACE = True, "trace_fresh"
+    FRESH, TRACE = True, "run_fresh_lent"
 
 
 class FreshBadStates(test_bad_input.BadStates):
@@ -83,6 +83,7 @@ class Alike(unittest.TestCase):
     def compare(self, kept, fresh):
         """All that can be asked of both is the same."""
         self.assertEqual((kept.words, kept.state, dict(kept.buffers)), (fresh.words, fresh.state, dict(fresh.buffers)))
+        self.assertEqual(kept.store, fresh.store)
         self.assertEqual((kept.table, kept.matching()), (fresh.table, fresh.matching()))
         self.assertEqual([*map(kept.why_not, kept.model.rules)], [*map(fresh.why_not, fresh.model.rules)])
 
@@ -231,7 +232,7 @@ class NothingKept(unittest.TestCase):
     """A run without a table has none, and none is made for it to move on."""
 
     def test_no_call_of_the_other_engine_is_made(self):
-        kept = "open_image", "run_steps", "trace_steps", "refresh_table", "table_length"
+        kept = "open_image", "run_steps", "trace_steps", "run_lent", "refresh_table", "table_length"
         model, state = jv.Model(IMAGE), COUNTING_MODEL.open().words
         wrong = unittest.mock.Mock(side_effect=AssertionError("a table was asked for"))
         with unittest.mock.patch.multiple(calls, **dict.fromkeys(kept, wrong)):
@@ -246,7 +247,8 @@ class NothingKept(unittest.TestCase):
             self.assertEqual(run.until(1_200).made, 3)
             self.assertEqual(model.at(state, fresh=True).run(), (9, 7, unittest.mock.ANY))
             self.assertEqual(jv.sweep([run.copy()])[0].number, 9)
-        self.assertEqual(len(run._kept), 1)
+        state, store = run._kept
+        self.assertEqual((len(state), len(store)), (81, 2_305))
 
     def test_a_table_that_is_asked_for_is_made_then(self):
         run = COUNTING_MODEL.open(fresh=True)
@@ -318,6 +320,7 @@ class Sweeps(unittest.TestCase):
         kept, fresh = (jv.sweep(items, make, fresh=fresh, **asked) for fresh in (False, True))
         for one, other in zip(kept, fresh):
             self.assertEqual((one.as_dict(), one.state, one.events), (other.as_dict(), other.state, other.events))
+            self.assertEqual(one.store, other.store)
         self.assertEqual(len(kept), len(fresh))
         return fresh
 
@@ -367,7 +370,7 @@ class Sweeps(unittest.TestCase):
 
     def test_it_can_be_stopped(self):
         runs = packer.Runs([IMAGE], array("I", [0] * 3), array("I", [*COUNTING_MODEL.start] * 3), b"", 5)
-        self.assertEqual(run_all_afresh(runs, ctypes.c_uint8(1)), [array("I"), array("I")])
+        self.assertEqual(run_all_afresh(runs, ctypes.c_uint8(1)), [array("I"), array("I"), array("H")])
         self.assertEqual(run_all_afresh(runs, ctypes.c_uint8(0)), packer.run_all(runs))
 
     def test_processes(self):
@@ -391,7 +394,7 @@ class Told(unittest.TestCase):
 
     def test_nothing_is_kept_for_what_is_told(self):
         run = COUNTING_MODEL.open(fresh=True)
-        with unittest.mock.patch.object(calls, "trace_steps", side_effect=AssertionError("a table was asked for")):
+        with unittest.mock.patch.object(calls, "run_lent", side_effect=AssertionError("a table was asked for")):
             self.assertEqual(jv.explain(run), WHOLE)
             self.assertEqual(jv.explain(COUNTING_MODEL, fresh=True), WHOLE)
             self.assertEqual(jv.explain(COUNTING_MODEL.open(), fresh=True), WHOLE)

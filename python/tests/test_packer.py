@@ -153,9 +153,9 @@ class Runs(unittest.TestCase):
             run.run(steps)
             states.extend(run.words)
         images = [b"\x01\x10" + bytes(6), image]
-        rows, events = packer.run_all(packer.Runs(images, array("I", [1] * 5), states, bytes([1] * 514), 100))
+        rows, events, stores = packer.run_all(packer.Runs(images, array("I", [1] * 5), states, bytes([1] * 514), 100))
         run = Model(image).open()
-        told = list(calls.trace_steps(image, *run._kept, 100).events)
+        told = list(calls.trace_steps(image, *run._kept[:2], 100).events)
         run.run()
         at = 0
         for row in range(5):
@@ -163,7 +163,7 @@ class Runs(unittest.TestCase):
             self.assertEqual((number, made, kept, tuple(words)), (9, 7 - row, 7 - row, run.words))
             self.assertEqual(list(events[at : at + 3 * kept]), told[3 * row :])
             at += 3 * kept
-        self.assertEqual(at, len(events))
+        self.assertEqual((at, stores), (len(events), array("H")))
 
     def test_what_cannot_be_run(self):
         image, one = COUNTING.read_bytes(), array("I", [0])
@@ -171,13 +171,14 @@ class Runs(unittest.TestCase):
         cases = [packer.Runs([b"no image"], one, none, b"", 1), packer.Runs([image], array("I", [1]), none, b"", 1)]
         cases += [packer.Runs([image], one, array("I", [0] * 80), b"", 1), packer.Runs([image], one, none, b"ab", 1)]
         cases += [packer.Runs([image], one, array("I", [0] * 80 + [65_536]), b"", 1), packer.Runs([], one, none, b"", 1)]
+        cases += [packer.Runs([image], one, none, b"", 1, array("H", words)) for words in ([257], [1, 2, 3], [0, 0])]
         for runs in cases:
             with self.assertRaises(NotPacked):
                 packer.run_all(runs)
-        self.assertEqual(packer.run_all(packer.Runs([image], none, none, b"", 1)), [none, none])
+        self.assertEqual(packer.run_all(packer.Runs([image], none, none, b"", 1)), [none, none, array("H")])
 
     def test_a_state_that_is_not_well_formed_is_told_by_its_number(self):
-        rows, _ = packer.run_all(packer.Runs([COUNTING.read_bytes()], array("I", [0]), array("I", [0, 9] + [0] * 79), b"", 5))
+        rows, *_ = packer.run_all(packer.Runs([COUNTING.read_bytes()], array("I", [0]), array("I", [0, 9] + [0] * 79), b"", 5))
         self.assertEqual(rows[:2], array("I", [6, 0]))
 
 

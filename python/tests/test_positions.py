@@ -120,6 +120,9 @@ class EveryCall(unittest.TestCase):
         self.assertEqual(calls.refresh_table(image, state, self.MARK, table), (number, 0, table, position))
         self.assertEqual(calls.run_fresh(image, state, 9), (number, 0, state, position))
         self.assertEqual(calls.trace_fresh(image, state, 9), (number, 0, state, none, position))
+        for store in None, array("H", [7] * 5):
+            self.assertEqual(calls.run_lent(image, state, table, 9, store), (number, 0, state, table, none, store, position))
+            self.assertEqual(calls.run_fresh_lent(image, state, 9, store), (number, 0, state, none, store, position))
 
     def test_bad_images_of_each_kind(self):
         for what, image, number, position in BAD:
@@ -142,9 +145,11 @@ class EveryCall(unittest.TestCase):
             calls.trace_fresh(IMAGE, state, 9),
             calls.refresh_table(IMAGE, state, 4, table),
             calls.trace_steps(IMAGE, state, table, 0),
+            calls.run_fresh_lent(IMAGE, state, 9, [256, *[1, 7, 7, *[0] * 6] * 256]),
+            calls.run_lent(IMAGE, state, table, 9, [257, *[0] * 2_304]),
         ]
-        self.assertEqual([answer.number for answer in answers], [5, 6, 7, 8, 9, 10, 0])
-        self.assertEqual([answer.position for answer in answers], [0] * 7)
+        self.assertEqual([answer.number for answer in answers], [5, 6, 7, 8, 9, 10, 0, 14, 15])
+        self.assertEqual([answer.position for answer in answers], [0] * 9)
 
     def test_a_field_far_into_a_long_image(self):
         facts = [((1, *range(8)), 0, 0)] * 512
@@ -247,8 +252,9 @@ class Errors(unittest.TestCase):
             self.assertEqual(str(refused), f"refused by {number}: {jv.MEANINGS[number]}")
 
     def test_each_number_has_words_of_its_own(self):
-        self.assertEqual((len(jv.MEANINGS), len(set(jv.MEANINGS))), (14, 14))
-        for number, words in {3: "version, count, type or action kind", 11: "mask", 12: "variable", 13: "buffer"}.items():
+        self.assertEqual((len(jv.MEANINGS), len(set(jv.MEANINGS))), (16, 16))
+        meant = {3: "version, count, type or action kind", 11: "mask", 12: "variable", 13: "buffer"}
+        for number, words in {**meant, 14: "more than 256 facts", 15: "a fact that the image could not hold"}.items():
             self.assertIn(words, jv.MEANINGS[number])
 
     def test_copies_and_pickles(self):

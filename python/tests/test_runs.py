@@ -40,7 +40,7 @@ class Published(unittest.TestCase):
 class Runs(unittest.TestCase):
     """The counting model, by its names; test_fresh.py makes the same runs without a table."""
 
-    FRESH, TRACE = False, "trace_steps"
+    FRESH, TRACE = False, "run_lent"
 
     def opened(self, model):
         """A run of the kind that is tested here."""
@@ -160,9 +160,10 @@ class Runs(unittest.TestCase):
     def test_a_run_in_pieces_is_the_run(self):
         for steps in 0, 1, 63, 64, 65, 319, 320, 321, 10_000, 65_535:
             run = self.opened(Model(FOREVER))
-            number, made, *kept, events, _ = getattr(calls, self.TRACE)(FOREVER, *run._kept, steps)
+            *kept, store = run._kept
+            number, made, *kept, events, store, _ = getattr(calls, self.TRACE)(FOREVER, *kept, steps, store)
             ended = run.run(steps)
-            self.assertEqual((ended.number, ended.made, *run._kept), (number, made, *kept))
+            self.assertEqual((ended.number, ended.made, *run._kept), (number, made, *kept, store))
             self.assertEqual((number, made), (0, steps))
             self.assertEqual([event.clock for event in ended.events], list(events[::3]))
 
@@ -180,9 +181,10 @@ class Runs(unittest.TestCase):
     def test_a_run_lays_out_no_more_than_it_needs(self):
         asked, call = [], getattr(calls, self.TRACE)
 
-        def trace(*given):
-            asked.append(given[-1])
-            return call(*given)
+        def trace(*given, **named):
+            *_, steps, _ = given
+            asked.append(steps)
+            return call(*given, **named)
 
         with unittest.mock.patch.object(calls, self.TRACE, trace):
             self.run_.run()

@@ -163,7 +163,7 @@ class Failures(unittest.TestCase):
             future = threads.submit(packer.run_all, runs, flag)
             time.sleep(0.5)
             flag.value = 1
-            words, _ = future.result(timeout=60)
+            words, *_ = future.result(timeout=60)
         self.assertTrue(0 < len(words) < 84 * 100_000)
         self.assertEqual(words[:4], array("I", [0, 65_535, 0, 50 * 65_535]))
 

@@ -13,7 +13,7 @@ from jirvuntsag.__main__ import main
 from jirvuntsag.recording import record
 from jirvuntsag.drawing.svg import CHARACTER, columns
 
-from . import COUNT_FROM, COUNT_FROM_NAMES, COUNTING, COUNTING_NAMES, ROOT
+from . import COUNT_FROM, COUNT_FROM_NAMES, COUNTING, COUNTING_NAMES, PUPIL, PUPIL_NAMES, ROOT
 from .packing import Rule, pack
 
 PICTURES = ROOT / "docs" / "pictures"
@@ -161,12 +161,13 @@ class Command(unittest.TestCase):
 
     def test_the_stored_pictures(self):
         cases = [(COUNTING, COUNTING_NAMES, "counting.svg"), (COUNT_FROM, COUNT_FROM_NAMES, "count-chr.svg")]
+        cases += [(PUPIL, PUPIL_NAMES, "pupil.svg")]
         for image, names, picture in cases:
             self.assertEqual(self.status(image, "--names", names, "-o", self.folder / picture), 0)
             self.assertEqual((self.folder / picture).read_bytes(), (PICTURES / picture).read_bytes())
             self.assertEqual(self.status(image, "--names", names), 0)
             self.assertEqual(self.written.buffer.getvalue(), (PICTURES / picture).read_bytes())
-        self.assertEqual(len(list(self.folder.iterdir())), 2)
+        self.assertEqual(len(list(self.folder.iterdir())), 3)
 
     def test_a_text_is_drawn_like_its_image(self):
         self.assertEqual(self.status(COUNTING.with_suffix(".model"), "-o", self.folder / "text.svg"), 0)

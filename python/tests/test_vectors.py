@@ -1,4 +1,4 @@
-"""Every case of vectors/04.txt, through Python."""
+"""Every case of vectors/05.txt, through Python."""
 import collections
 import unittest
 
@@ -13,7 +13,7 @@ OF_IMAGES = (1, 2, 3, 4, 11, 12, 13)
 
 def cases():
     """All cases: the line of the call, and that of its answer."""
-    lines = (ROOT / "vectors" / "04.txt").read_text(encoding="ascii").splitlines()
+    lines = (ROOT / "vectors" / "05.txt").read_text(encoding="ascii").splitlines()
     return list(zip(lines[::2], lines[1::2]))
 
 
@@ -32,6 +32,13 @@ def read_state(text):
     return [int(word) for word in text.replace("/", ",").split(",")]
 
 
+def read_store(text):
+    """`PLACES/COUNT/F0/F1/..` as the count and nine words for each place; those that are not listed are nine zeros."""
+    places, *words = text.split("/")
+    words = [int(word) for part in words for word in part.split(",")]
+    return words + [0] * (1 + 9 * int(places) - len(words))
+
+
 def show_words(words):
     """Words as they are written in a case."""
     return ",".join(map(str, words)) or "-"
@@ -41,6 +48,13 @@ def show_state(words):
     """A state as it is written in a case."""
     buffers = [show_words(words[at : at + 10]) for at in range(1, 81, 10)]
     return "/".join([str(words[0]), *buffers])
+
+
+def show_store(words):
+    """A store as it is written in a case: the last places are not listed if they are nine zeros."""
+    places = [words[at : at + 9] for at in range(1, len(words), 9)]
+    listed = max((at for at, place in enumerate(places, 1) if any(place)), default=0)
+    return "/".join([str(len(places)), str(words[0]), *map(show_words, places[:listed])])
 
 
 def show_head(answer):
@@ -56,24 +70,23 @@ def answer_open(image, table):
 
 def same_run(ran, traced):
     """A run gives back the same with events and without, and there is one for each step made."""
-    *others, events, position = traced
-    return (*others, position) == ran and len(events) == calls.EVENT_WORDS * ran.made
+    return traced._replace(events=ran.events) == ran and len(traced.events) == calls.EVENT_WORDS * ran.made
 
 
-def answer_run(image, state, table, steps):
+def answer_run(image, state, table, steps, store):
     """The answer to `run`, which is the same with events and without."""
-    arguments = read_bytes(image), read_state(state), read_words(table), int(steps)
-    ran = calls.run_steps(*arguments)
-    assert same_run(ran, calls.trace_steps(*arguments))
-    return f"{show_head(ran)} {show_state(ran.state)} {show_words(ran.table)} {ran.made}"
+    arguments = read_bytes(image), read_state(state), read_words(table), int(steps), read_store(store)
+    ran = calls.run_lent(*arguments, events=False)
+    assert same_run(ran, calls.run_lent(*arguments))
+    return f"{show_head(ran)} {show_state(ran.state)} {show_words(ran.table)} {ran.made} {show_store(ran.store)}"
 
 
-def answer_fresh(image, state, steps):
+def answer_fresh(image, state, steps, store):
     """The answer to `fresh`, the run without a table, which is the same with events and without."""
-    arguments = read_bytes(image), read_state(state), int(steps)
-    ran = calls.run_fresh(*arguments)
-    assert same_run(ran, calls.trace_fresh(*arguments))
-    return f"{show_head(ran)} {show_state(ran.state)} {ran.made}"
+    arguments = read_bytes(image), read_state(state), int(steps), read_store(store)
+    ran = calls.run_fresh_lent(*arguments, events=False)
+    assert same_run(ran, calls.run_fresh_lent(*arguments))
+    return f"{show_head(ran)} {show_state(ran.state)} {ran.made} {show_store(ran.store)}"
 
 
 def answer_refresh(image, state, mark, table):

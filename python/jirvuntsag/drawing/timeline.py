@@ -30,6 +30,8 @@ STYLE = (
 def timeline(run, steps=1000, title="A run", width=WIDEST):
     """The SVG of a run's next steps, at most so many; `width` is the most pixels of its lanes. The run itself is not moved.
 
+    A run of `Model.open` is drawn as it is printed: it is lent an empty store, and learns. Other runs go by their own stores.
+
     >>> from jirvuntsag import Model
     >>> timeline(Model.load("examples/counting.image").open()).count('class="fire"') - 1
     4
