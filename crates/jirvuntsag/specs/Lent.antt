@@ -10,10 +10,10 @@ use Rattle.meaning.specs.Read.{Got}
 use Rattle.meaning.specs.Image.{decode}
 use Rattle.meaning.specs.Run.{Timed}
 use Rattle.meaning.specs.Store.{lentBy}
-use Rattle.meaning.specs.Calls.{accepted, Ran, WithStore, traceLent, runLent}
-use Rattle.meaning.specs.Fresh.{FreshRan, freshTraceLent, freshLent}
+use Rattle.meaning.specs.Calls.{accepted, WithStore, traceLent, runLent}
+use Rattle.meaning.specs.Fresh.{freshTraceLent, freshLent}
 use Rattle.step_note.specs.Events.{inscribed}
-use Rattle.jirvuntsag.specs.Words.{stateOf, wordsOf, fits}
+use Rattle.jirvuntsag.specs.Words.{stateOf, fits}
 use Rattle.jirvuntsag.specs.Told.{answer, unfitAnswer, Told, told, toldRun}
 use Rattle.jirvuntsag.specs.Back.{unfit}
 use Rattle.jirvuntsag.specs.Fresh.{FreshTold, freshTold, toldFresh}
@@ -61,6 +61,15 @@ pub fresh-lent-once : (image state : List ℕ) (steps lent : ℕ) (store : List 
 fresh-lent-once image state steps lent store a a′ w w′ s s′ p q =
     let same : toldWith (freshTold a w) s ≡ toldWith (freshTold a′ w′) s′ = p ∙ sym q in
     (ap (λ (o : WithStore FreshTold). o .answer .answered) same, ap (λ (o : WithStore FreshTold). o .answer .words) same, ap (λ (o : WithStore FreshTold). o .store) same)
+
+-- and what they note, every word of it
+pub lent-events-once : (image state table : List ℕ) (steps lent : ℕ) (store events noted noted′ : List ℕ) → noted ≡ inscribed events 0 (lentEventsIn image state table steps lent store)
+    → noted′ ≡ inscribed events 0 (lentEventsIn image state table steps lent store) → noted ≡ noted′
+lent-events-once image state table steps lent store events noted noted′ p q = p ∙ sym q
+
+pub fresh-lent-events-once : (image state : List ℕ) (steps lent : ℕ) (store events noted noted′ : List ℕ) → noted ≡ inscribed events 0 (freshLentEventsIn image state steps lent store)
+    → noted′ ≡ inscribed events 0 (freshLentEventsIn image state steps lent store) → noted ≡ noted′
+fresh-lent-events-once image state steps lent store events noted noted′ p q = p ∙ sym q
 
 -- ---- where the image is accepted, a word over 65,535 after the clock makes the calls answer 6, count 0 and position 0, with all words as they were handed in, and no event
 

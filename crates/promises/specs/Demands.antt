@@ -190,7 +190,7 @@ say-where image =
     }
 
 -- ---- request 2026-05, "a cleared chunk is remembered": the calls where a word says what is lent of the words beside them (what is found of a store says
--- `Remembering.cleared-recalled`, what a step learns `joins-exactly`)
+-- `Remembering.cleared-recalled`, what a step learns `stores-exactly`, which words are a store `fits-exactly`)
 
 pub record Remembers (image : List ℕ) (s : State) (asked lent : ℕ) (words : List ℕ) : Type 0 where
   -- what is not lent is neither read nor written: the calls with nothing lent, of which all above is said
@@ -215,6 +215,11 @@ pub record Remembers (image : List ℕ) (s : State) (asked lent : ℕ) (words : 
   pub fresh-follows : (m : Model) (end : ℕ) → decode image ≡ Got m end → wellFormed m s ≡ true → storeFits (m .types) (lentBy lent words) ≡ true
       → let r : Run Moving = freshTraceLent image s asked (lentBy lent words) in let a : FreshRan = freshLent image s asked lent words .answer in
       Follows m (moving s (storeOf (lentBy lent words))) asked (r .events) (moving (a .state) (r .left .store)) (a .made) (a .number)
+  -- and the store that these transitions end in is what the words read as that are left
+  pub reads-back : Machine s → (table : List ℕ) (m : Model) → Taken image table m → wellFormed m s ≡ true → storeFits (m .types) (lentBy lent words) ≡ true
+      → storeOf (lentBy lent (runLent image s table asked lent words .store)) ≡ traceLent image s table asked (lentBy lent words) .left .store
+  pub fresh-reads-back : Machine s → (m : Model) (end : ℕ) → decode image ≡ Got m end → wellFormed m s ≡ true → storeFits (m .types) (lentBy lent words) ≡ true
+      → storeOf (lentBy lent (freshLent image s asked lent words .store)) ≡ freshTraceLent image s asked (lentBy lent words) .left .store
   -- demand 3: the table left is the fresh one (and over a chain of calls: `Demand-3.keeps`)
   pub keeps : (m : Model) (end : ℕ) → decode image ≡ Got m end → wellFormed m s ≡ true → storeFits (m .types) (lentBy lent words) ≡ true
       → let a : Ran = runLent image s (freshTable (m .rules) s) asked lent words .answer in a .table ≡ freshTable (m .rules) (a .state)
@@ -251,6 +256,8 @@ remembers image s asked lent words =
             ended = ran .ended;
           };
       fresh-follows = fresh.fresh-lent-published image s asked lent words;
+      reads-back = λ machine table m taken well fits. remembering.reads-back image s asked lent words machine m well fits table taken;
+      fresh-reads-back = λ machine m end accepted well fits. remembering.fresh-reads-back image s asked lent words machine m well fits end accepted;
       keeps = λ m end accepted well fits. semantics.fresh-lent image m end accepted s asked lent words fits well .fresh;
       as-kept = fresh.lent-answers image s asked lent words;
       as-held = fresh.reached-lent-answers image s asked lent words;

@@ -18,6 +18,8 @@ pub mod Retrieving
 pub mod Effects
 pub mod Transitions
 pub mod Filled
+pub mod Joining
+pub mod Storing
 pub mod Outcomes
 pub mod Stopping
 pub mod Reading
@@ -28,6 +30,7 @@ pub mod Machines
 pub mod Afresh
 pub mod Locations
 pub mod Lending
-pub mod Joining
 pub mod Stored
+pub mod Fitting
+pub mod ReadBack
 pub mod Remembered

@@ -1,9 +1,11 @@
 -- The published semantics as relations, close to its own text (D. Gall, T. Frühwirth, A Refined Operational Semantics for ACT-R), with the points
--- that document 01 and change request 2026-01 decide. No step, match or choice is computed here; that steps of `meaning` are these transitions says Semantics.
+-- that document 01 and change requests 2026-01 and 2026-05 decide. No step, match or choice is computed here, nor what joins a store; that steps of `meaning` are these
+-- transitions says Semantics, and that its stores are these Remembering.
 use mathlib.Core.Path.{_≡_}
 use mathlib.Core.Bool.{true, false}
-use mathlib.Core.List.{List, [], _∷_, List·Memᴰ}
-use mathlib.Core.Option.{Option}
+use mathlib.Core.Logic.{_↔_}
+use mathlib.Core.List.{List, [], _∷_, _++_, List·Memᴰ}
+use mathlib.Core.Option.{Option, none, some}
 use Prim.Native.Nat.{ℕ, _+_, _-_, _≤_, _<_}
 use lib.ListN.{length, getD, replicate}
 use lib.Signed.{ltZ}
@@ -16,10 +18,10 @@ use Rattle.meaning.specs.Step.{Event, Fired, Waited, largest}
 use Rattle.meaning.specs.Match.{freshTable}
 use Rattle.meaning.specs.Choice.{Candidate}
 use Rattle.meaning.specs.Run.{Timed}
-use Rattle.meaning.specs.Learning.{knowing, storeAfter, overfull}
+use Rattle.meaning.specs.Learning.{knowing}
 use Rattle.meaning.specs.Calls.{Ran}
 use Rattle.meaning.specs.Fresh.{Moving, moving}
-use Rattle.promises.specs.Words.{At, entryAt}
+use Rattle.promises.specs.Words.{At, entryAt, ClearedBy, Stands}
 
 -- ---- matching (definition 11)
 
@@ -155,18 +157,37 @@ pub data Transition (m : Model) (s : State) : Event → State → Type 0 where
 abbrev pub Final : Model → State → Type 0
 Final m s = (e : Event) (s′ : State) → Transition m s e s′ → ⊥
 
--- ---- one after the other, from what goes from step to step: a state, and the store if one is lent
+-- ---- the store, if one is lent (request 2026-05)
 
--- after a transition that did e
-abbrev pub onward : Model → Moving → Event → State → Moving
-onward m g e s′ = moving s′ (storeAfter m (g .state) e (g .store))
+-- what joins a store `cs` where rule k fires in state s: "When a clear action empties a visible buffer holding another chunk than nil, that chunk joins the store .., unless a
+-- fact with the same type and slots stands in the image or the store", and nothing else does; "equal chunks are stored once"; "by rising buffer number"
+pub record Joins (m : Model) (s : State) (k : ℕ) (cs new : List Chunk) : Type 0 where
+  pub exactly : (c : Chunk) → ((j : ℕ) × At c j new) ↔ (ClearedBy (m .rules) s k c × (Stands (knowing m (some cs) .facts) c → ⊥))
+  pub once : (i j : ℕ) (c : Chunk) → At c i new → At c j new → i ≡ j
+  -- what joins first is cleared from a buffer before every one that the next is cleared from
+  pub rising : (i j : ℕ) (c d : Chunk) → At c i new → At d j new → i < j → (o : ClearedBy (m .rules) s k c) × ((p : ClearedBy (m .rules) s k d) → o .buffer < p .buffer)
+
+-- the store before a transition from state s that did e, and after it
+pub data Stores (m : Model) (s : State) : Event → Option (List Chunk) → Option (List Chunk) → Type 0 where
+  -- where none is lent there is none
+  none-lent : {e : Event} → Stores m s e none none
+  -- No Rule leaves it as it was
+  waited : {ms : ℕ} {cs : List Chunk} → Stores m s (Waited ms) (some cs) (some cs)
+  -- Apply puts what joins after it, "in the order learned"
+  joined : {k : ℕ} {cs new : List Chunk} → Joins m s k cs new → Stores m s (Fired k) (some cs) (some (cs ++ new))
+
+-- "places for 256 learned facts"
+abbrev pub HasRoom : Option (List Chunk) → Type 0
+HasRoom store = (cs : List Chunk) → store ≡ some cs → length cs ≤ 256
+
+-- ---- one after the other, from what goes from step to step: a state, and the store if one is lent
 
 -- transitions, one after the other, none past the last clock and none that would leave more than 256 facts in a store: with what each did, and the clock after it.
 -- The memory of each is "image facts, then store facts numbered after them", and where nothing is lent the image's alone
 pub data Transitions (m : Model) : List Timed → Moving → Moving → Type 0 where
   no-step : {g : Moving} → Transitions m [] g g
-  one-step : {e : Event} {es : List Timed} {g g″ : Moving} {s′ : State} → Transition (knowing m (g .store)) (g .state) e s′ → s′ .clock ≤ largest
-      → overfull (onward m g e s′ .store) ≡ false → Transitions m es (onward m g e s′) g″ → Transitions m (record { clock = s′ .clock; event = e } ∷ es) g g″
+  one-step : {e : Event} {es : List Timed} {g g″ : Moving} {s′ : State} {store′ : Option (List Chunk)} → Transition (knowing m (g .store)) (g .state) e s′ → s′ .clock ≤ largest
+      → Stores m (g .state) e (g .store) store′ → HasRoom store′ → Transitions m es (moving s′ store′) g″ → Transitions m (record { clock = s′ .clock; event = e } ∷ es) g g″
 
 -- a transition is possible, and would pass the last clock
 pub record Passes (m : Model) (s : State) : Type 0 where
@@ -181,7 +202,9 @@ pub record Crowds (m : Model) (g : Moving) : Type 0 where
   pub state : State
   pub transition : Transition (knowing m (g .store)) (g .state) event state
   pub in-time : state .clock ≤ largest
-  pub too-many : overfull (onward m g event state .store) ≡ true
+  pub after : List Chunk
+  pub stores : Stores m (g .state) event (g .store) (some after)
+  pub too-many : 256 < length after
 
 -- why a run of so many steps asked, which made so many, ended with its number (by 14 only where a store is lent)
 pub data Ended (m : Model) (asked made : ℕ) (g : Moving) : ℕ → Type 0 where

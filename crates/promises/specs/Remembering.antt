@@ -1,12 +1,12 @@
 -- Request 2026-05: "a cleared chunk is remembered". What a step learns, what a run and a call leave of a lent store, and what is found of it. (The numbers 14 and 15 among
 -- all others are in Numbers and Fresh, demand 2 with a store in Semantics and Fresh, demand 3 in Keeping: a chain of calls may lend any words to any run.)
 use mathlib.Core.Path.{_≡_, refl, sym, ap, subst, _∙_}
-use mathlib.Core.Logic.{_↔_, ⊎-elim}
+use mathlib.Core.Logic.{_↔_, _⊎_}
 use mathlib.Core.Bool.{Bool, true, false}
-use mathlib.Core.List.{List, _++_, append-nil}
+use mathlib.Core.List.{List, _++_, map, append-nil}
 use mathlib.Core.Option.{Option, none, some}
-use Prim.Native.Nat.{ℕ, _≤_, _<_}
-use lib.ListN.{length, getD}
+use Prim.Native.Nat.{ℕ, _≤_}
+use lib.ListN.{length}
 use Rattle.meaning.specs.declared.State.{State}
 use Rattle.meaning.specs.Base.{if_then_else_, bit}
 use Rattle.meaning.specs.Numbers.{store-full}
@@ -16,50 +16,43 @@ use Rattle.meaning.specs.Read.{Got}
 use Rattle.meaning.specs.Image.{decode}
 use Rattle.meaning.specs.Retrieval.{retrieve}
 use Rattle.meaning.specs.Fire.{deedOn}
-use Rattle.meaning.specs.Step.{Event, Fired, Waited, Stopped, Made, stepOf}
+use Rattle.meaning.specs.Step.{Event, Fired, Stopped, Made, stepOf}
 use Rattle.meaning.specs.Learning.{learned, knowing, adds, storeAfter, stepWith}
-use Rattle.meaning.specs.Store.{storeFits, storeLeft}
+use Rattle.meaning.specs.Store.{lentBy, storeFits, storeOf, storeLeft}
 use Rattle.meaning.specs.Run.{Going, runFrom}
 use Rattle.meaning.specs.Calls.{traceLent, runLent, runOf}
 use Rattle.meaning.specs.Fresh.{Moving, freshFrom, freshTraceLent, freshLent, freshOf}
-use Rattle.promises.specs.Words.{At, Machine, ClearedBy, Growth, Overfull, Stands, Before, OnlyGrows, Grows}
-use Rattle.promises.specs.Published.{valuesIn, Fits}
+use Rattle.promises.specs.Words.{At, Machine, ClearedBy, IsStore, Growth, Overfull, Stands, Before, OnlyGrows, Grows}
+use Rattle.promises.specs.Published.{valuesIn, Fits, Retrieved, Stores}
 use Rattle.promises.specs.Sentences.{Taken}
 use Rattle.promises.specs.Proofs.Selection.{at-same}
 use Rattle.promises.specs.Proofs.Knowing.{none-known}
+use Rattle.promises.specs.Proofs.Outcomes.{freshly}
+use Rattle.promises.specs.Proofs.Afresh.{run-as-kept}
 use Rattle.promises.specs.Proofs.Lending.{along, along-fresh, none-kept, none-freed}
 use Rattle.promises.specs.Proofs.Joining as joining
+use Rattle.promises.specs.Proofs.Storing as storing
+use Rattle.promises.specs.Proofs.Fitting as fitting
+use Rattle.promises.specs.Proofs.ReadBack as back
 use Rattle.promises.specs.Proofs.Remembered as remembered
 
 -- ---- a step
+
+-- The memory that a step reads: "image facts, then store facts numbered after them", each "with activation 0 and latency 50 ms"; rules and failure latency are the image's.
+pub memory-exactly : (m : Model) (cs : List Chunk) → let known : Model = knowing m (some cs) in
+    (known .facts ≡ m .facts ++ map (λ (c : Chunk). record { chunk = c; activation = 0; latency = 50 }) cs) × (known .rules ≡ m .rules) × (known .failure ≡ m .failure)
+memory-exactly m cs = (refl, refl, refl)
+
+-- What a step makes of the store is what `Published.Stores` says, and nothing else: a wait leaves it, and in a firing exactly what the rule clears from a visible buffer, other
+-- than nil and not known, joins after it, each once and by rising buffer number (`Published.Joins`). "Pending chunks and requests store nothing."
+pub stores-exactly : (m : Model) (s : State) (e : Event) (store store′ : Option (List Chunk)) → (storeAfter m s e store ≡ store′) ↔ Stores m s e store store′
+stores-exactly m s e store store′ = (λ q. subst (Stores m s e store) q (storing.stores-after m s e store), λ h. storing.stores-once h)
 
 module _ (m : Model) (cs : List Chunk) (s : State) where
   abbrev memory : Model
   memory = knowing m (some cs)
 
-  -- "When a clear action empties a visible buffer holding another chunk than nil, that chunk joins the store .., unless a fact with the same type and slots stands in the
-  -- image or the store. Pending chunks and requests store nothing.": what joins in a firing is exactly that,
-  pub joins-exactly : (k : ℕ) (c : Chunk) → ((j : ℕ) × At c j (adds memory s (Fired k))) ↔ (ClearedBy (m .rules) s k c × (Stands (memory .facts) c → ⊥))
-  joins-exactly k c = (
-    λ h. (joining.adds-from memory s k (h .0) c (h .1), joining.adds-new memory s (Fired k) (h .0) c (h .1)),
-    λ h.
-        ⊎-elim (λ (g : Stands (memory .facts) c). absurd (h .1 g)) (λ (i : (j : ℕ) × At c j (adds memory s (Fired k))). i) (joining.adds-in memory s k c (h .0)),
-  )
-
-  -- "so equal chunks are stored once".
-  pub joins-once : (k i j : ℕ) (c : Chunk) → At c i (adds memory s (Fired k)) → At c j (adds memory s (Fired k)) → i ≡ j
-  joins-once k i j c a b = joining.adds-once memory s (Fired k) i j c a b
-
-  -- "Several clears in a step go by rising buffer number": what joins first is cleared from a buffer before every one that the next is cleared from.
-  pub joins-rising : (k i j : ℕ) (c d : Chunk) → At c i (adds memory s (Fired k)) → At d j (adds memory s (Fired k)) → i < j
-      → (o : ClearedBy (m .rules) s k c) × ((p : ClearedBy (m .rules) s k d) → o .buffer < p .buffer)
-  joins-rising k i j c d a b l = joining.adds-rising memory s k i j c d a b l
-
-  -- A wait leaves the store as it was,
-  pub wait-leaves : (ms : ℕ) → storeAfter m s (Waited ms) (some cs) ≡ some cs
-  wait-leaves ms = ap some (append-nil cs)
-
-  -- and so does a rule that clears nothing but what is known,
+  -- So a rule that clears nothing but what is known leaves the store as it was,
   pub known-leaves : (k : ℕ) → ((c : Chunk) → ClearedBy (m .rules) s k c → Stands (memory .facts) c) → storeAfter m s (Fired k) (some cs) ≡ some cs
   known-leaves k h = ap (λ (new : List Chunk). some (cs ++ new)) (joining.adds-nothing memory s k h) ∙ ap some (append-nil cs)
 
@@ -99,27 +92,45 @@ fresh-grows m n g cs is few =
 
 -- ---- "what is retrieved after a clear is the chunk that was cleared if nothing fits better"
 
--- a request, in a memory: where the chunk stands; something is found; and if all that is found before it is the same chunk, so is what is found
+-- a request, in a memory: the fact that is found has the chunk, or it is found before every fact that has it, of higher activation, or of the same and with a lower number
 pub record Recalls (memory : List Fact) (c : Chunk) (isa : ℕ) (ns : List Named) (entry : List ℕ) : Type 0 where
-  pub own : Stands memory c
-  pub some-found : retrieve memory isa ns entry ≡ none → ⊥
-  pub unless-better : ((j : ℕ) (f : Fact) → At f j memory × Fits (valuesIn entry) isa ns f × Before f j (own .fact) (own .place) → f .chunk ≡ c)
-      → (f : Fact) × (retrieve memory isa ns entry ≡ some f) × (f .chunk ≡ c)
+  pub place : ℕ
+  pub fact : Fact
+  pub found : retrieve memory isa ns entry ≡ some fact
+  pub fitting : Retrieved memory (valuesIn entry) isa ns place fact
+  pub own-or-better : (fact .chunk ≡ c) ⊎ ((own : Stands memory c) → Before fact place (own .fact) (own .place))
 
--- For every chunk c that rule k clears, fired in state s, and every run that goes on with the store after that step, however long: a request that c fits finds in the memory
--- then what `Recalls` says.
-pub cleared-recalled : (m : Model) (cs : List Chunk) (s : State) (k : ℕ) (c : Chunk) → ClearedBy (m .rules) s k c → (n : ℕ) (g : Going) → g .store ≡ storeAfter m s (Fired k) (some cs)
-    → (isa : ℕ) (ns : List Named) (entry : List ℕ) → Fits (valuesIn entry) isa ns (learned c) → Recalls (knowing m (runFrom m n g .left .store) .facts) c isa ns entry
-cleared-recalled m cs s k c clear n g after isa ns entry fits =
-    let later : List Fact = knowing m (runFrom m n g .left .store) .facts in
-    let own : Stands later c =
-    remembered.stands-on m c n g (subst (λ (store : Option (List Chunk)). Stands (knowing m store .facts) c) (sym after) (remembered.cleared-stands m cs s k c clear)) in
-    let fit : Fits (valuesIn entry) isa ns (own .fact) =
-    record {
-      typed = ap (λ (x : Chunk). x .isa) (own .is) ∙ fits .typed;
-      valued = λ x h. ap (λ (y : Chunk). getD (y .slots) (x .slot) 0) (own .is) ∙ fits .valued x h;
-    } in
-    record { own = own; some-found = remembered.found-some later c own isa ns entry fit; unless-better = remembered.recalled later c own isa ns entry fit }
+-- Rule k, fired in state s with a store, clears chunk c; and then any run goes on with the store after that step, however long.
+module _ (m : Model) (cs : List Chunk) (s : State) (k : ℕ) (c : Chunk) (clears : ClearedBy (m .rules) s k c) (n : ℕ) where
+  -- A request that c fits finds in the memory then what `Recalls` says,
+  pub cleared-recalled : (g : Going) → g .store ≡ storeAfter m s (Fired k) (some cs) → (isa : ℕ) (ns : List Named) (entry : List ℕ) → Fits (valuesIn entry) isa ns (learned c)
+      → Recalls (knowing m (runFrom m n g .left .store) .facts) c isa ns entry
+  cleared-recalled g after isa ns entry fits =
+      let later : List Fact = knowing m (runFrom m n g .left .store) .facts in
+      let own : Stands later c =
+      remembered.stands-on m c n g (subst (λ (store : Option (List Chunk)). Stands (knowing m store .facts) c) (sym after) (remembered.cleared-stands m cs s k c clears)) in
+      let r = remembered.recalled later c own isa ns entry fits in
+      record { place = r .0; fact = r .1; found = r .2; fitting = r .3; own-or-better = r .4 }
+
+  pub fresh-cleared-recalled : (g : Moving) → g .store ≡ storeAfter m s (Fired k) (some cs) → (isa : ℕ) (ns : List Named) (entry : List ℕ) → Fits (valuesIn entry) isa ns (learned c)
+      → Recalls (knowing m (freshFrom m n g .left .store) .facts) c isa ns entry
+  fresh-cleared-recalled g after isa ns entry fits = rw (run-as-kept m n g .same-store) (cleared-recalled (freshly m g) after isa ns entry fits)
+
+  -- and if c was not known it stands there "with activation 0 and latency 50 ms", after the image's facts.
+  module _ (unknown : Stands (knowing m (some cs) .facts) c → ⊥) where
+    pub cleared-learned : (g : Going) → g .store ≡ storeAfter m s (Fired k) (some cs)
+        → (j : ℕ) × (length (m .facts) ≤ j) × At (record { chunk = c; activation = 0; latency = 50 }) j (knowing m (runFrom m n g .left .store) .facts)
+    cleared-learned g after = remembered.learned-on m cs s k c clears unknown n g after
+
+    pub fresh-cleared-learned : (g : Moving) → g .store ≡ storeAfter m s (Fired k) (some cs)
+        → (j : ℕ) × (length (m .facts) ≤ j) × At (record { chunk = c; activation = 0; latency = 50 }) j (knowing m (freshFrom m n g .left .store) .facts)
+    fresh-cleared-learned g after = rw (run-as-kept m n g .same-store) (cleared-learned (freshly m g) after)
+
+-- ---- the words of a store
+
+-- "15, not 256 places, a count over 256 or a fact that the image could not hold": words are taken exactly if they are a store (`Words.IsStore`).
+pub fits-exactly : (types words : List ℕ) → (storeFits types (some words) ≡ true) ↔ IsStore types words
+fits-exactly types words = fitting.fits-exactly types words
 
 -- ---- the calls: every image, state and table, any number of steps, and any words beside them
 
@@ -161,3 +172,15 @@ module _ (image : List ℕ) (s : State) (asked lent : ℕ) (words : List ℕ) wh
         → Grows m words (freshLent image s asked lent words .store)
     unfolding freshLent
     fresh-learns b m end d w f = rw b (remembered.freed-learns image s asked words machine m end d w f)
+
+    -- And what is left of the words reads as the store that the steps came to: so demand 2 says of the words which facts were learned, and in which order.
+    module _ (m : Model) (well : wellFormed m s ≡ true) (fits : storeFits (m .types) (lentBy lent words) ≡ true) where
+      pub reads-back : (table : List ℕ) → Taken image table m
+          → storeOf (lentBy lent (runLent image s table asked lent words .store)) ≡ traceLent image s table asked (lentBy lent words) .left .store
+      unfolding runLent
+      reads-back table t = back.kept-back image m s asked well machine words lent fits table t
+
+      pub fresh-reads-back : (end : ℕ) → decode image ≡ Got m end
+          → storeOf (lentBy lent (freshLent image s asked lent words .store)) ≡ freshTraceLent image s asked (lentBy lent words) .left .store
+      unfolding freshLent
+      fresh-reads-back end d = back.freed-back image m s asked well machine words lent fits end d

@@ -11,10 +11,10 @@ use Rattle.meaning.specs.declared.Buffer.{Buffer}
 use Rattle.meaning.specs.declared.State.{State}
 use Rattle.meaning.specs.Base.{every, keep, bit}
 use Rattle.meaning.specs.Model.{Model, Rule, Test, Action, Clear, Variable, Chunk, Fact}
-use Rattle.meaning.specs.State.{bufferOf, isNil}
+use Rattle.meaning.specs.State.{slotCount, bufferOf, isNil}
 use Rattle.meaning.specs.Fire.{deedOn}
 use Rattle.meaning.specs.Learning.{knowing, chunkOf, adds}
-use Rattle.meaning.specs.Store.{storeIn, storeFits}
+use Rattle.meaning.specs.Store.{placeIn, storeIn, storeFits}
 use Rattle.meaning.specs.Match.{Place, shows, matches, entryOf}
 use Rattle.meaning.specs.Step.{Event, Fired, Made, largest, stepOf}
 use Rattle.meaning.specs.Refresh.{testsMarked}
@@ -122,6 +122,19 @@ pub record ClearedBy (rules : List Rule) (s : State) (k : ℕ) (c : Chunk) : Typ
   pub seen : bufferOf s buffer .delay ≡ 0
   pub filled : isNil (bufferOf s buffer) ≡ false
   pub held : chunkOf (bufferOf s buffer) ≡ c
+
+-- a chunk that is "a fact that the image could .. hold": its type is 1 to T, its values are symbols, and its slots past the type's count are empty
+pub record Holdable (types : List ℕ) (c : Chunk) : Type 0 where
+  pub declared : 0 < c .isa
+  pub no-larger : c .isa < length types
+  pub symbols : (b v : ℕ) → At v b (c .slots) → v ≤ 4095
+  pub past-empty : (b v : ℕ) → At v b (c .slots) → slotCount types (c .isa) ≤ b → v ≡ 0
+
+-- words that are a store: "256 places", a count that is not "over 256", and below it such facts, equal ones too; of what the count does not cover nothing is asked
+pub record IsStore (types words : List ℕ) : Type 0 where
+  pub as-long : length words ≡ 2305
+  pub counted : getD words 0 0 ≤ 256
+  pub below : (i : ℕ) → i < getD words 0 0 → Holdable types (placeIn words i)
 
 -- "unless a fact with the same type and slots stands in the image or the store", "so equal chunks are stored once": `new` joins a store `old` beside an image's facts
 pub record Learned (facts : List Fact) (old new : List Chunk) : Type 0 where

@@ -34,12 +34,13 @@ use Rattle.meaning.specs.Fresh.{freshBy, freshTraceLent, FreshRan, freshRanBy}
 use Rattle.laws.specs.BaseLaws.{no-true}
 use Rattle.laws.specs.MatchLaws.{entry-length, fresh-length}
 use Rattle.promises.specs.Words.{Reached, opened, ran, refreshed, changed, alone, AsKept, ranLent, freshRanLent, answerOf}
-use Rattle.promises.specs.Published.{Transition, onward, Transitions, no-step, one-step, Crowds, Ended, done, full, over, crowded, Follows}
+use Rattle.promises.specs.Published.{Transition, HasRoom, Transitions, no-step, one-step, Crowds, Ended, done, full, over, crowded, Follows}
 use Rattle.promises.specs.Sentences.{Beforehand, GivenBare, refused, read, AfterFresh, unsound, unfitting, moved}
 use Rattle.promises.specs.Proofs.Decoded.{RulesGood, good-known, decoded}
 use Rattle.promises.specs.Proofs.Knowing.{Unmade, as-known, crowding, made-with, stopped-with}
 use Rattle.promises.specs.Proofs.Steps.{fire-fresh}
 use Rattle.promises.specs.Proofs.Selection.{chosen-own}
+use Rattle.promises.specs.Proofs.Storing.{onward, stores-once, room-had, room-missed}
 use Rattle.promises.specs.Proofs.Runs.{chain-fresh}
 use Rattle.promises.specs.Proofs.Outcomes.{transition-made, passes-full, final-halt, freshly, knownStep, known-step, made-run, run-goes, transitions-once}
 use Rattle.promises.specs.Proofs.Numbers.{refused-unread, unread-range, exactly-bare}
@@ -282,9 +283,12 @@ module _ (m : Model) (d : RulesGood m) where
       rw (stays-with g 9 (as-known (known-step m g ∙ final-halt (knowing m (g .store)) (good-known m d (g .store)) (g .state) p))) refl
   ends-by (no-step {g}) (suc k) (crowded l p) =
       let t = transition-made (knowing m (g .store)) (good-known m d (g .store)) (g .state) (p .event) (p .state) (p .transition) (p .in-time) in
-      rw (stays-with g 14 (crowding (known-step m g ∙ t .1) (p .too-many))) refl
-  ends-by (one-step t c o rest) zero h = absurd (none-asked h)
-  ends-by (one-step {g = g} t c o rest) (suc k) h = rw (goes-by g t c o) (ends-by rest k (shorter h))
+      rw (stays-with g 14 (crowding (known-step m g ∙ t .1) (room-missed (stores-once (p .stores)) (p .too-many)))) refl
+  ends-by (one-step t c o r rest) zero h = absurd (none-asked h)
+  ends-by (one-step {e} {g = g} {s′ = s′} {store′ = after} t c o r rest) (suc k) {number} h =
+      let q : after ≡ onward m g e s′ .store = sym (stores-once o) in
+      rw (goes-by g t c (room-had (onward m g e s′ .store) (subst HasRoom q r)))
+      (subst (λ (x : Option (List Chunk)). freshFrom m k (moving s′ x) .number ≡ number) q (ends-by rest k (shorter h)))
 
 -- 0, 8 or 9, or 14
 pub ended-number : {m : Model} {asked made n : ℕ} {g : Moving} → Ended m asked made g n → (n ≡ 0) ⊎ ((n ≡ 8) ⊎ ((n ≡ 9) ⊎ (n ≡ 14)))
@@ -295,16 +299,12 @@ ended-number (crowded l p) = inr (inr (inr refl))
 
 -- where nothing is lent, 14 is not
 none-crowds : (m : Model) (g : Moving) → g .store ≡ none → Crowds m g → ⊥
-none-crowds m g q c = never (g .store) q (c .too-many)
-  where
-    never : (store : Option (List Chunk)) → store ≡ none → overfull (storeAfter m (g .state) (c .event) store) ≡ true → ⊥
-    never none q o = no-true (sym o)
-    never (some cs) q o = let z : _≡_ {A = ℕ} 0 1 = cc in omega arith
+none-crowds m g q c = let e : none ≡ some (c .after) = sym (ap (storeAfter m (g .state) (c .event)) q) ∙ stores-once (c .stores) in let z : _≡_ {A = ℕ} 0 1 = cc in omega arith
 
 -- nor along a path
 pub stays-alone : {m : Model} {es : List Timed} {g g′ : Moving} → Transitions m es g g′ → g .store ≡ none → g′ .store ≡ none
 stays-alone no-step q = q
-stays-alone {m} (one-step {e} {g = g} t c o rest) q = stays-alone rest (ap (storeAfter m (g .state) e) q)
+stays-alone {m} (one-step {e} {g = g} t c o r rest) q = stays-alone rest (sym (stores-once o) ∙ ap (storeAfter m (g .state) e) q)
 
 pub ended-alone : {m : Model} {asked made n : ℕ} {g : Moving} → g .store ≡ none → Ended m asked made g n → (n ≡ 0) ⊎ ((n ≡ 8) ⊎ (n ≡ 9))
 ended-alone q (done e) = inl refl

@@ -3,7 +3,7 @@ use mathlib.Core.Path.{_≡_, refl, sym, ap, ap₂, subst, _∙_}
 use mathlib.Core.Logic.{_⊎_, inl, inr, ⊎-elim}
 use mathlib.Core.Bool.{Bool, true, false}
 use mathlib.Core.List.{List, _∷_}
-use mathlib.Core.Option.{Option}
+use mathlib.Core.Option.{Option, some}
 use Prim.Native.Nat.{ℕ, zero, suc, _*_, _≤_, _<_}
 use native.Mathlib.Omega.{arith}
 use borrow.Author.Tests.{eq-eqb}
@@ -18,19 +18,20 @@ use Rattle.meaning.specs.Step.{Event, Step, Stopped, Made, largest, unlessPast,
 use Rattle.meaning.specs.Run.{Going, going, Timed, Run, before, runFrom}
 use Rattle.meaning.specs.Calls.{accepted, traceLent, ranBy}
 use Rattle.meaning.specs.Fresh.{Moving, moving}
-use Rattle.meaning.specs.Learning.{knowing, overfull, stepWith}
+use Rattle.meaning.specs.Learning.{knowing, storeAfter, overfull, stepWith}
 use Rattle.meaning.specs.Refresh.{refresh}
 use Rattle.meaning.specs.Store.{storeFits, storeOf}
 use Rattle.laws.specs.BaseLaws.{by-lt}
 use Rattle.laws.specs.MatchLaws.{fresh-length}
 use Rattle.promises.specs.Words.{Reached, ranLent}
-use Rattle.promises.specs.Published.{NoneSelected, Transition, Final, onward, Transitions, no-step, one-step, Passes, Ended, done, full, over, crowded, RanOn}
+use Rattle.promises.specs.Published.{NoneSelected, Transition, Final, Stores, Transitions, no-step, one-step, Passes, Ended, done, full, over, crowded, RanOn}
 use Rattle.promises.specs.Proofs.Decoded.{RulesGood, good-known, decoded}
 use Rattle.promises.specs.Proofs.Runs.{known-step-fresh, chain-fresh}
 use Rattle.promises.specs.Proofs.Machines.{chain-well}
 use Rattle.promises.specs.Proofs.Steps.{no-made, InTime, unless-made, unless-stopped, unless-full, unless-on}
 use Rattle.promises.specs.Proofs.Knowing.{known-fresh, as-known, crowding, with-made, made-with, stopped-with}
 use Rattle.promises.specs.Proofs.Transitions.{transition-once, Outcome, goes, stays, outcome, stays-final}
+use Rattle.promises.specs.Proofs.Storing.{onward, stores-after, stores-once, has-room, without-room}
 
 same-number : (a b : ℕ) → Stopped a ≡ Stopped b → a ≡ b
 same-number a b e = cc
@@ -120,7 +121,7 @@ Goes m g asked r = RanOn m g asked (r .events) (ranBy 0 r) (r .left .store)
 
 one-more : (m : Model) (g : Moving) (s′ : State) (e : Event) (n : ℕ) (r : Run Going) → Transition (knowing m (g .store)) (g .state) e s′ → s′ .clock ≤ largest
     → overfull (onward m g e s′ .store) ≡ false → Goes m (onward m g e s′) n r → Goes m g (suc n) (before (record { clock = s′ .clock; event = e }) r)
-one-more m g s′ e n r t c o h = record { path = one-step t c o (h .path); counted = refl; ended = longer (h .ended); fresh = h .fresh }
+one-more m g s′ e n r t c o h = record { path = one-step t c (stores-after m (g .state) e (g .store)) (has-room (onward m g e s′ .store) o) (h .path); counted = refl; ended = longer (h .ended); fresh = h .fresh }
   where
     longer : {k number : ℕ} {x : Moving} → Ended m n k x number → Ended m (suc n) (suc k) x number
     longer (done q) = done (ap suc q)
@@ -154,7 +155,10 @@ run-goes m d (suc n) g = by (λ g′. run-goes m d n g′) (outcome (knowing m (
         → s′ .clock ≤ largest
         → knownStep m g ≡ Made e s′ mark → (b : Bool) → overfull (onward m g e s′ .store) ≡ b → Goes m g (suc n) (runFrom m (suc n) (freshly m g))
     by-room ih e s′ mark t h q true o =
-        stopped-run m n g 14 (stopped-with m (g .store) (g .state) table (crowding q o)) (crowded (omega arith) (record { event = e; state = s′; transition = t; in-time = h; too-many = o }))
+        let w = without-room (onward m g e s′ .store) o in
+        let after : Stores m (g .state) e (g .store) (some (w .0)) = subst (Stores m (g .state) e (g .store)) (w .1) (stores-after m (g .state) e (g .store)) in
+        stopped-run m n g 14 (stopped-with m (g .store) (g .state) table (crowding q o))
+        (crowded (omega arith) (record { event = e; state = s′; transition = t; in-time = h; after = w .0; stores = after; too-many = w .2 }))
     by-room ih e s′ mark t h q false o =
         subst (λ (r : Run Going). Goes m g (suc n) r) (sym (made-run m n g e s′ mark (made-with m (g .store) (g .state) table e s′ mark q o)))
         (one-more m g s′ e n (runFrom m n (freshly m (onward m g e s′))) t h o (ih (onward m g e s′)))
@@ -201,10 +205,11 @@ chain-step image m at d {s} {table} r store e s′ mark h =
 pub transitions-once : (m : Model) → RulesGood m → {es fs : List Timed} {g g₁ g₂ : Moving} → Transitions m es g g₁ → Transitions m fs g g₂ → length es ≡ length fs
     → (es ≡ fs) × (g₁ ≡ g₂)
 transitions-once m d no-step no-step l = (refl, refl)
-transitions-once m d no-step (one-step t c o p) l = absurd (omega arith)
-transitions-once m d (one-step t c o p) no-step l = absurd (omega arith)
-transitions-once m d (one-step {e} {es} {g} {g″ = g₁} {s′} t c o p) (one-step {e = f} {es = fs} {g″ = g₂} {s′ = t′} u h k q) l =
+transitions-once m d no-step (one-step t c o r p) l = absurd (omega arith)
+transitions-once m d (one-step t c o r p) no-step l = absurd (omega arith)
+transitions-once m d (one-step {e} {es} {g} {g″ = g₁} {s′} {store′ = a} t c o r p) (one-step {e = f} {es = fs} {g″ = g₂} {s′ = t′} {store′ = b} u h k v q) l =
     let once : (e ≡ f) × (s′ ≡ t′) = transition-once (knowing m (g .store)) (good-known m d (g .store)) (g .state) t u in
-    let same : onward m g f t′ ≡ onward m g e s′ = ap₂ (λ (x : Event) (y : State). onward m g x y) (sym (once .0)) (sym (once .1)) in
+    let store : b ≡ a = sym (stores-once k) ∙ ap (λ (x : Event). storeAfter m (g .state) x (g .store)) (sym (once .0)) ∙ stores-once o in
+    let same : moving t′ b ≡ moving s′ a = ap₂ (λ (x : State) (y : Option (List Chunk)). moving x y) (sym (once .1)) store in
     let rest : (es ≡ fs) × (g₁ ≡ g₂) = transitions-once m d p (subst (λ (x : Moving). Transitions m fs x g₂) same q) (omega arith) in
     (ap₂ (λ (x : Timed) (xs : List Timed). x ∷ xs) (ap₂ (λ (x : Event) (y : State). record { clock = y .clock; event = x }) (once .0) (once .1)) (rest .0), rest .1)

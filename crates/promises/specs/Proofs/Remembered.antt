@@ -1,7 +1,7 @@
 -- What a call leaves of a store, and what a request finds of it.
 use mathlib.Core.Path.{_≡_, refl, sym, ap, subst, _∙_}
 use mathlib.Core.Logic.{_↔_, _⊎_, inl, inr, ⊎-elim}
-use mathlib.Core.Bool.{true, _&&_}
+use mathlib.Core.Bool.{Bool, true, false, _&&_}
 use mathlib.Core.List.{List, _++_, map}
 use mathlib.Core.Option.{Option, none, some}
 use Prim.Native.Nat.{ℕ, _+_, _≤_}
@@ -19,12 +19,12 @@ use Rattle.meaning.specs.Image.{decode}
 use Rattle.meaning.specs.Match.{freshTable}
 use Rattle.meaning.specs.Retrieval.{retrieve}
 use Rattle.meaning.specs.Step.{Event, Fired, Stopped, Made, stepOf}
-use Rattle.meaning.specs.Learning.{knowing, adds, storeAfter, stepWith}
+use Rattle.meaning.specs.Learning.{learned, knowing, equal, adds, storeAfter, stepWith}
 use Rattle.meaning.specs.Store.{placeIn, storeIn, holdable, storeFits, storeLeft}
 use Rattle.meaning.specs.Run.{Going, going, runFrom}
 use Rattle.meaning.specs.Calls.{traceLent}
 use Rattle.meaning.specs.Fresh.{moving, freshTraceLent}
-use Rattle.laws.specs.BaseLaws.{and-left, and-right, by-lt}
+use Rattle.laws.specs.BaseLaws.{no-true, and-left, and-right, by-lt}
 use Rattle.promises.specs.Words.{At, Machine, ClearedBy, Growth, Overfull, Stands, Before, OnlyGrows, Grows}
 use Rattle.promises.specs.Published.{valuesIn, Fits, Retrieved}
 use Rattle.promises.specs.Sentences.{Taken, Why, stale, late-fire, late-wait, quiet}
@@ -39,7 +39,7 @@ use Rattle.promises.specs.Proofs.Numbers.{taken-accepted}
 use Rattle.promises.specs.Proofs.Machines.{chunkFit, StoreFit, Sound, fit, lent-fit, known-sound}
 use Rattle.promises.specs.Proofs.Lending.{along, Accepts, kept-store, freed-store}
 use Rattle.promises.specs.Proofs.Afresh.{run-as-kept}
-use Rattle.promises.specs.Proofs.Joining.{at-right, store-stands, more-stands, adds-in, grown-none, grown-more}
+use Rattle.promises.specs.Proofs.Joining.{In, at-left, at-right, at-map, equal-true, equal-refl, store-stands, more-stands, adds-in, grown-none, grown-more}
 use Rattle.promises.specs.Proofs.Stored.{Nines, length-up, left-count, left-reads, left-long, left-past, same-words}
 
 -- ---- the words
@@ -202,28 +202,69 @@ stands-on m c n g h = along m (λ store. Stands (knowing m store .facts) c) (λ 
     by s e none own = own
     by s e (some cs) own = more-stands m cs (adds (knowing m (some cs)) s e) own
 
+-- a store that has c
+record Has (c : Chunk) (store : Option (List Chunk)) : Type 0 where
+  chunks : List Chunk
+  is : store ≡ some chunks
+  in-it : In c chunks
+
+-- what joined goes on standing after the image's facts
+pub learned-on : (m : Model) (cs : List Chunk) (s : State) (k : ℕ) (c : Chunk) → ClearedBy (m .rules) s k c → (Stands (knowing m (some cs) .facts) c → ⊥)
+    → (n : ℕ) (g : Going) → g .store ≡ storeAfter m s (Fired k) (some cs)
+    → (j : ℕ) × (length (m .facts) ≤ j) × At (learned c) j (knowing m (runFrom m n g .left .store) .facts)
+learned-on m cs s k c h unknown n g after =
+    let i : In c (adds (knowing m (some cs)) s (Fired k)) =
+    ⊎-elim (λ (own : Stands (knowing m (some cs) .facts) c). absurd (unknown own)) (λ (j : In c (adds (knowing m (some cs)) s (Fired k))). j) (adds-in (knowing m (some cs)) s k c h) in
+    last (along m (Has c) (λ x e store own o. on x e store own) n g
+    (record { chunks = cs ++ adds (knowing m (some cs)) s (Fired k); is = after; in-it = (length cs + i .0, at-right cs (i .1)) }))
+  where
+    on : (x : State) (e : Event) (store : Option (List Chunk)) → Has c store → Has c (storeAfter m x e store)
+    on x e store own =
+        let more : List Chunk = adds (knowing m (some (own .chunks))) x e in
+        record { chunks = own .chunks ++ more; is = ap (storeAfter m x e) (own .is); in-it = (own .in-it .0, at-left (own .in-it .1) more) }
+
+    last : {store : Option (List Chunk)} → Has c store → (j : ℕ) × (length (m .facts) ≤ j) × At (learned c) j (knowing m store .facts)
+    last own = rw (own .is) (length (m .facts) + own .in-it .0, omega arith, at-right (m .facts) (at-map learned (own .in-it .1)))
+
 -- ---- what a request finds
 
-module _ (memory : List Fact) (c : Chunk) (g : Stands memory c) (isa : ℕ) (ns : List Named) (entry : List ℕ) (fits : Fits (valuesIn entry) isa ns (g .fact)) where
-  -- a fact that fits and is found before g
-  abbrev Better : Fact → ℕ → Type 0
-  Better f j = At f j memory × Fits (valuesIn entry) isa ns f × Before f j (g .fact) (g .place)
+module _ (memory : List Fact) (c : Chunk) (isa : ℕ) (ns : List Named) (entry : List ℕ) (fits : Fits (valuesIn entry) isa ns (learned c)) where
+  -- every fact that has the chunk fits
+  fits-too : (own : Stands memory c) → Fits (valuesIn entry) isa ns (own .fact)
+  fits-too own =
+      record {
+        typed = ap (λ (x : Chunk). x .isa) (own .is) ∙ fits .typed;
+        valued = λ x h. ap (λ (y : Chunk). getD (y .slots) (x .slot) 0) (own .is) ∙ fits .valued x h;
+      }
 
-  pub found-some : retrieve memory isa ns entry ≡ none → ⊥
-  found-some e = nothing-here memory isa ns entry e (g .place) (g .fact) (g .numbered) fits
+  -- what is found is the fact that has it, or is found before it
+  found-by : {j : ℕ} {f : Fact} → Retrieved memory (valuesIn entry) isa ns j f → (own : Stands memory c) → (f .chunk ≡ c) ⊎ Before f j (own .fact) (own .place)
+  found-by {j} {f} r own =
+      by-lt (own .fact .activation) (f .activation) (λ l. inr (inl l)) (λ l.
+      let same : own .fact .activation ≡ f .activation = omega (arith, l, r .none-higher (own .place) (own .fact) (own .numbered) (fits-too own)) in
+      by-lt j (own .place) (λ k. inr (inr (sym same, k))) (λ k.
+      let e : own .place ≡ j = omega (arith, k, r .first-of-equals (own .place) (own .fact) (own .numbered) (fits-too own) same) in
+      inl (ap (λ (x : Fact). x .chunk) (at-same (r .numbered) (subst (λ (x : ℕ). At (own .fact) x memory) e (own .numbered))) ∙ own .is)))
 
-  -- what is found is g, or is found before it
-  found-by : {j : ℕ} {f : Fact} → Retrieved memory (valuesIn entry) isa ns j f → (f .chunk ≡ c) ⊎ Better f j
-  found-by {j} {f} r =
-      by-lt (g .fact .activation) (f .activation) (λ l. inr (r .numbered, r .fitting, inl l)) (λ l.
-      let same : g .fact .activation ≡ f .activation = omega (arith, l, r .none-higher (g .place) (g .fact) (g .numbered) fits) in
-      by-lt j (g .place) (λ k. inr (r .numbered, r .fitting, inr (sym same, k))) (λ k.
-      let e : g .place ≡ j = omega (arith, k, r .first-of-equals (g .place) (g .fact) (g .numbered) fits same) in
-      inl (ap (λ (x : Fact). x .chunk) (at-same (r .numbered) (subst (λ (x : ℕ). At (g .fact) x memory) e (g .numbered))) ∙ g .is)))
-
-  pub recalled : ((j : ℕ) (f : Fact) → Better f j → f .chunk ≡ c) → (f : Fact) × (retrieve memory isa ns entry ≡ some f) × (f .chunk ≡ c)
-  recalled h = by (retrieve memory isa ns entry) refl
+  -- the chunk, or one found before every fact that has it
+  own-or-before : {j : ℕ} {f : Fact} → Retrieved memory (valuesIn entry) isa ns j f → (f .chunk ≡ c) ⊎ ((own : Stands memory c) → Before f j (own .fact) (own .place))
+  own-or-before {j} {f} r = by (equal (f .chunk) c) refl
     where
-      by : (o : Option Fact) → retrieve memory isa ns entry ≡ o → (f : Fact) × (retrieve memory isa ns entry ≡ some f) × (f .chunk ≡ c)
-      by none e = absurd (found-some e)
-      by (some f) e = let r = found-here memory isa ns entry f e in (f, e, ⊎-elim (λ (z : f .chunk ≡ c). z) (λ (b : Better f (r .0)). h (r .0) f b) (found-by (r .1)))
+      other : equal (f .chunk) c ≡ false → (own : Stands memory c) → (f .chunk ≡ c) ⊎ Before f j (own .fact) (own .place) → Before f j (own .fact) (own .place)
+      other q own (inl e) = absurd (no-true (sym (equal-refl c) ∙ ap (λ (x : Chunk). equal x c) (sym e) ∙ q))
+      other q own (inr b) = b
+
+      by : (t : Bool) → equal (f .chunk) c ≡ t → (f .chunk ≡ c) ⊎ ((own : Stands memory c) → Before f j (own .fact) (own .place))
+      by true q = inl (equal-true (f .chunk) c q)
+      by false q = inr (λ own. other q own (found-by r own))
+
+pub recalled : (memory : List Fact) (c : Chunk) → Stands memory c → (isa : ℕ) (ns : List Named) (entry : List ℕ) → Fits (valuesIn entry) isa ns (learned c)
+    → (j : ℕ) × (f : Fact) × (retrieve memory isa ns entry ≡ some f) × Retrieved memory (valuesIn entry) isa ns j f
+    × ((f .chunk ≡ c) ⊎ ((own : Stands memory c) → Before f j (own .fact) (own .place)))
+recalled memory c own isa ns entry fits = by (retrieve memory isa ns entry) refl
+  where
+    by : (o : Option Fact) → retrieve memory isa ns entry ≡ o
+        → (j : ℕ) × (f : Fact) × (retrieve memory isa ns entry ≡ some f) × Retrieved memory (valuesIn entry) isa ns j f
+        × ((f .chunk ≡ c) ⊎ ((own : Stands memory c) → Before f j (own .fact) (own .place)))
+    by none e = absurd (nothing-here memory isa ns entry e (own .place) (own .fact) (own .numbered) (fits-too memory c isa ns entry fits own))
+    by (some f) e = let r = found-here memory isa ns entry f e in (r .0, f, e, r .1, own-or-before memory c isa ns entry fits (r .1))

@@ -1,43 +1,32 @@
 -- Runs to which a store may be lent, over words: where none is they are the others; and what they leave of the store.
 use mathlib.Core.Path.{_≡_, refl, sym, ap, ap₂, subst, _∙_}
-use mathlib.Core.Bool.{Bool, true, false}
-use mathlib.Core.List.{List, [], _++_}
+use mathlib.Core.Bool.{true, false}
+use mathlib.Core.List.{List, []}
 use mathlib.Core.Option.{Option, none, some}
 use Prim.Native.Nat.{ℕ, _≤_}
-use lib.Dec.{eqb}
 use lib.ListN.{length, getD}
-use Rattle.meaning.specs.declared.State.{State}
-use Rattle.meaning.specs.Base.{if_then_else_, bit}
+use Rattle.meaning.specs.Base.{bit}
 use Rattle.meaning.specs.Model.{Model, Chunk}
 use Rattle.meaning.specs.State.{wellFormed}
 use Rattle.meaning.specs.Read.{Got}
 use Rattle.meaning.specs.Image.{decode}
-use Rattle.meaning.specs.Step.{Event, largest}
-use Rattle.meaning.specs.Learning.{knowing, adds, storeAfter}
-use Rattle.meaning.specs.Store.{lentBy, storeFits, storeOf, storeLeft}
-use Rattle.meaning.specs.Run.{Going, going, Timed, runFrom}
+use Rattle.meaning.specs.Step.{largest}
+use Rattle.meaning.specs.Store.{lentBy, storeFits, storeOf}
+use Rattle.meaning.specs.Run.{Timed}
 use Rattle.meaning.specs.Calls.{Ran, WithStore, traceLent, runLent}
-use Rattle.meaning.specs.Match.{freshTable}
 use Rattle.meaning.specs.Fresh.{moving, freshTraceLent, FreshRan, freshLent}
 use Rattle.jirvuntsag.specs.Words.{stateOf, fits}
 use Rattle.jirvuntsag.specs.Told.{Told, runIn, eventsIn}
 use Rattle.jirvuntsag.specs.Fresh.{FreshTold, freshIn, freshEventsIn}
 use Rattle.jirvuntsag.specs.Lent.{toldWith, runLentIn, lentEventsIn, freshLentIn, freshLentEventsIn}
-use Rattle.laws.specs.BaseLaws.{and-left}
 use Rattle.laws.specs.MatchLaws.{fresh-length}
-use Rattle.promises.specs.Words.{isWord, Machine, OnlyGrows, Grows}
+use Rattle.promises.specs.Words.{OnlyGrows, Grows}
 use Rattle.promises.specs.Published.{RanOn, Follows}
 use Rattle.promises.specs.Sentences.{Taken}
 use Rattle.promises.specs.Numbers.{accepted-taken}
 use Rattle.promises.specs.Keeping.{reached-fresh, reached-well, reached-machine}
-use Rattle.promises.specs.Fresh.{lent-as-kept, fresh-lent-published}
+use Rattle.promises.specs.Fresh.{fresh-lent-published}
 use Rattle.promises.specs.Remembering as remembering
-use Rattle.promises.specs.Proofs.Decoded.{all-weaken}
-use Rattle.promises.specs.Proofs.Numbers.{taken-accepted}
-use Rattle.promises.specs.Proofs.Chains.{run-keeps}
-use Rattle.promises.specs.Proofs.Machines.{chunkFit, Sound, StoreFit, fit, known-sound, lent-fit}
-use Rattle.promises.specs.Proofs.Lending.{along, none-kept}
-use Rattle.promises.specs.Proofs.Stored.{left-reads}
 use Rattle.promises.specs.Proofs.Remembered.{words-stay}
 use Rattle.promises_c.specs.Handing.{ranIn, freshRanIn, Held, ran}
 use Rattle.promises_c.specs.Proofs.Back.{state-fits}
@@ -106,39 +95,7 @@ held-ran image {w} {table} h steps =
 
 -- ---- the store that a run leaves stands in the words that it leaves
 
-record Stored (store : Option (List Chunk)) : Type 0 where
-  chunks : List Chunk
-  is : store ≡ some chunks
-
-still-stored : (m : Model) (s : State) (e : Event) (store : Option (List Chunk)) → Stored store → Stored (storeAfter m s e store)
-still-stored m s e store h = record { chunks = h .chunks ++ adds (knowing m (some (h .chunks))) s e; is = ap (storeAfter m s e) (h .is) }
-
-reads-back : (m : Model) (words : List ℕ) (store : Option (List Chunk)) → Stored store → StoreFit m store → storeOf (some (storeLeft words store)) ≡ store
-reads-back m words store h f =
-    let g : StoreFit m (some (h .chunks)) = subst (StoreFit m) (h .is) f in
-    let nine = all-weaken chunkFit (λ (c : Chunk). eqb (length (c .slots)) 8) (λ c e. and-left (eqb (length (c .slots)) 8) (isWord (c .isa)) e) (h .chunks) (g .0) in
-    rw (h .is) (ap (λ (cs : List Chunk). some cs) (left-reads words (h .chunks) nine))
-
 module _ (image : List ℕ) (m : Model) (end : ℕ) (d : decode image ≡ Got m end) where
-  module _ (s : State) (table : List ℕ) (steps : ℕ) (taken : Taken image table m) (well : wellFormed m s ≡ true) (machine : Machine s) (words : List ℕ) where
-    went-back : storeFits (m .types) (some words) ≡ true
-        → let left : Option (List Chunk) = runFrom m steps (going s table (storeOf (some words))) .left .store in storeOf (some (storeLeft words left)) ≡ left
-    went-back f =
-        let g : Going = going s table (storeOf (some words)) in
-        reads-back m words (runFrom m steps g .left .store)
-        (along m Stored (λ x e store h o. still-stored m x e store h) steps g (record { chunks = _; is = refl }))
-        (run-keeps m (λ x t. Sound m x) (StoreFit m) (known-sound image m end d) steps g (record { well = well; machine = machine }, lent-fit m (fit image m end d) (some words) f) .1)
-
-    left-back : (lent : ℕ) → storeFits (m .types) (lentBy lent words) ≡ true
-        → let left : Option (List Chunk) = traceLent image s table steps (lentBy lent words) .left .store in left ≡ storeOf (lentBy lent (storeLeft words left))
-    unfolding traceLent
-    left-back lent f = by (bit lent 0) f
-      where
-        by : (b : Bool) → storeFits (m .types) (if b then some words else none) ≡ true
-            → let left : Option (List Chunk) = traceLent image s table steps (if b then some words else none) .left .store in left ≡ storeOf (if b then some (storeLeft words left) else none)
-        by true h = rw (taken-accepted image table taken, well, h) (sym (went-back h))
-        by false h = none-kept image s steps table
-
   pub held-lent-run : (w table : List ℕ) → Held image w table → (steps lent : ℕ) (store : List ℕ) → steps ≤ 65535 → storeFits (m .types) (lentBy lent store) ≡ true
       → let a : WithStore Told = runLentIn image w table steps lent store in
       RanOn m (moving (stateOf w) (storeOf (lentBy lent store))) steps (lentEventsIn image w table steps lent store) (ranIn (a .answer)) (storeOf (lentBy lent (a .store)))
@@ -148,21 +105,13 @@ module _ (image : List ℕ) (m : Model) (end : ℕ) (d : decode image ≡ Got m 
       let s : Stands image w table = held-stands image m end d h in
       let r = s .reached in
       let taken : Taken image table m = accepted-taken image table m end d (ap length (reached-fresh image m end d r) ∙ fresh-length (m .rules) (stateOf w)) in
-      let e = left-back (stateOf w) table steps taken (reached-well image m end d r) (reached-machine image m end d r) store lent f in
+      let e = remembering.reads-back image (stateOf w) steps lent store (reached-machine image m end d r) m (reached-well image m end d r) f table taken in
       let q : traceLent image (stateOf w) table steps (lentBy lent store) .left .store ≡ storeOf (lentBy lent (a .store)) =
-      e ∙ ap (λ (x : List ℕ). storeOf (lentBy lent x)) (sym (fit-store image w table steps lent store (s .fit))) in
+      sym e ∙ ap (λ (x : List ℕ). storeOf (lentBy lent x)) (sym (fit-store image w table steps lent store (s .fit))) in
       subst (RanOn m (moving (stateOf w) (storeOf (lentBy lent store))) steps (lentEventsIn image w table steps lent store) (ranIn (a .answer))) q
       (calling.held-lent-run image m end d w table h steps lent store few f)
 
   -- ---- the same of a run without a table
-
-  free-back : (s : State) (steps lent : ℕ) (words : List ℕ) → wellFormed m s ≡ true → Machine s → storeFits (m .types) (lentBy lent words) ≡ true
-      → let left : Option (List Chunk) = freshTraceLent image s steps (lentBy lent words) .left .store in left ≡ storeOf (lentBy lent (storeLeft words left))
-  free-back s steps lent words well machine f =
-      let table : List ℕ = freshTable (m .rules) s in
-      let taken : Taken image table m = accepted-taken image table m end d (fresh-length (m .rules) s) in
-      subst (λ (x : Option (List Chunk)). x ≡ storeOf (lentBy lent (storeLeft words x))) (sym (lent-as-kept image s steps lent words m end d .same-store))
-      (left-back s table steps taken well machine words lent f)
 
   pub fresh-lent-follows : (w : List ℕ) (steps lent : ℕ) (store : List ℕ) → fits w ≡ true → getD w 0 0 ≤ largest → steps ≤ 65535 → wellFormed m (stateOf w) ≡ true
       → storeFits (m .types) (lentBy lent store) ≡ true → let a : WithStore FreshTold = freshLentIn image w steps lent store in let r : FreshRan = freshRanIn (a .answer) in
@@ -171,7 +120,8 @@ module _ (image : List ℕ) (m : Model) (end : ℕ) (d : decode image ≡ Got m 
   fresh-lent-follows w steps lent store f c few well fit′ =
       let o : Option (List ℕ) = lentBy lent store in
       let q : freshTraceLent image (stateOf w) steps o .left .store ≡ storeOf (lentBy lent (freshLentIn image w steps lent store .store)) =
-      free-back (stateOf w) steps lent store well (state-fits w f c) fit′ ∙ ap (λ (x : List ℕ). storeOf (lentBy lent x)) (sym (fit-free-store image w steps lent store f)) in
+      sym (remembering.fresh-reads-back image (stateOf w) steps lent store (state-fits w f c) m well fit′ end d)
+      ∙ ap (λ (x : List ℕ). storeOf (lentBy lent x)) (sym (fit-free-store image w steps lent store f)) in
       let e : freshTraceLent image (stateOf w) steps o .events ≡ freshLentEventsIn image w steps lent store =
       sym (lent-free-noted image w steps lent store ∙ fit-fresh-events image w steps o f) in
       let Told-by : List Timed → FreshRan → Option (List Chunk) → Type 0 = λ es r x. Follows m (moving (stateOf w) (storeOf o)) steps es (moving (r .state) x) (r .made) (r .number) in
