@@ -57,7 +57,8 @@
 //!
 //! [`Model::run_lent`] and [`Model::run_fresh_lent`] may be lent a [`Store`]: a chunk that a rule clears from a visible buffer
 //! joins it, unless the image or the store has it already, and requests find it from the next step on, after the facts of the
-//! image. A store is a value: it can be kept, copied, compared and lent to the next run, of either engine.
+//! image. A store is a value: it can be kept, copied, compared and lent to the next run, of either engine. It prints by numbers;
+//! `Names::store` of `jirvuntsag-text` prints it by the names of a model.
 //!
 //! ```
 //! use jirvuntsag_proved::{End, Model, Store};

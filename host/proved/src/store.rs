@@ -88,6 +88,13 @@ impl Default for Store {
     }
 }
 
+/// Type and slots, as `Names::store` of `jirvuntsag-text` takes them.
+impl From<Chunk> for (u16, [u16; 8]) {
+    fn from(chunk: Chunk) -> (u16, [u16; 8]) {
+        (chunk.isa, chunk.slots)
+    }
+}
+
 /// Type and slots by number; `Names::chunk` of `jirvuntsag-text` prints them by the names of a model.
 impl fmt::Display for Chunk {
     fn fmt(&self, to: &mut fmt::Formatter) -> fmt::Result {
@@ -96,7 +103,7 @@ impl fmt::Display for Chunk {
     }
 }
 
-/// A line for each fact, in the order learned.
+/// A line for each fact, in the order learned, by number; `Names::store` of `jirvuntsag-text` prints them by the names of a model.
 impl fmt::Display for Store {
     fn fmt(&self, to: &mut fmt::Formatter) -> fmt::Result {
         self.facts().try_for_each(|fact| writeln!(to, "{fact}"))

@@ -79,6 +79,26 @@ impl Names {
         format!("{}{}", names.name, values.collect::<String>())
     }
 
+    /// The facts of a store by their names, in the order learned: a line for each, as [`Names::chunk`] prints it. They are what
+    /// `Store::facts` of `jirvuntsag-proved` gives, or types with eight slots each.
+    ///
+    /// ```
+    /// use jirvuntsag_proved::{Model, Store};
+    ///
+    /// # let text = std::fs::read_to_string(concat!(env!("CARGO_MANIFEST_DIR"), "/../../examples/pupil.model"))?;
+    /// let pupil = jirvuntsag_text::Model::from_text(&text)?;
+    /// let image = pupil.image();
+    /// let (model, state, mut table) = Model::open(&image)?;
+    /// let mut store = Store::new();
+    /// model.run_lent(state, &mut table, 1_000, Some(&mut store))?;
+    /// assert_eq!(pupil.names().store(store.facts()), "sum first=3 second=2 result=5\n");
+    /// # Ok::<(), Box<dyn std::error::Error>>(())
+    /// ```
+    pub fn store(&self, facts: impl IntoIterator<Item = impl Into<(u16, [u16; 8])>>) -> String {
+        let line = |(isa, slots): (u16, [u16; 8])| self.chunk(isa, &slots) + "\n";
+        facts.into_iter().map(|fact| line(fact.into())).collect()
+    }
+
     /// The names as a JSON file.
     pub fn to_json(&self) -> String {
         let types = self.types.iter().map(|one| named(&one.name, "slots", &one.slots));

@@ -1,6 +1,7 @@
 //! The file of names: written, read again, and refused where it is no such file.
 
 use jirvuntsag_packing::{model_a, pack};
+use jirvuntsag_proved::{Chunk, Store};
 use jirvuntsag_text::{Model, Names};
 
 /// The file of names of model A's invented names.
@@ -110,6 +111,16 @@ fn a_chunk_is_printed_by_its_names() {
     assert_eq!(names.chunk(1, &[1, 2, 0, 0, 0, 0, 0, 0]), "sum first=one second=two");
     assert_eq!(names.chunk(1, &[0, 9, 0, 0, 0, 0, 0, 0]), "sum first=nil second=x9");
     assert_eq!((names.chunk(0, &[0; 8]), names.chunk(7, &[1; 8])), ("chunk".into(), "t7".into()));
+}
+
+#[test]
+fn a_store_is_printed_by_its_names() {
+    let model = Model::from_text("type sum first second\nbuffer goal sum first one second two\n").expect("a model");
+    let fact = |first, second| Chunk { isa: 1, slots: [first, second, 0, 0, 0, 0, 0, 0] };
+    let store = Store::from_facts(&[fact(1, 2), fact(2, 0)]).expect("two facts");
+    assert_eq!(model.names().store(store.facts()), "sum first=one second=two\nsum first=two second=nil\n");
+    assert_eq!(model.names().store([(1, [1, 9, 0, 0, 0, 0, 0, 0])]), "sum first=one second=x9\n");
+    assert_eq!(model.names().store(Store::new().facts()), "");
 }
 
 #[test]
