@@ -53,10 +53,10 @@ static uint64_t lend(Lent *one, uint16_t steps, size_t room, uint16_t lent, size
     return afresh;
 }
 
-/* Model A clears its goal, count 3 3, in its sixth step. */
-static void check_learned(void) {
+/* Model A clears its goal, count 3 3, in its sixth step; `lent` lends the store. */
+static void check_learned(uint16_t lent) {
     Lent one = lent_of(0);
-    CHECK(lend(&one, 65535, 24, JIRVUNTSAG_LENT_STORE, STORE) == answered(9, 7));
+    CHECK(lend(&one, 65535, 24, lent, STORE) == answered(9, 7));
     CHECK(one.state[0] == 550 && one.events[0] == 50 && one.events[20] == 150 && one.events[21] == UINT32_MAX);
     const uint16_t learned[] = {1, 2, 3, 3, 0, 0, 0, 0, 0, 0};
     CHECK(memcmp(one.store, learned, sizeof learned) == 0);
@@ -66,7 +66,7 @@ static void check_learned(void) {
     /* The same store again: what is known is not learned twice. */
     Lent again = lent_of(0);
     memcpy(again.store, one.store, sizeof one.store);
-    CHECK(lend(&again, 65535, 24, JIRVUNTSAG_LENT_STORE, STORE) == answered(9, 7) && same(&one, &again));
+    CHECK(lend(&again, 65535, 24, lent, STORE) == answered(9, 7) && same(&one, &again));
 }
 
 /* What is not lent is neither read nor written: it may be null, and of any length. */
@@ -140,7 +140,10 @@ static void check_refused_image(const uint8_t *handed, size_t length, uint64_t a
 }
 
 void check_lent_calls(void) {
-    check_learned();
+    /* Bit 0 of the word lends the store, whatever the others are. */
+    check_learned(JIRVUNTSAG_LENT_STORE);
+    check_learned(3);
+    check_learned(65535);
     check_not_lent();
     check_full();
     check_refused_stores();
