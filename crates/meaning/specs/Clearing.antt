@@ -169,12 +169,11 @@ rows =
     -- where the word does not say 1 the words are nothing to the call, whatever they are
     ∷ row (calledOf (aLent 0 (5 ∷ 6 ∷ []))) (9 ∷ 7 ∷ 550 ∷ 2 ∷ 5 ∷ 6 ∷ [])
     ∷ row (calledOf (aLent 2 (5 ∷ 6 ∷ []))) (9 ∷ 7 ∷ 550 ∷ 2 ∷ 5 ∷ 6 ∷ [])
-    -- "15, not 256 places, a count over 256": a word less, a word more, no word; 257; 256 are accepted, and what model A then would learn is too much
+    -- "15, not 256 places, a count over 256": a word less, a word more, no word; 257
     ∷ row (judged (take 2304 (wordsOf 0 []))) (15 ∷ 15 ∷ 1 ∷ [])
     ∷ row (judged (wordsOf 0 [] ++ (0 ∷ []))) (15 ∷ 15 ∷ 1 ∷ [])
     ∷ row (judged []) (15 ∷ 15 ∷ 1 ∷ [])
-    ∷ row (judged (257 ∷ drop 1 (wordsOf 0 (many 256)))) (15 ∷ 15 ∷ 1 ∷ [])
-    ∷ row (judged (wordsOf 256 (many 256))) (14 ∷ 14 ∷ 1 ∷ [])
+    ∷ row (judged (wordsOf 257 [])) (15 ∷ 15 ∷ 1 ∷ [])
     -- "or a fact that the image could not hold": type 0, type 3 of two, 4,096, a value past the type's two slots; what it could hold; twice the same
     ∷ row (judged (placed (0 ∷ []))) (15 ∷ 15 ∷ 1 ∷ [])
     ∷ row (judged (placed (3 ∷ []))) (15 ∷ 15 ∷ 1 ∷ [])
