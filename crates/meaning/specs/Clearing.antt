@@ -16,7 +16,8 @@ use Rattle.meaning.specs.Run.{Going, going, Run, runFrom}
 use Rattle.meaning.specs.Store.{placesWords}
 use Rattle.meaning.specs.Calls.{Ran, WithStore, openOf, runLent}
 use Rattle.meaning.specs.Fresh.{Moving, moving, FreshRan, freshFrom, freshLent}
-use Rattle.meaning.specs.Examples.{everything, Row, p1, modelA}
+use Rattle.meaning.specs.Examples.{everything, Row, p1, modelA, output}
+use Rattle.meaning.specs.Print.{printed}
 use Rattle.meaning.specs.Telling.{holds, both, tests1, act, rule, fact, model, bufferWords, row, one}
 
 -- ---- chunks of type 1, a store full of others, and a run in words: its number, its steps, and each chunk that it leaves in the store, by three words
@@ -53,13 +54,20 @@ runs m n s store =
 abbrev twoTimes : List ℕ → List ℕ
 twoTimes ws = ws ++ ws
 
--- how many chunks the run leaves, with its number and its steps
-abbrev counted : Run Going → List ℕ
-counted r = r .number ∷ length (r .events) ∷ size (r .left .store) ∷ []
+-- of both runs the number, the steps, and how many chunks are left
+abbrev counts : Model → ℕ → State → Option (List Chunk) → List ℕ
+counts m n s store =
+    let k : Run Going = kept m n s store in
+    let a : Run Moving = alone m n s store in
+    (k .number ∷ length (k .events) ∷ size (k .left .store) ∷ []) ++ (a .number ∷ length (a .events) ∷ size (a .left .store) ∷ [])
   where
     size : Option (List Chunk) → ℕ
     size none = 999
     size (some cs) = length cs
+
+-- what both runs leave in a buffer
+abbrev leaves : ℕ → Model → ℕ → State → Option (List Chunk) → List ℕ
+leaves b m n s store = bufferWords (bufferOf (kept m n s store .left .state) b) ++ bufferWords (bufferOf (alone m n s store .left .state) b)
 
 -- ---- rules that test buffer 0 for type 1, with these actions
 
@@ -78,6 +86,10 @@ six = Symbol 6
 
 abbrev clearsAndAsks : Rule
 clearsAndAsks = does (act 0 Clear ∷ act 1 (Request 1 (one six)) ∷ [])
+
+-- writes 6 into slot 0 of buffer 0, and clears buffer 1 in the same step
+abbrev modifiesAndClears : Rule
+modifiesAndClears = rule (pos 0) (tests1 0 [] ∷ tests1 1 [] ∷ []) (act 0 (Modify (one six)) ∷ act 1 Clear ∷ [])
 
 -- asks for it once buffer 0 is empty
 abbrev asksWhenEmpty : Rule
@@ -122,8 +134,20 @@ placed ws = 1 ∷ take 9 (ws ++ replicate 9 0) ++ replicate 2295 77
 abbrev calledOf : WithStore Ran → List ℕ
 calledOf r = r .answer .number ∷ r .answer .made ∷ r .answer .state .clock ∷ length (r .store) ∷ take 30 (r .store) ++ drop 2304 (r .store)
 
+-- an image that clears a chunk and then asks for it, packed from this text: "failure latency 70", "type task", "type thing colour", "buffer goal task",
+-- "buffer retrieval thing colour red", "rule forget": "=retrieval> thing", "==>", "-retrieval>",
+-- "rule recall": "=goal> task", "=retrieval> chunk", "==>", "-goal>", "+retrieval> thing colour red"
+unfoldable forgets : List ℕ
+forgets =
+    0x01 ∷ 0x20 ∷ 0x80 ∷ 0x40 ∷ 0x00 ∷ 0x02 ∷ 0x30 ∷ 0x08 ∷ 0x21 ∷ 0x00 ∷ 0x08 ∷ 0x00 ∷ 0x00 ∷ 0x88 ∷ 0x10
+    ∷ 0x80 ∷ 0x0c ∷ 0x00 ∷ 0x00 ∷ 0x44 ∷ 0x00 ∷ 0x10 ∷ 0x02 ∷ 0x00 ∷ 0x00 ∷ 0x8a ∷ 0x14 ∷ 0x00 ∷ 0x00 ∷ 0x40 ∷ []
+
+-- model A ends by 9 after 7 steps, at 550 ms, and knows the goal that its last rule cleared
+abbrev aLearned : List ℕ
+aLearned = 9 ∷ 7 ∷ 550 ∷ 2305 ∷ 1 ∷ 2 ∷ 3 ∷ 3 ∷ replicate 6 0 ++ replicate 21 77
+
 unfoldable pub rows : List Row
-unfolding everything p1 modelA wordsOf
+unfolding everything p1 modelA wordsOf forgets
 rows =
     -- "When a clear action empties a visible buffer holding another chunk than nil, that chunk joins the store"
     row (runs (model [] (clears ∷ [])) 9 goal (some [])) (twoTimes (9 ∷ 1 ∷ 1 ∷ 6 ∷ 7 ∷ []))
@@ -134,6 +158,9 @@ rows =
     ∷ row (runs (model [] (clearsBoth ∷ [])) 1 goal (some [])) (twoTimes (0 ∷ 1 ∷ 1 ∷ 6 ∷ 7 ∷ []))
     ∷ row (runs (model [] (does (act 0 (Request 1 []) ∷ []) ∷ [])) 1 goal (some [])) (twoTimes (0 ∷ 1 ∷ []))
     ∷ row (runs (model [] (does (act 0 (Modify (one six)) ∷ []) ∷ [])) 1 goal (some [])) (twoTimes (0 ∷ 1 ∷ []))
+    -- a modify, and a request, that replace a chunk in the step in which another is cleared: what was cleared joins, and that alone
+    ∷ row (runs (model [] (modifiesAndClears ∷ [])) 1 (both (holds 4 7 0) (holds 8 9 0)) (some [])) (twoTimes (0 ∷ 1 ∷ 1 ∷ 8 ∷ 9 ∷ []))
+    ∷ row (runs (model [] (clearsAndAsks ∷ [])) 1 (both (holds 6 7 0) (holds 8 9 0)) (some [])) (twoTimes (0 ∷ 1 ∷ 1 ∷ 6 ∷ 7 ∷ []))
     -- "visible .. before the step": a chunk that would have arrived within the 50 ms
     ∷ row (runs (model [] (clearsBoth ∷ [])) 1 (both (holds 6 7 0) (holds 8 9 50)) (some [])) (twoTimes (0 ∷ 1 ∷ 1 ∷ 6 ∷ 7 ∷ []))
     -- "unless a fact with the same type and slots stands in the image or the store": whatever its activation; one slot apart is another chunk
@@ -144,28 +171,31 @@ rows =
     ∷ row (runs (model [] (clearsBoth ∷ [])) 1 alike (some [])) (twoTimes (0 ∷ 1 ∷ 1 ∷ 6 ∷ 7 ∷ []))
     ∷ row (runs (model [] (clearsBoth ∷ [])) 1 (both (holds 8 9 0) (holds 6 7 0)) (some (pair 5 5 ∷ []))) (twoTimes (0 ∷ 1 ∷ 1 ∷ 5 ∷ 5 ∷ 1 ∷ 8 ∷ 9 ∷ 1 ∷ 6 ∷ 7 ∷ []))
     -- cleared and then retrieved: "with activation 0 and latency 50 ms"; with nothing lent the request fails
-    ∷ row (bufferWords (bufferOf (kept (model [] (clears ∷ asksWhenEmpty ∷ [])) 2 goal (some []) .left .state) 1)) (1 ∷ 6 ∷ 7 ∷ 50 ∷ [])
-    ∷ row (bufferWords (bufferOf (kept (model [] (clears ∷ asksWhenEmpty ∷ [])) 2 goal none .left .state) 1)) (0 ∷ 0 ∷ 0 ∷ 70 ∷ [])
+    ∷ row (leaves 1 (model [] (clears ∷ asksWhenEmpty ∷ [])) 2 goal (some [])) (twoTimes (1 ∷ 6 ∷ 7 ∷ 50 ∷ []))
+    ∷ row (leaves 1 (model [] (clears ∷ asksWhenEmpty ∷ [])) 2 goal none) (twoTimes (0 ∷ 0 ∷ 0 ∷ 70 ∷ []))
     -- "Requests in the same step read the memory as before it": the failure latency
-    ∷ row (bufferWords (bufferOf (kept (model [] (clearsAndAsks ∷ [])) 1 goal (some []) .left .state) 1)) (0 ∷ 0 ∷ 0 ∷ 70 ∷ [])
+    ∷ row (leaves 1 (model [] (clearsAndAsks ∷ [])) 1 goal (some [])) (twoTimes (0 ∷ 0 ∷ 0 ∷ 70 ∷ []))
     -- "image facts, then store facts numbered after them": of equal activation the image's is found; a learned one by its higher number not
-    ∷ row (bufferWords (bufferOf (kept (model (fact 6 8 0 10 ∷ []) (asksWhenEmpty ∷ [])) 1 (both (nilAfter 0) (nilAfter 0)) (some (pair 6 9 ∷ [])) .left .state) 1))
-    (1 ∷ 6 ∷ 8 ∷ 10 ∷ [])
+    ∷ row (leaves 1 (model (fact 6 8 0 10 ∷ []) (asksWhenEmpty ∷ [])) 1 (both (nilAfter 0) (nilAfter 0)) (some (pair 6 9 ∷ []))) (twoTimes (1 ∷ 6 ∷ 8 ∷ 10 ∷ []))
     -- of two learned ones the first
-    ∷ row (bufferWords (bufferOf (kept (model [] (asksWhenEmpty ∷ [])) 1 (both (nilAfter 0) (nilAfter 0)) (some (pair 6 9 ∷ pair 6 7 ∷ [])) .left .state) 1)) (1 ∷ 6 ∷ 9 ∷ 50 ∷ [])
+    ∷ row (leaves 1 (model [] (asksWhenEmpty ∷ [])) 1 (both (nilAfter 0) (nilAfter 0)) (some (pair 6 9 ∷ pair 6 7 ∷ []))) (twoTimes (1 ∷ 6 ∷ 9 ∷ 50 ∷ []))
     -- "14, a step whose new facts would make more than 256": 255 and one; 256 and one; 256 and a known one; 255 and two; 255 and two alike
-    ∷ row (counted (kept (model [] (clears ∷ [])) 1 goal (some (many 255)))) (0 ∷ 1 ∷ 256 ∷ [])
-    ∷ row (counted (kept (model [] (clears ∷ [])) 1 goal (some (many 256)))) (14 ∷ 0 ∷ 256 ∷ [])
-    ∷ row (counted (kept (model [] (clears ∷ [])) 1 (both (holds 100 1 0) (nilAfter 0)) (some (many 256)))) (0 ∷ 1 ∷ 256 ∷ [])
-    ∷ row (counted (kept (model [] (clearsBoth ∷ [])) 1 (both (holds 6 7 0) (holds 8 9 0)) (some (many 255)))) (14 ∷ 0 ∷ 255 ∷ [])
-    ∷ row (counted (kept (model [] (clearsBoth ∷ [])) 1 alike (some (many 255)))) (0 ∷ 1 ∷ 256 ∷ [])
+    ∷ row (counts (model [] (clears ∷ [])) 1 goal (some (many 255))) (twoTimes (0 ∷ 1 ∷ 256 ∷ []))
+    ∷ row (counts (model [] (clears ∷ [])) 1 goal (some (many 256))) (twoTimes (14 ∷ 0 ∷ 256 ∷ []))
+    ∷ row (counts (model [] (clears ∷ [])) 1 (both (holds 100 1 0) (nilAfter 0)) (some (many 256))) (twoTimes (0 ∷ 1 ∷ 256 ∷ []))
+    ∷ row (counts (model [] (clearsBoth ∷ [])) 1 (both (holds 6 7 0) (holds 8 9 0)) (some (many 255))) (twoTimes (14 ∷ 0 ∷ 255 ∷ []))
+    ∷ row (counts (model [] (clearsBoth ∷ [])) 1 alike (some (many 255))) (twoTimes (0 ∷ 1 ∷ 256 ∷ []))
     -- "after 8 and like 8 in all it leaves": of both it is 8; the clock and the chunk are as they were
-    ∷ row (counted (kept (model [] (clears ∷ [])) 1 (at 4294967246 goal) (some (many 256)))) (8 ∷ 0 ∷ 256 ∷ [])
+    ∷ row (counts (model [] (clears ∷ [])) 1 (at 4294967246 goal) (some (many 256))) (twoTimes (8 ∷ 0 ∷ 256 ∷ []))
+    ∷ row (leaves 0 (model [] (clears ∷ [])) 1 goal (some (many 256))) (twoTimes (1 ∷ 6 ∷ 7 ∷ 0 ∷ []))
     ∷ row
-    (kept (model [] (clears ∷ [])) 1 goal (some (many 256)) .left .state .clock
-    ∷ bufferWords (bufferOf (kept (model [] (clears ∷ [])) 1 goal (some (many 256)) .left .state) 0)) (1000 ∷ 1 ∷ 6 ∷ 7 ∷ 0 ∷ [])
+    (kept (model [] (clears ∷ [])) 1 goal (some (many 256)) .left .state .clock ∷ alone (model [] (clears ∷ [])) 1 goal (some (many 256)) .left .state .clock ∷ [])
+    (1000 ∷ 1000 ∷ [])
     -- the calls: model A's lines are the same, and it remembers the goal that its last rule clears; the places past the count stay
-    ∷ row (calledOf (aLent 1 (wordsOf 0 []))) (9 ∷ 7 ∷ 550 ∷ 2305 ∷ 1 ∷ 2 ∷ 3 ∷ 3 ∷ replicate 6 0 ++ replicate 21 77)
+    ∷ row (calledOf (aLent 1 (wordsOf 0 []))) aLearned
+    -- the word's lowest bit says it, whatever the others are
+    ∷ row (calledOf (aLent 3 (wordsOf 0 []))) aLearned
+    ∷ row (calledOf (aLent 65535 (wordsOf 0 []))) aLearned
     -- where the word does not say 1 the words are nothing to the call, whatever they are
     ∷ row (calledOf (aLent 0 (5 ∷ 6 ∷ []))) (9 ∷ 7 ∷ 550 ∷ 2 ∷ 5 ∷ 6 ∷ [])
     ∷ row (calledOf (aLent 2 (5 ∷ 6 ∷ []))) (9 ∷ 7 ∷ 550 ∷ 2 ∷ 5 ∷ 6 ∷ [])
@@ -185,6 +215,13 @@ rows =
     ∷ row (runLent p1 goal [] 1 1 [] .answer .number ∷ runLent (take 7 p1) goal [] 1 1 [] .answer .number ∷ runLent p1 goal (0 ∷ []) 1 1 [] .answer .number ∷ []) (6 ∷ 2 ∷ 5 ∷ [])
     -- "Run with 0 steps asked answers 0 after checks 1 to 6", and 15
     ∷ row (runLent p1 zeroState [] 0 1 [] .answer .number ∷ runLent p1 zeroState [] 0 1 (wordsOf 0 []) .answer .number ∷ []) (15 ∷ 0 ∷ [])
+    -- "The printing program lends an empty store, so a printed run learns": what was cleared is there after 50 ms, and is cleared again
+    ∷ row (output (printed forgets)) (
+    1 ∷ 50 ∷ 0
+    ∷ 1 ∷ 100 ∷ 1
+    ∷ 2 ∷ 150 ∷ 50
+    ∷ 1 ∷ 200 ∷ 0
+    ∷ 3 ∷ 9 ∷ 4 ∷ [])
     ∷ []
 
 -- every row's two sides are the same
