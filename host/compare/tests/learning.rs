@@ -380,3 +380,23 @@ fn model_a_prints_the_same_lines_and_learns_its_goal() {
     // The goal holds count 3, 3 when it is cleared.
     assert!(left == store(&[(2, 3, 3)]));
 }
+
+/// The first rule clears a chunk and the second asks for it. The printing program lends an empty store: it comes back, 50 ms later,
+/// and is cleared again. With nothing lent there would be nil, after the 70 ms of a failure.
+#[test]
+fn a_printed_run_learns() {
+    let forget =
+        RuleSpec { tests: vec![TestSpec::new(1, 2, &[])], actions: vec![ActionSpec::clear(1)], ..RuleSpec::default() };
+    let recall = RuleSpec {
+        tests: vec![TestSpec::new(0, 1, &[]), TestSpec::new(1, 0, &[])],
+        actions: vec![ActionSpec::clear(0), ActionSpec::request(1, 2, &[(0, Term::Symbol(1))])],
+        ..RuleSpec::default()
+    };
+    let opening = vec![ChunkSpec::new(1, &[]), ChunkSpec::new(2, &[1])];
+    let rules = vec![forget, recall];
+    let image = pack(&ModelSpec { failure: 70, types: vec![0, 1], opening, rules, ..ModelSpec::default() });
+    for engine in BOTH {
+        let printed = (engine.print)(&image);
+        assert_eq!(printed, "50 fire 0\n100 fire 1\n150 wait 50\n200 fire 0\nend 9 4\n", "{}", engine.name);
+    }
+}
