@@ -17,8 +17,7 @@ use Rattle.laws.specs.StoreLaws.{extend, Grows, run-grows}
 use Rattle.layout.specs.StateWords.{buffersIn, stateIn}
 use Rattle.layout.specs.declared.Plan.{Plan}
 use Rattle.layout.specs.Plans.{modelOn}
-use Rattle.layout_state.specs.Words.{wellIn}
-use Rattle.layout_state.proofs.ValueLaws.{state-is, well-by}
+use Rattle.layout_state.proofs.ValueLaws.{state-is}
 use Rattle.step_run.specs.declared.Went.{Went}
 use Rattle.step_learn.specs.Knows.{Knows, Stored}
 use Rattle.step_note.specs.Events.{inscribed, Tells}
@@ -28,6 +27,7 @@ use Rattle.call_accept.specs.declared.Taken.the-variants as taken
 use Rattle.call_accept.specs.Acceptance.{settled, TakenMet}
 use Rattle.call_accept.proofs.TakenLaws.{place-settled, by-refused, by-accepted}
 use Rattle.call_store.specs.Lending.{lentIf}
+use Rattle.call_store.proofs.AdmitLaws.{Unfit, ill, misfit}
 use Rattle.call_run.specs.declared.RunDone.{RunDone}
 use Rattle.call_run.specs.Answers.{RunMet, ranBack, withStore, ranInto}
 
@@ -95,32 +95,25 @@ module _ (went : Went) (m : Model) (store : Option (List Chunk)) (w w′ : List 
   pub left-known : Knows (went .plan) tape′ m (extend store (left-grows .0))
   left-known = rw (left-grows .1) at (met .knows)
 
--- ---- of a model with these buffers and types, whose state stands in the words w
+-- ---- of a model whose state stands in the words w
 
-module _ (s : State) (table : List ℕ) (steps : ℕ) (m : Model) (types : List ℕ) (buffers : ℕ) (w : List ℕ) (well : Bool)
-    (judged : well ≡ wellIn types buffers w) (stands : buffersIn w ≡ s .buffers) (eb : m .buffers ≡ buffers) (et : m .types ≡ types) (lent : Bool) (store : List ℕ) where
-  formed : (x : Bool) → well ≡ x → wellFormed m s ≡ x
-  formed x g = well-by m types buffers w s eb et stands well x judged g
+module _ (s : State) (table : List ℕ) (steps : ℕ) (m : Model) (w : List ℕ) (stands : buffersIn w ≡ s .buffers) (lent : Bool) (store : List ℕ) where
+  -- refused before its first step
+  pub run-unfit : (n : ℕ) → Unfit m s (lentIf lent store) n → (r : RunDone) → r ≡ done n 0 s 0 → (noted : List ℕ) → RunMet r (Got m 0) s table table steps noted noted lent store store
+  run-unfit n (ill g) r e noted = rw (e, g) (nothing-done 6 0 s table noted store)
+  run-unfit n (misfit g f) r e noted = rw (e, g, f) (nothing-done 15 0 s table noted store)
 
-  pub run-ill : well ≡ false → (r : RunDone) → r ≡ done 6 0 s 0 → (noted : List ℕ) → RunMet r (Got m 0) s table table steps noted noted lent store store
-  run-ill g r e noted = rw (e, formed false g) (nothing-done 6 0 s table noted store)
-
-  module _ (g : well ≡ true) where
-    pub run-misfit : storeFits (m .types) (lentIf lent store) ≡ false → (r : RunDone) → r ≡ done 15 0 s 0 → (noted : List ℕ)
-        → RunMet r (Got m 0) s table table steps noted noted lent store store
-    run-misfit f r e noted = rw (e, formed true g, f) (nothing-done 15 0 s table noted store)
-
-    pub run-went : storeFits (m .types) (lentIf lent store) ≡ true → (went : Went) (after : State) (w′ table′ noted noted′ tape′ store′ : List ℕ)
-        → after ≡ stateIn w′ (went .clock)
-        → (met : WentMet went m (storeOf (lentIf lent store)) w w′ (s .clock) table table′ steps noted noted′ tape′)
-        → store′ ≡ storeLeft store (extend (storeOf (lentIf lent store)) (left-grows went m _ w w′ (s .clock) table table′ steps noted noted′ tape′ met .0))
-        → RunMet (done (went .number) 0 after (went .made)) (Got m 0) s table table′ steps noted noted′ lent store store′
-    run-went f went after w′ table′ noted noted′ tape′ store′ e met back =
-        let here = state-is w s stands in
-        let grown = left-grows went m _ w w′ (s .clock) table table′ steps noted noted′ tape′ met in
-        let kept = back ∙ ap (storeLeft store) (sym (grown .1) ∙ left-is went m _ w w′ (s .clock) table table′ steps noted noted′ tape′ met) in
-        let answer = ap (λ (x : Stored Ran). x .answer) (met .tells .is-run) in
-        let whole : Tells (ranInto 0 store) (withStore (done (went .number) 0 after (went .made)) table′ store′)
-        (runFrom m steps (going (stateIn w (s .clock)) table (storeOf (lentIf lent store)))) noted noted′ =
-        record { is-run = rw e (ap₂ (λ (a : Ran) (l : List ℕ). record { answer = a; store = l }) answer kept); events = met .tells .events } in
-        rw (formed true g, f) (rw here at whole)
+  pub run-went : wellFormed m s ≡ true → storeFits (m .types) (lentIf lent store) ≡ true → (went : Went) (after : State) (w′ table′ noted noted′ tape′ store′ : List ℕ)
+      → after ≡ stateIn w′ (went .clock)
+      → (met : WentMet went m (storeOf (lentIf lent store)) w w′ (s .clock) table table′ steps noted noted′ tape′)
+      → store′ ≡ storeLeft store (extend (storeOf (lentIf lent store)) (left-grows went m _ w w′ (s .clock) table table′ steps noted noted′ tape′ met .0))
+      → RunMet (done (went .number) 0 after (went .made)) (Got m 0) s table table′ steps noted noted′ lent store store′
+  run-went g f went after w′ table′ noted noted′ tape′ store′ e met back =
+      let here = state-is w s stands in
+      let grown = left-grows went m _ w w′ (s .clock) table table′ steps noted noted′ tape′ met in
+      let kept = back ∙ ap (storeLeft store) (sym (grown .1) ∙ left-is went m _ w w′ (s .clock) table table′ steps noted noted′ tape′ met) in
+      let answer = ap (λ (x : Stored Ran). x .answer) (met .tells .is-run) in
+      let whole : Tells (ranInto 0 store) (withStore (done (went .number) 0 after (went .made)) table′ store′)
+      (runFrom m steps (going (stateIn w (s .clock)) table (storeOf (lentIf lent store)))) noted noted′ =
+      record { is-run = rw e (ap₂ (λ (a : Ran) (l : List ℕ). record { answer = a; store = l }) answer kept); events = met .tells .events } in
+      rw (g, f) (rw here at whole)

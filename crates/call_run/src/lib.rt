@@ -26,8 +26,7 @@ use layout::STORE_TAPE;
 use match_beds::LARGE_SETS;
 use match_beds::SMALL_SETS;
 use meaning::State;
-use meaning::numbers::BAD_STORE;
-use meaning::numbers::ILL_FORMED;
+use meaning::numbers::ALL_DONE;
 use step_run::Went;
 
 // What run answers: the number, the position of the refused field if there is one, else 0, the state, and the steps made.
@@ -103,16 +102,11 @@ fn run_for(
 {
     let state = asked.state;
     let mut now = [0u16; STATE_WORDS];
-    layout_state::lay_state(state, &mut now);
-    let end = plan.declared as usize + 1;
-    if !layout_state::well_formed(&now, &tape[..end], plan.buffers as usize) {
-        return no_run(ILL_FORMED, 0, state);
+    let admitted = call_store::admit(state, &mut now, store, plan, tape);
+    if admitted.number != ALL_DONE {
+        return no_run(admitted.number, 0, state);
     }
-    let taken = call_store::take_in(store, plan, tape);
-    if !taken.fits {
-        return no_run(BAD_STORE, 0, state);
-    }
-    let known = taken.plan;
+    let known = admitted.plan;
     let steps = asked.steps;
     let went = set_out(
         &mut now,

@@ -1,2 +1,3 @@
 -- Laws of a store that is lent.
 pub mod LendLaws
+pub mod AdmitLaws

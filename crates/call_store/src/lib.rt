@@ -1,18 +1,30 @@
-// A store that is lent to a run: looked at and laid on the tape before it, and given back after it. Where none is lent, nothing is read or written.
+// What a run is handed besides its image: the state, judged and laid out in words, and a store that is lent, judged and laid on the tape before it, and given back after it.
+// Where no store is lent, none is read or written.
 ghost use mathlib.Core.Path.{_≡_};
 ghost use mathlib.Core.Bool.{true};
 ghost use mathlib.Core.Option.{some};
+ghost use Prim.Native.Nat.{_≤_};
 ghost use lib.ListN.{length};
 ghost use Rattle.meaning.specs.Base.{if_then_else_};
 ghost use Rattle.meaning.specs.Store.{storeLeft};
 ghost use Rattle.layout.specs.Plans.{placesFor, Planned};
 ghost use Rattle.store_words.specs.Loads.{learnedOn};
-ghost use Rattle.call_store.specs.Lending.{TakenIn, Backing};
+ghost use Rattle.call_store.specs.Lending.{TakenIn, Admits, Backing};
 use layout::Plan;
+use meaning::State;
+use meaning::numbers::ALL_DONE;
+use meaning::numbers::BAD_STORE;
+use meaning::numbers::ILL_FORMED;
 use store_words::Loaded;
 
+// The number by which a run is refused before its first step, 0 if by none; and then the plan that knows the facts of a store, if one is lent.
+pub struct Admitted {
+    pub number: u8,
+    pub plan: Plan,
+}
+
 // Takes a store, if the plan says that one is lent: whether the image can have it, and the plan that knows its facts.
-pub fn take_in(store: &[u16], plan: Plan, tape: &mut [u16]) -> Loaded
+fn take_in(store: &[u16], plan: Plan, tape: &mut [u16]) -> Loaded
     requires { ⌜ Planned plan (now tape) × (plan .places ≡ placesFor (plan .facts) (plan .learns)) ⌝ }
     ensures { λ r. ⌜ TakenIn r plan (now (tape .entry)) (now (tape .exit)) (now (store .entry)) ⌝ }
 {
@@ -22,6 +34,39 @@ pub fn take_in(store: &[u16], plan: Plan, tape: &mut [u16]) -> Loaded
     Loaded {
         fits: true,
         plan: plan,
+    }
+}
+
+// Lays a state into words, and looks at what is left to refuse once an image is accepted: the state (6), and then the store, if the plan says that one is lent (15).
+pub fn admit(
+    state: State,
+    words: &mut [u16],
+    store: &[u16],
+    plan: Plan,
+    tape: &mut [u16],
+) -> Admitted
+    requires { ⌜ Planned plan (now tape) × (plan .places ≡ placesFor (plan .facts) (plan .learns)) × (80 ≤ length (now words)) ⌝ }
+    ensures { λ r. ⌜ Admits r plan (now (tape .entry)) (now (tape .exit)) state (now (words .exit)) (now (store .entry)) ⌝ }
+{
+    layout_state::lay_state(state, words);
+    let end = plan.declared as usize + 1;
+    if !layout_state::well_formed(words, &tape[..end], plan.buffers as usize) {
+        return Admitted {
+            number: ILL_FORMED,
+            plan: plan,
+        };
+    }
+    let taken = take_in(store, plan, tape);
+    let known = taken.plan;
+    if !taken.fits {
+        return Admitted {
+            number: BAD_STORE,
+            plan: known,
+        };
+    }
+    Admitted {
+        number: ALL_DONE,
+        plan: known,
     }
 }
 

@@ -21,14 +21,14 @@ use Rattle.layout.specs.declared.Plan.{Plan}
 use Rattle.layout.specs.Plans.{modelOn}
 use Rattle.layout.specs.StateWords.{buffersIn, stateIn}
 use Rattle.layout.proofs.WalkLaws.{answer-bad, answer-next}
-use Rattle.layout_state.specs.Words.{wellIn}
-use Rattle.layout_state.proofs.ValueLaws.{state-is, well-by}
+use Rattle.layout_state.proofs.ValueLaws.{state-is}
 use Rattle.read_image.specs.Whole.{LaidOut}
 use Rattle.step_learn.specs.Knows.{Knows, Stored}
 use Rattle.step_note.specs.Events.{inscribed, Tells}
 use Rattle.fresh_run.specs.declared.Went.{Went}
 use Rattle.fresh_run.specs.Went.{WentMet}
 use Rattle.call_store.specs.Lending.{lentIf}
+use Rattle.call_store.proofs.AdmitLaws.{Unfit, ill, misfit}
 use Rattle.fresh_call.specs.declared.FreshDone.{FreshDone}
 use Rattle.fresh_call.specs.Answers.{FreshMet, freshBack, withStore, freshInto}
 
@@ -88,31 +88,24 @@ module _ (went : Went) (m : Model) (store : Option (List Chunk)) (w w′ : List 
   pub left-known : Knows (went .plan) tape′ m (extend store (left-grows .0))
   left-known = rw (left-grows .1) at (met .knows)
 
--- ---- of a model with these buffers and types, whose state stands in the words w
+-- ---- of a model whose state stands in the words w
 
-module _ (s : State) (steps : ℕ) (m : Model) (types : List ℕ) (buffers : ℕ) (w : List ℕ) (well : Bool)
-    (judged : well ≡ wellIn types buffers w) (stands : buffersIn w ≡ s .buffers) (eb : m .buffers ≡ buffers) (et : m .types ≡ types) (lent : Bool) (store : List ℕ) where
-  formed : (x : Bool) → well ≡ x → wellFormed m s ≡ x
-  formed x g = well-by m types buffers w s eb et stands well x judged g
+module _ (s : State) (steps : ℕ) (m : Model) (w : List ℕ) (stands : buffersIn w ≡ s .buffers) (lent : Bool) (store : List ℕ) where
+  -- refused before its first step
+  pub fresh-unfit : (n : ℕ) → Unfit m s (lentIf lent store) n → (r : FreshDone) → r ≡ done n 0 s 0 → (noted : List ℕ) → FreshMet r (Got m 0) s steps noted noted lent store store
+  fresh-unfit n (ill g) r e noted = rw (e, g) (nothing-done 6 0 s noted store)
+  fresh-unfit n (misfit g f) r e noted = rw (e, g, f) (nothing-done 15 0 s noted store)
 
-  pub fresh-ill : well ≡ false → (r : FreshDone) → r ≡ done 6 0 s 0 → (noted : List ℕ) → FreshMet r (Got m 0) s steps noted noted lent store store
-  fresh-ill g r e noted = rw (e, formed false g) (nothing-done 6 0 s noted store)
-
-  module _ (g : well ≡ true) where
-    pub fresh-misfit : storeFits (m .types) (lentIf lent store) ≡ false → (r : FreshDone) → r ≡ done 15 0 s 0 → (noted : List ℕ)
-        → FreshMet r (Got m 0) s steps noted noted lent store store
-    fresh-misfit f r e noted = rw (e, formed true g, f) (nothing-done 15 0 s noted store)
-
-    pub fresh-went : storeFits (m .types) (lentIf lent store) ≡ true → (went : Went) (after : State) (w′ noted noted′ tape′ store′ : List ℕ) → after ≡ stateIn w′ (went .clock)
-        → (met : WentMet went m (storeOf (lentIf lent store)) w w′ (s .clock) steps noted noted′ tape′)
-        → store′ ≡ storeLeft store (extend (storeOf (lentIf lent store)) (left-grows went m _ w w′ (s .clock) steps noted noted′ tape′ met .0))
-        → FreshMet (done (went .number) 0 after (went .made)) (Got m 0) s steps noted noted′ lent store store′
-    fresh-went f went after w′ noted noted′ tape′ store′ e met back =
-        let here = state-is w s stands in
-        let grown = left-grows went m _ w w′ (s .clock) steps noted noted′ tape′ met in
-        let kept = back ∙ ap (storeLeft store) (sym (grown .1) ∙ left-is went m _ w w′ (s .clock) steps noted noted′ tape′ met) in
-        let answer = ap (λ (x : Stored FreshRan). x .answer) (met .tells .is-run) in
-        let whole : Tells (freshInto 0 store) (withStore (done (went .number) 0 after (went .made)) store′)
-        (freshFrom m steps (moving (stateIn w (s .clock)) (storeOf (lentIf lent store)))) noted noted′ =
-        record { is-run = rw e (ap₂ (λ (a : FreshRan) (l : List ℕ). record { answer = a; store = l }) answer kept); events = met .tells .events } in
-        rw (formed true g, f) (rw here at whole)
+  pub fresh-went : wellFormed m s ≡ true → storeFits (m .types) (lentIf lent store) ≡ true → (went : Went) (after : State) (w′ noted noted′ tape′ store′ : List ℕ) → after ≡ stateIn w′ (went .clock)
+      → (met : WentMet went m (storeOf (lentIf lent store)) w w′ (s .clock) steps noted noted′ tape′)
+      → store′ ≡ storeLeft store (extend (storeOf (lentIf lent store)) (left-grows went m _ w w′ (s .clock) steps noted noted′ tape′ met .0))
+      → FreshMet (done (went .number) 0 after (went .made)) (Got m 0) s steps noted noted′ lent store store′
+  fresh-went g f went after w′ noted noted′ tape′ store′ e met back =
+      let here = state-is w s stands in
+      let grown = left-grows went m _ w w′ (s .clock) steps noted noted′ tape′ met in
+      let kept = back ∙ ap (storeLeft store) (sym (grown .1) ∙ left-is went m _ w w′ (s .clock) steps noted noted′ tape′ met) in
+      let answer = ap (λ (x : Stored FreshRan). x .answer) (met .tells .is-run) in
+      let whole : Tells (freshInto 0 store) (withStore (done (went .number) 0 after (went .made)) store′)
+      (freshFrom m steps (moving (stateIn w (s .clock)) (storeOf (lentIf lent store)))) noted noted′ =
+      record { is-run = rw e (ap₂ (λ (a : FreshRan) (l : List ℕ). record { answer = a; store = l }) answer kept); events = met .tells .events } in
+      rw (g, f) (rw here at whole)

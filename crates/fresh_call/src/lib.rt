@@ -25,8 +25,7 @@ use layout::STATE_WORDS;
 use layout::STORE_TAPE;
 use layout::Walk;
 use meaning::State;
-use meaning::numbers::BAD_STORE;
-use meaning::numbers::ILL_FORMED;
+use meaning::numbers::ALL_DONE;
 
 // What a run with nothing kept answers: the number, the position of the refused field if there is one, else 0, the state, and the steps made.
 pub struct FreshDone {
@@ -87,16 +86,11 @@ fn run_for(
 {
     let state = asked.state;
     let mut now = [0u16; STATE_WORDS];
-    layout_state::lay_state(state, &mut now);
-    let end = plan.declared as usize + 1;
-    if !layout_state::well_formed(&now, &tape[..end], plan.buffers as usize) {
-        return no_run(ILL_FORMED, 0, state);
+    let admitted = call_store::admit(state, &mut now, store, plan, tape);
+    if admitted.number != ALL_DONE {
+        return no_run(admitted.number, 0, state);
     }
-    let taken = call_store::take_in(store, plan, tape);
-    if !taken.fits {
-        return no_run(BAD_STORE, 0, state);
-    }
-    let known = taken.plan;
+    let known = admitted.plan;
     let went = set_out(&mut now, state.clock, known, tape, asked.steps, events);
     call_store::give_back(store, plan, went.plan, tape);
     let after = layout_state::read_state(&now, went.clock);
