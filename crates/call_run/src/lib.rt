@@ -16,6 +16,7 @@ ghost use Rattle.step_learn.specs.Knows.{Knows};
 ghost use Rattle.step_run.specs.Went.{WentMet};
 ghost use Rattle.call_run.specs.Answers.{RunMet, ranBack, withStore};
 use call_accept::Taken;
+use call_store::Asked;
 use layout::LARGE_TAPE;
 use layout::MIDDLE_TAPE;
 use layout::Plan;
@@ -35,13 +36,6 @@ pub struct RunDone {
     pub position: usize,
     pub state: State,
     pub made: u16,
-}
-
-// What is asked: the state to run from, the steps at most, and whether a store is lent.
-struct Asked {
-    state: State,
-    steps: u16,
-    lent: bool,
 }
 
 // A refusal: the number and the position, the state as it was handed in, and no step made.

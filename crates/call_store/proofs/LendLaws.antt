@@ -1,25 +1,23 @@
 -- A store that is taken in is known, and what is known at the end is what is given back.
-use Prim.Native.Nat.{ℕ, _+_, _*_, _≤_}
+use Prim.Native.Nat.{ℕ, _+_, _≤_}
 use mathlib.Core.Path.{_≡_, refl, sym, ap, _∙_, subst}
 use mathlib.Core.Bool.{Bool, true, false, _&&_}
-use mathlib.Core.List.{List, [], _++_, map}
-use mathlib.Core.Option.{Option, none, some}
+use mathlib.Core.List.{List, _++_, map}
+use mathlib.Core.Option.{some}
 use native.Mathlib.Omega.{arith}
 use borrow.Author.Tests.{eqb-true, leb-true}
 use lib.Dec.{eqb, leb}
-use lib.ListN.{length, getD, take, length-append, length-map}
+use lib.ListN.{length, getD, length-append, length-map}
 use Rattle.meaning.specs.Base.{if_then_else_, every}
 use Rattle.meaning.specs.Model.{Model, Chunk, Fact}
 use Rattle.meaning.specs.Mark.{isSome}
-use Rattle.meaning.specs.Learning.{learned, knowing}
+use Rattle.meaning.specs.Learning.{learned}
 use Rattle.meaning.specs.Store.{storeIn, holdable, storeFits, storeOf, storeLeft}
 use Rattle.laws.specs.BaseLaws.{no-true, and-left, and-right}
 use Rattle.laws.specs.StoreLaws.{extend}
 use Rattle.layout.specs.declared.Plan.{Plan}
-use Rattle.layout.specs.Rows.{factIn}
-use Rattle.layout.specs.Plans.{placesFor, typesOn, factsOn, modelOn, Planned}
+use Rattle.layout.specs.Plans.{placesFor, factsOn, modelOn, Planned}
 use Rattle.layout.specs.Growth.{withMore, Extended}
-use Rattle.layout.proofs.RowLaws.{rows-length}
 use Rattle.step_learn.specs.Knows.{Knows}
 use Rattle.store_words.specs.declared.Loaded.{Loaded}
 use Rattle.store_words.specs.Loads.{LoadMet, learnedOn}

@@ -17,6 +17,13 @@ use meaning::numbers::BAD_STORE;
 use meaning::numbers::ILL_FORMED;
 use store_words::Loaded;
 
+// What is asked of a run: the state to run from, the steps at most, and whether a store is lent.
+pub struct Asked {
+    pub state: State,
+    pub steps: u16,
+    pub lent: bool,
+}
+
 // The number by which a run is refused before its first step, 0 if by none; and then the plan that knows the facts of a store, if one is lent.
 pub struct Admitted {
     pub number: u8,

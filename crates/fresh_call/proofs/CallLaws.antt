@@ -1,7 +1,7 @@
 -- A run by what was decoded, and of a model that stands in words, with a store if one is lent.
 use Prim.Native.Nat.{ℕ}
 use mathlib.Core.Path.{_≡_, refl, sym, ap, ap₂, _∙_, subst}
-use mathlib.Core.Bool.{Bool, true, false}
+use mathlib.Core.Bool.{Bool, true}
 use mathlib.Core.List.{List}
 use mathlib.Core.Option.{Option, none}
 use Rattle.meaning.specs.declared.State.{State}
@@ -10,10 +10,10 @@ use Rattle.meaning.specs.Model.{Model, Chunk}
 use Rattle.meaning.specs.State.{wellFormed}
 use Rattle.meaning.specs.Read.{Read, Refused, Got}
 use Rattle.meaning.specs.Image.{decode}
-use Rattle.meaning.specs.Run.{Run, ends}
+use Rattle.meaning.specs.Run.{ends}
 use Rattle.meaning.specs.Store.{lentBy, storeFits, storeOf, storeLeft}
 use Rattle.meaning.specs.Calls.{WithStore}
-use Rattle.meaning.specs.Fresh.{Moving, moving, FreshRan, freshFrom, freshTraceLent, freshLent, freshTraceOf, freshOf}
+use Rattle.meaning.specs.Fresh.{moving, FreshRan, freshFrom, freshTraceLent, freshLent, freshTraceOf, freshOf}
 use Rattle.laws.specs.StoreLaws.{extend, Grows, fresh-grows}
 use Rattle.layout.specs.declared.Walk.{Walk}
 use Rattle.layout.specs.declared.Walk.the-variants.{Next, Bad}

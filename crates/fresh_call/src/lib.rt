@@ -15,6 +15,7 @@ ghost use Rattle.step_note.specs.Events.{inscribed};
 ghost use Rattle.step_learn.specs.Knows.{Knows};
 ghost use Rattle.fresh_run.specs.Went.{WentMet};
 ghost use Rattle.fresh_call.specs.Answers.{FreshMet, freshBack, withStore};
+use call_store::Asked;
 use fresh_run::Went;
 use layout::LARGE_TAPE;
 use layout::MIDDLE_TAPE;
@@ -33,13 +34,6 @@ pub struct FreshDone {
     pub position: usize,
     pub state: State,
     pub made: u16,
-}
-
-// What is asked: the state to run from, the steps at most, and whether a store is lent.
-struct Asked {
-    state: State,
-    steps: u16,
-    lent: bool,
 }
 
 // A refusal: the number and the position, the state as it was handed in, and no step made.

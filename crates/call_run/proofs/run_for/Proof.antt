@@ -15,7 +15,7 @@ use Rattle.step_run.specs.Went.{WentMet}
 use Rattle.call_store.specs.Lending.{lentIf}
 use Rattle.call_store.proofs.LendLaws.{backing, given-back}
 use Rattle.call_store.proofs.AdmitLaws.{taken-by, refused-by}
-use Rattle.call_run.proofs.RunLaws.{lent-same, left-grows, left-known, run-unfit, run-went}
+use Rattle.call_run.proofs.RunLaws.{lent-same, left-known, run-unfit, run-went}
 use borrow.Author.Needs.{needs}
 use Rattle.call_run.proofs.run_for.Statement.{statement}
 use Rattle.call_run.proofs.run_for.Tie as tie

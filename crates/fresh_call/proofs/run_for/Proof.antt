@@ -15,7 +15,7 @@ use Rattle.fresh_run.specs.Went.{WentMet}
 use Rattle.call_store.specs.Lending.{lentIf}
 use Rattle.call_store.proofs.LendLaws.{backing, given-back}
 use Rattle.call_store.proofs.AdmitLaws.{taken-by, refused-by}
-use Rattle.fresh_call.proofs.CallLaws.{lent-same, left-grows, left-known, fresh-unfit, fresh-went}
+use Rattle.fresh_call.proofs.CallLaws.{lent-same, left-known, fresh-unfit, fresh-went}
 use borrow.Author.Needs.{needs}
 use Rattle.fresh_call.proofs.run_for.Statement.{statement}
 use Rattle.fresh_call.proofs.run_for.Tie as tie
