@@ -31,7 +31,7 @@ module _ (p : Plan) (tape : List ℕ) (s : State) (w : List ℕ) (well : Bool) (
       record { judged = rw (formed false g) refl; stands = stands; planned = λ e. absurd (omega arith); rules = λ e. absurd (omega arith); knows = λ e. absurd (omega arith) }
 
   module _ (g : well ≡ true) (r : Loaded) (tape′ : List ℕ) (met : TakenIn r p tape tape′ store) where
-    pub not-taken : r .fits ≡ false → Admits (record { number = bad-store; plan = r .plan }) p tape tape′ s w store
+    pub not-taken : r .fits ≡ false → Admits (record { number = bad-store; plan = p }) p tape tape′ s w store
     unfolding modelOn
     not-taken f =
         let misfit : storeFits (typesOn p tape) (lentIf (p .learns) store) ≡ false = sym (met .judged) ∙ f in

@@ -1,3 +1,3 @@
--- Laws of a store that is lent.
+-- Laws of what a run is handed besides its image.
 pub mod LendLaws
 pub mod AdmitLaws

@@ -1,2 +1,2 @@
--- A store that is lent to a run.
+-- What a run is handed besides its image.
 pub mod Lending

@@ -17,7 +17,7 @@ use meaning::numbers::BAD_STORE;
 use meaning::numbers::ILL_FORMED;
 use store_words::Loaded;
 
-// What is asked of a run: the state to run from, the steps at most, and whether a store is lent.
+// What is asked of a run of either engine: the state to run from, the steps at most, and whether a store is lent.
 pub struct Asked {
     pub state: State,
     pub steps: u16,
@@ -64,13 +64,13 @@ pub fn admit(
         };
     }
     let taken = take_in(store, plan, tape);
-    let known = taken.plan;
     if !taken.fits {
         return Admitted {
             number: BAD_STORE,
-            plan: known,
+            plan: plan,
         };
     }
+    let known = taken.plan;
     Admitted {
         number: ALL_DONE,
         plan: known,

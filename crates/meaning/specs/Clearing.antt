@@ -203,7 +203,7 @@ rows =
     ∷ row (judged (take 2304 (wordsOf 0 []))) (15 ∷ 15 ∷ 1 ∷ [])
     ∷ row (judged (wordsOf 0 [] ++ (0 ∷ []))) (15 ∷ 15 ∷ 1 ∷ [])
     ∷ row (judged []) (15 ∷ 15 ∷ 1 ∷ [])
-    ∷ row (judged (wordsOf 257 [])) (15 ∷ 15 ∷ 1 ∷ [])
+    ∷ row (judged (257 ∷ drop 1 (wordsOf 0 (many 256)))) (15 ∷ 15 ∷ 1 ∷ [])
     -- "or a fact that the image could not hold": type 0, type 3 of two, 4,096, a value past the type's two slots; what it could hold; twice the same
     ∷ row (judged (placed (0 ∷ []))) (15 ∷ 15 ∷ 1 ∷ [])
     ∷ row (judged (placed (3 ∷ []))) (15 ∷ 15 ∷ 1 ∷ [])

@@ -1,5 +1,6 @@
 -- The published semantics as relations, close to its own text (D. Gall, T. Frühwirth, A Refined Operational Semantics for ACT-R), with the points
--- that document 01 and change requests 2026-01 and 2026-05 decide. No step, match or choice is computed here, nor what joins a store; that steps of `meaning` are these
+-- that document 01 and change requests 2026-01 and 2026-05 decide. No step, match or choice is computed here, nor what joins a store (but which deed
+-- stands on a buffer, and what nil is); that steps of `meaning` are these
 -- transitions says Semantics, and that its stores are these Remembering.
 use mathlib.Core.Path.{_≡_}
 use mathlib.Core.Bool.{true, false}

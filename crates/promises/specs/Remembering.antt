@@ -92,8 +92,10 @@ fresh-grows m n g cs is few =
 
 -- ---- "what is retrieved after a clear is the chunk that was cleared if nothing fits better"
 
--- a request, in a memory: the fact that is found has the chunk, or it is found before every fact that has it, of higher activation, or of the same and with a lower number
+-- a request, in a memory where the chunk stands: the fact that is found has the chunk, or it is found before every fact that has it, of higher activation, or of the same and
+-- with a lower number
 pub record Recalls (memory : List Fact) (c : Chunk) (isa : ℕ) (ns : List Named) (entry : List ℕ) : Type 0 where
+  pub stands : Stands memory c
   pub place : ℕ
   pub fact : Fact
   pub found : retrieve memory isa ns entry ≡ some fact
@@ -110,7 +112,7 @@ module _ (m : Model) (cs : List Chunk) (s : State) (k : ℕ) (c : Chunk) (clears
       let own : Stands later c =
       remembered.stands-on m c n g (subst (λ (store : Option (List Chunk)). Stands (knowing m store .facts) c) (sym after) (remembered.cleared-stands m cs s k c clears)) in
       let r = remembered.recalled later c own isa ns entry fits in
-      record { place = r .0; fact = r .1; found = r .2; fitting = r .3; own-or-better = r .4 }
+      record { stands = own; place = r .0; fact = r .1; found = r .2; fitting = r .3; own-or-better = r .4 }
 
   pub fresh-cleared-recalled : (g : Moving) → g .store ≡ storeAfter m s (Fired k) (some cs) → (isa : ℕ) (ns : List Named) (entry : List ℕ) → Fits (valuesIn entry) isa ns (learned c)
       → Recalls (knowing m (freshFrom m n g .left .store) .facts) c isa ns entry

@@ -93,6 +93,11 @@ module _ (image : List ℕ) (s : State) (table : List ℕ) (steps lent : ℕ) (w
     pub stored-refused : (n at : ℕ) → decode image ≡ Refused n at → (r .number ≡ n) × (stored ≡ words) × (stored′ ≡ words) × SameDone r r′
     stored-refused n at unread = alike.stored-refused image s table steps lent words r left stored r′ stored′ kept fresh n at unread
 
+    -- for a store that does not fit, beside a well-formed state, 15 from both, whatever table of the right length, and every word of the store stays;
+    pub stored-misfit : (m : Model) (end : ℕ) → decode image ≡ Got m end → wellFormed m s ≡ true → storeFits (m .types) (lentBy lent words) ≡ false
+        → length table ≡ 9 * length (m .rules) → (r .number ≡ bad-store) × (stored ≡ words) × (stored′ ≡ words) × SameDone r r′
+    stored-misfit m end accepted well bad long = alike.stored-misfit image s table steps lent words r left stored r′ stored′ kept fresh m end accepted well bad long
+
     -- and after a chain of kept runs, with any words lent, and refreshes, whatever table is held then, the same, and the same words of the store.
     pub stored-reached : Reached image s table → SameDone r r′ × (stored′ ≡ stored)
     stored-reached reached = alike.stored-reached image s table steps lent words r left stored r′ stored′ kept fresh reached
@@ -105,6 +110,17 @@ module _ (image : List ℕ) (s : State) (table : List ℕ) (steps lent : ℕ) (w
 
     pub stored-noted-reached : Reached image s table → noted′ ≡ noted
     stored-noted-reached reached = alike.noted-reached image s table steps (lentBy lent words) events noted noted′ kept fresh reached
+
+    -- For a refused image, a state that is not well formed, and a store that does not fit, each leaves every word as it was.
+    pub stored-noted-refused : (n at : ℕ) → decode image ≡ Refused n at → (noted ≡ events) × (noted′ ≡ events)
+    stored-noted-refused n at unread = alike.noted-refused image s table steps (lentBy lent words) events noted noted′ kept fresh n at unread
+
+    module _ (m : Model) (end : ℕ) (accepted : decode image ≡ Got m end) (long : length table ≡ 9 * length (m .rules)) where
+      pub stored-noted-unwell : wellFormed m s ≡ false → (noted ≡ events) × (noted′ ≡ events)
+      stored-noted-unwell ill = alike.noted-unwell image s table steps (lentBy lent words) events noted noted′ kept fresh m end accepted ill long
+
+      pub stored-noted-misfit : wellFormed m s ≡ true → storeFits (m .types) (lentBy lent words) ≡ false → (noted ≡ events) × (noted′ ≡ events)
+      stored-noted-misfit well bad = alike.noted-misfit image s table steps (lentBy lent words) events noted noted′ kept fresh m end accepted well bad long
 
 -- ---- the calls for C: any words for a state, well formed or not, each fitting its field or not, and any number of steps
 

@@ -26,7 +26,7 @@ abbrev looked : tie.After-take-in → tie.Else1
 looked c = c .before .before
 
 abbrev taken : tie.After-struct-known3 → tie.After-take-in
-taken c = c .before .before .before .before
+taken c = c .before .before .before
 
 -- as many types as are declared, and type 0
 declared : (c : tie.Start) → c .args .plan .declared + 1 ≤ length (c .args .tape .now)
@@ -97,13 +97,13 @@ same-length-6 c = search needs
 
 returns-3 : tie.Need-returns-3
 returns-3 c =
-    let t = taken (c .before) in
+    let t = taken (c .before .before) in
     let e = looked t in
     let j = e .before in
     let l = laid (argued j) in
     let a = start l .args in
     both-taken (a .plan) (a .tape .now) (a .state) _ (j .well-formed .result) (j .well-formed .ensures) (l .lay-state .ensures) (a .store .now) (not-false _ (e .if1 .left)) (t .take-in .result) _
-    (t .take-in .ensures) (not-false _ (c .if2 .left))
+    (t .take-in .ensures) (not-false _ (c .before .if2 .left))
 
 pub admit-spec : {M : Type 1} → statement M
 admit-spec =

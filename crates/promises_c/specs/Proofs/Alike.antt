@@ -165,6 +165,12 @@ module _ (image : List ℕ) (s : State) (table : List ℕ) (steps lent : ℕ) (w
     stored-unwell m end d ill l =
         ended ill-formed (kept-six image s table steps (lentBy lent words) m end d ill l) (fresh-six image s table steps (lentBy lent words) m end d ill)
 
+    pub stored-misfit : (m : Model) (end : ℕ) → decode image ≡ Got m end → wellFormed m s ≡ true → storeFits (m .types) (lentBy lent words) ≡ false
+        → length table ≡ 9 * length (m .rules) → (r .number ≡ bad-store) × (stored ≡ words) × (stored′ ≡ words) × SameDone r r′
+    stored-misfit m end d well bad l =
+        let o : Option (List ℕ) = lentBy lent words in
+        ended bad-store (kept-fifteen image s table steps o m end d well bad l) (fresh-fifteen image s table steps o m end d well bad)
+
     pub stored-refused : (n at : ℕ) → decode image ≡ Refused n at → (r .number ≡ n) × (stored ≡ words) × (stored′ ≡ words) × SameDone r r′
     stored-refused n at d = ended n (kept-refuses image s steps (lentBy lent words) n at d table) (fresh-refuses image s steps (lentBy lent words) n at d)
 
@@ -180,6 +186,11 @@ module _ (image : List ℕ) (s : State) (table : List ℕ) (steps : ℕ) (lent :
   pub noted-unwell : (m : Model) (end : ℕ) → decode image ≡ Got m end → wellFormed m s ≡ false → length table ≡ 9 * length (m .rules) → (noted ≡ events) × (noted′ ≡ events)
   noted-unwell m end d ill l =
       none-by image s table steps lent events noted noted′ kept fresh ill-formed (kept-six image s table steps lent m end d ill l) (fresh-six image s table steps lent m end d ill)
+
+  pub noted-misfit : (m : Model) (end : ℕ) → decode image ≡ Got m end → wellFormed m s ≡ true → storeFits (m .types) lent ≡ false → length table ≡ 9 * length (m .rules)
+      → (noted ≡ events) × (noted′ ≡ events)
+  noted-misfit m end d well bad l =
+      none-by image s table steps lent events noted noted′ kept fresh bad-store (kept-fifteen image s table steps lent m end d well bad l) (fresh-fifteen image s table steps lent m end d well bad)
 
   pub noted-refused : (n at : ℕ) → decode image ≡ Refused n at → (noted ≡ events) × (noted′ ≡ events)
   noted-refused n at d = none-by image s table steps lent events noted noted′ kept fresh n (kept-refuses image s steps lent n at d table) (fresh-refuses image s steps lent n at d)
