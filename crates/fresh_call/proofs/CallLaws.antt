@@ -96,7 +96,8 @@ module _ (s : State) (steps : ℕ) (m : Model) (w : List ℕ) (stands : buffersI
   fresh-unfit n (ill g) r e noted = rw (e, g) (nothing-done 6 0 s noted store)
   fresh-unfit n (misfit g f) r e noted = rw (e, g, f) (nothing-done 15 0 s noted store)
 
-  pub fresh-went : wellFormed m s ≡ true → storeFits (m .types) (lentIf lent store) ≡ true → (went : Went) (after : State) (w′ noted noted′ tape′ store′ : List ℕ) → after ≡ stateIn w′ (went .clock)
+  pub fresh-went : wellFormed m s ≡ true → storeFits (m .types) (lentIf lent store) ≡ true → (went : Went) (after : State) (w′ noted noted′ tape′ store′ : List ℕ)
+      → after ≡ stateIn w′ (went .clock)
       → (met : WentMet went m (storeOf (lentIf lent store)) w w′ (s .clock) steps noted noted′ tape′)
       → store′ ≡ storeLeft store (extend (storeOf (lentIf lent store)) (left-grows went m _ w w′ (s .clock) steps noted noted′ tape′ met .0))
       → FreshMet (done (went .number) 0 after (went .made)) (Got m 0) s steps noted noted′ lent store store′

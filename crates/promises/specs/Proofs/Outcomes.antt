@@ -121,7 +121,9 @@ Goes m g asked r = RanOn m g asked (r .events) (ranBy 0 r) (r .left .store)
 
 one-more : (m : Model) (g : Moving) (s′ : State) (e : Event) (n : ℕ) (r : Run Going) → Transition (knowing m (g .store)) (g .state) e s′ → s′ .clock ≤ largest
     → overfull (onward m g e s′ .store) ≡ false → Goes m (onward m g e s′) n r → Goes m g (suc n) (before (record { clock = s′ .clock; event = e }) r)
-one-more m g s′ e n r t c o h = record { path = one-step t c (stores-after m (g .state) e (g .store)) (has-room (onward m g e s′ .store) o) (h .path); counted = refl; ended = longer (h .ended); fresh = h .fresh }
+one-more m g s′ e n r t c o h =
+    let path = one-step t c (stores-after m (g .state) e (g .store)) (has-room (onward m g e s′ .store) o) (h .path) in
+    record { path = path; counted = refl; ended = longer (h .ended); fresh = h .fresh }
   where
     longer : {k number : ℕ} {x : Moving} → Ended m n k x number → Ended m (suc n) (suc k) x number
     longer (done q) = done (ap suc q)
