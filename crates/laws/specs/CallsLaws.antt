@@ -14,7 +14,7 @@ use Rattle.meaning.specs.Numbers.{finer, wrong-table, ill-formed, bad-store}
 use Rattle.meaning.specs.declared.State.{State}
 use Rattle.meaning.specs.Base.{if_then_else_, every}
 use Rattle.meaning.specs.Model.{Model}
-use Rattle.meaning.specs.State.{nilAfter, opens, wellBuffer, isNil, wellFormed}
+use Rattle.meaning.specs.State.{nilAfter, opens, wellBuffer, isUnused, wellFormed}
 use Rattle.meaning.specs.Read.{Got, Read, Refused}
 use Rattle.meaning.specs.Image.{chunk, decode}
 use Rattle.meaning.specs.Calls.{fitting, accepted, placeOf, neededBy, neededOf, openState, openedBy, openOf, tracedBy, traceLent, runLent, runOf, Refreshed, refreshedBy, refreshOf}
@@ -40,7 +40,7 @@ open-made m counts k a l =
     (every-replicate (wellBuffer (m .types)) (8 - m .buffers) (nilAfter 0) n) in
     let d : drop (m .buffers) (map opens (m .opening) ++ replicate (8 - m .buffers) (nilAfter 0)) ≡ replicate (8 - m .buffers) (nilAfter 0) =
     drop-at (map opens (m .opening)) (replicate (8 - m .buffers) (nilAfter 0)) (m .buffers) (length-map (m .opening) opens ∙ l) in
-    rw (t, d) (every-replicate isNil (8 - m .buffers) (nilAfter 0) refl)
+    rw (t, d) (every-replicate isUnused (8 - m .buffers) (nilAfter 0) refl)
 
 -- "Number 6 likewise": what open gives is well formed
 pub open-well : (image : List ℕ) (m : Model) (at : ℕ) → decode image ≡ Got m at → wellFormed m (openState m) ≡ true

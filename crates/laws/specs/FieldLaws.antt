@@ -1,17 +1,18 @@
 -- What holds of each field, and is kept by reading one thing after the other, holds of the reading of all fields: the walk over the readers of the
 -- image, made once. It goes by two readings at a time, each with numbers of its own; where one reading is meant the two are the same.
 use mathlib.Core.Path.{_≡_}
-use mathlib.Core.Bool.{Bool, not, _||_}
+use mathlib.Core.Bool.{Bool, true, false, not, _||_}
 use mathlib.Core.List.{List, [], _∷_}
 use Prim.Native.Nat.{ℕ, zero, suc, _+_, _≤_, _<_}
 use native.Mathlib.Omega.{arith}
 use lib.Dec.{leb, eqb}
 use Rattle.meaning.specs.Numbers.{RuleNumbers}
-use Rattle.meaning.specs.Model.{Model, Sizes, Rule, Action, Deed, Test, Named, Chunk, Fact}
+use Rattle.meaning.specs.Model.{Model, Sizes, Rule, Action, Deed, Query, Test, Named, Chunk, Fact}
 use Rattle.meaning.specs.State.{slotCount}
 use Rattle.meaning.specs.Read.{Read, Got, Reader, follow, andThen, give, Judgement, must, _also_, field, times, rising}
 use Rattle.meaning.specs.Image.{between, aType, aBuffer, aMask, aTerm, anything, Header, header, slotCounts, chunk, fact, slotsIn, terms, masked}
-use Rattle.meaning.specs.Image.{Head, head, test, tests, isTested, testedType, deed, action, actions, body, rule}
+use Rattle.meaning.specs.Image.{Head, hasQueries, leastTests, head, test, tests, leastQueries, query, queried, queries, isTested, testedType, deed, action, actions, body, rule}
+use Rattle.meaning.specs.Base.{if_then_else_}
 use Rattle.meaning.specs.Image.{ending, Beginning, beginning, contents, model}
 use Rattle.laws.specs.ReadLaws.{follow-follow}
 
@@ -47,7 +48,7 @@ pub allFields : RuleNumbers → Reader Model
 allFields by =
     andThen (beginning by) λ b.
     andThen (times (b .head .facts) (fact by (b .types))) λ facts.
-    andThen (times (b .head .rules) (rule by (record { buffers = b .head .buffers; types = b .types }))) λ rules.
+    andThen (times (b .head .rules) (rule by (b .head .version) (record { buffers = b .head .buffers; types = b .types }))) λ rules.
     give (record { buffers = b .head .buffers; types = b .types; failure = b .head .failure; opening = b .opening; facts = facts; rules = rules })
 
 -- what is made of them at the end
@@ -61,15 +62,16 @@ model-fields by image at = simp follow-follow
 
 -- ---- what has to be known
 
--- of what is read by the one numbering and by the other: R holds where nothing is read, of one thing after the other, of a field, and of a rule's tests and actions
--- with the check on its variables between them
+-- of what is read by the one numbering and by the other: R holds where nothing is read, of one thing after the other, of a field, and of a rule's tests, queries
+-- and actions with the check on its variables after the tests
 pub record EachField (by by′ : RuleNumbers) (R : (A : Type 0) → Reader A → Reader A → Type 1) : Type 1 where
   pub gives : (A : Type 0) (a : A) → R A (give a) (give a)
   pub follows : (A B : Type 0) (p p′ : Reader A) (k k′ : A → Reader B) → R A p p′ → ((a : A) → R B (k a) (k′ a)) → R B (andThen p k) (andThen p′ k′)
   pub fields : (width : ℕ) → 0 < width → width ≤ 16 → (r : FieldRule) → R ℕ (field width (judgement by r)) (field width (judgement by′ r))
-  pub bodies : (z : Sizes) (h : Head) → R (List Test) (tests by z (h .variables) (h .tests)) (tests by′ z (h .variables) (h .tests))
+  pub bodies : (version : ℕ) (z : Sizes) (h : Head) → R (List Test) (tests by z (h .variables) (h .tests)) (tests by′ z (h .variables) (h .tests))
+      → R (List Query) (queries by version (z .buffers) (h .tests)) (queries by′ version (z .buffers) (h .tests))
       → ((ts : List Test) → R (List Action) (actions by z (h .variables) ts (h .actions)) (actions by′ z (h .variables) ts (h .actions)))
-      → R Rule (body by z h) (body by′ z h)
+      → R Rule (body by version z h) (body by′ version z h)
 
 -- ---- the walk
 
@@ -96,7 +98,7 @@ module _ (by by′ : RuleNumbers) (R : (A : Type 0) → Reader A → Reader A �
   header-each : R Header (header by) (header by′)
   unfolding header
   header-each =
-      reads Header 8 (omega arith) (omega arith) (of-number (between 1 1)) _ _ λ version.
+      reads Header 8 (omega arith) (omega arith) (of-number (between 1 2)) _ _ λ version.
       reads Header 4 (omega arith) (omega arith) (of-number (between 1 8)) _ _ λ buffers.
       reads Header 6 (omega arith) (omega arith) (of-number (between 0 63)) _ _ λ declared.
       reads Header 9 (omega arith) (omega arith) (of-number (between 0 256)) _ _ λ rules.
@@ -122,11 +124,11 @@ module _ (by by′ : RuleNumbers) (R : (A : Type 0) → Reader A → Reader A �
       reads Fact 16 (omega arith) (omega arith) free _ _ λ latency.
       each .gives Fact _
 
-  head-each : (buffers : ℕ) → R Head (head by buffers) (head by′ buffers)
+  head-each : (version buffers : ℕ) → R Head (head by version buffers) (head by′ version buffers)
   unfolding head
-  head-each buffers =
+  head-each version buffers =
       reads Head 16 (omega arith) (omega arith) free _ _ λ utility.
-      reads Head 4 (omega arith) (omega arith) (of-number (between 1 buffers)) _ _ λ n.
+      reads Head 4 (omega arith) (omega arith) (of-number (between (leastTests version) buffers)) _ _ λ n.
       reads Head 4 (omega arith) (omega arith) (of-number (between 0 buffers)) _ _ λ m.
       reads Head 4 (omega arith) (omega arith) (of-number (between 0 8)) _ _ λ variables.
       each .gives Head _
@@ -151,6 +153,26 @@ module _ (by by′ : RuleNumbers) (R : (A : Type 0) → Reader A → Reader A �
       each .follows (List Named) Test _ _ _ _ (masked-each variables (slotCount (z .types) k)) λ ns.
       each .gives Test _
 
+  query-each : (buffers least : ℕ) → R Query (query by buffers least) (query by′ buffers least)
+  unfolding query
+  query-each buffers least =
+      reads Query 3 (omega arith) (omega arith) (of-buffer (aBuffer buffers least)) _ _ λ b.
+      reads Query 2 (omega arith) (omega arith) (of-number (λ kind. leb kind 2)) _ _ λ kind.
+      each .gives Query _
+
+  queried-each : (buffers tests : ℕ) → R (List Query) (queried by buffers tests) (queried by′ buffers tests)
+  unfolding queried
+  queried-each buffers tests =
+      reads (List Query) 4 (omega arith) (omega arith) (of-number (between (leastQueries tests) buffers)) _ _ λ n.
+      rising-each Query _ _ (λ q. q .buffer) (query-each buffers) n 0
+
+  queries-each : (version buffers tests : ℕ) → R (List Query) (queries by version buffers tests) (queries by′ version buffers tests)
+  queries-each version buffers tests =
+      elim (hasQueries version) as (λ t. R (List Query) (if t then queried by buffers tests else give []) (if t then queried by′ buffers tests else give [])) [
+        | true ↦ queried-each buffers tests
+        | false ↦ each .gives (List Query) []
+      ]
+
   module _ (z : Sizes) (variables : ℕ) (ts : List Test) where
     deed-each : (b kind : ℕ) → R Deed (deed by z variables ts b kind) (deed by′ z variables ts b kind)
     unfolding deed
@@ -169,14 +191,14 @@ module _ (by by′ : RuleNumbers) (R : (A : Type 0) → Reader A → Reader A �
         each .follows Deed Action _ _ _ _ (deed-each b kind) λ d.
         each .gives Action _
 
-  body-each : (z : Sizes) (h : Head) → R Rule (body by z h) (body by′ z h)
-  body-each z h =
-      each .bodies z h (rising-each Test _ _ (λ t. t .buffer) (test-each z (h .variables)) (h .tests) 0)
+  body-each : (version : ℕ) (z : Sizes) (h : Head) → R Rule (body by version z h) (body by′ version z h)
+  body-each version z h =
+      each .bodies version z h (rising-each Test _ _ (λ t. t .buffer) (test-each z (h .variables)) (h .tests) 0) (queries-each version (z .buffers) (h .tests))
       (λ ts. rising-each Action _ _ (λ a. a .buffer) (action-each z (h .variables) ts) (h .actions) 0)
 
-  pub rule-each : (z : Sizes) → R Rule (rule by z) (rule by′ z)
+  pub rule-each : (version : ℕ) (z : Sizes) → R Rule (rule by version z) (rule by′ version z)
   unfolding rule
-  rule-each z = each .follows Head Rule _ _ _ _ (head-each (z .buffers)) (body-each z)
+  rule-each version z = each .follows Head Rule _ _ _ _ (head-each version (z .buffers)) (body-each version z)
 
   pub beginning-each : R Beginning (beginning by) (beginning by′)
   unfolding beginning
@@ -191,5 +213,5 @@ module _ (by by′ : RuleNumbers) (R : (A : Type 0) → Reader A → Reader A �
   all-each =
       each .follows Beginning Model _ _ _ _ beginning-each λ b.
       each .follows (List Fact) Model _ _ _ _ (times-each Fact _ _ (fact-each (b .types)) (b .head .facts)) λ facts.
-      each .follows (List Rule) Model _ _ _ _ (times-each Rule _ _ (rule-each (record { buffers = b .head .buffers; types = b .types })) (b .head .rules)) λ rules.
+      each .follows (List Rule) Model _ _ _ _ (times-each Rule _ _ (rule-each (b .head .version) (record { buffers = b .head .buffers; types = b .types })) (b .head .rules)) λ rules.
       each .gives Model _

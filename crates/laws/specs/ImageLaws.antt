@@ -12,7 +12,7 @@ use lib.Seq.{drop-at}
 use Rattle.meaning.specs.Numbers.{finer, bad-number, too-long}
 use Rattle.meaning.specs.Base.{if_then_else_, every, upFrom}
 use Rattle.meaning.specs.Read.{Refused, Got, must, field, times}
-use Rattle.meaning.specs.Image.{between, slotsIn, chunk, aType, anything, eight, decode, decodeBy, Header, header, fact, Head, head, rule, ending, beginning, contents, model}
+use Rattle.meaning.specs.Image.{between, slotsIn, chunk, aType, anything, eight, decode, decodeBy, Header, header, fact, Head, leastTests, head, rule, ending, beginning, contents, model}
 use Rattle.meaning.specs.Model.{Model, Chunk}
 use Rattle.meaning.specs.State.{slotCount, wellBuffer, opens}
 use Rattle.laws.specs.BaseLaws.{and-left, and-right, every-append, every-upFrom}
@@ -54,11 +54,11 @@ symbol image at a next e =
     le-leb a 4095 (omega (arith, f .is, fieldAt-lt image at 12))
 
 made-well : (types : List ℕ) (k : ℕ) (vs : List ℕ) → ltb k (length types) ≡ true → every (λ v. leb v 4095) vs ≡ true → length vs ≡ slotCount types k
-    → wellBuffer types (record { isa = k; slots = eight vs; delay = 0 }) ≡ true
+    → wellBuffer types (record { isa = k; slots = eight vs; delay = 0; error = false }) ≡ true
 made-well types k vs h small l =
     let t : every (λ v. leb v 4095) (eight vs) ≡ true = every-append (λ v. leb v 4095) vs (replicate (8 - length vs) 0) small (all-small (8 - length vs)) in
     let z : drop (slotCount types k) (eight vs) ≡ replicate (8 - length vs) 0 = drop-at vs (replicate (8 - length vs) 0) (slotCount types k) l in
-    rw (h, t, z) (all-zeros (8 - length vs))
+    rw (h, t, z, all-zeros (8 - length vs)) refl
 
 -- a chunk of a decoded image makes a well-formed buffer
 pub chunk-well : (types : List ℕ) (least : ℕ) (image : List ℕ) (at : ℕ) (c : Chunk) (end : ℕ) → chunk finer types least image at ≡ Got c end → wellBuffer types (opens c) ≡ true
@@ -87,7 +87,7 @@ pub record Parts (image : List ℕ) (m : Model) : Type 0 where
   pub head-read : header finer image 0 ≡ Got head types-at
   pub opening-read : times (m .buffers) (chunk finer (m .types) 0) image opening-at ≡ Got (m .opening) facts-at
   pub facts-read : times (head .facts) (fact finer (m .types)) image facts-at ≡ Got (m .facts) rules-at
-  pub rules-read : times (head .rules) (rule finer (record { buffers = m .buffers; types = m .types })) image rules-at ≡ Got (m .rules) end
+  pub rules-read : times (head .rules) (rule finer (head .version) (record { buffers = m .buffers; types = m .types })) image rules-at ≡ Got (m .rules) end
 
 module _ (image : List ℕ) (m : Model) (at : ℕ) where
   model-parts : model finer image 0 ≡ Got m at → Parts image m
@@ -97,7 +97,7 @@ module _ (image : List ℕ) (m : Model) (at : ℕ) where
       split (times (h .declared) (field 4 (must bad-number (between 0 8))) image n₁) _ k₁ λ counts n₂ e₂ k₂.
       split (times (h .buffers) (chunk finer (0 ∷ counts) 0) image n₂) _ k₂ λ opening n₃ e₃ k₃.
       split (times (h .facts) (fact finer (0 ∷ counts)) image n₃) _ k₃ λ facts n₄ e₄ k₄.
-      split (times (h .rules) (rule finer (record { buffers = h .buffers; types = 0 ∷ counts })) image n₄) _ k₄ λ rules n₅ e₅ k₅.
+      split (times (h .rules) (rule finer (h .version) (record { buffers = h .buffers; types = 0 ∷ counts })) image n₄) _ k₄ λ rules n₅ e₅ k₅.
       split (ending image n₅) _ k₅ λ u n₆ e₆ k₆.
       let m-is : m ≡ record { buffers = h .buffers; types = 0 ∷ counts; failure = h .failure; opening = opening; facts = facts; rules = rules } = made k₆ in
       rw m-is
@@ -136,17 +136,17 @@ pub record HeadFits (h : Head) (buffers : ℕ) : Type 0 where
   pub actions-few : h .actions ≤ buffers
   pub variables-few : h .variables ≤ 8
 
-pub head-fits : (buffers : ℕ) (image : List ℕ) (at : ℕ) (h : Head) (end : ℕ) → head finer buffers image at ≡ Got h end → HeadFits h buffers
+pub head-fits : (version buffers : ℕ) (image : List ℕ) (at : ℕ) (h : Head) (end : ℕ) → head finer version buffers image at ≡ Got h end → HeadFits h buffers
 unfolding head
-head-fits buffers image at h end e =
+head-fits version buffers image at h end e =
     split (field 16 anything image at) _ e λ u n₁ e₁ k₁.
-    split (field 4 (must bad-number (between 1 buffers)) image n₁) _ k₁ λ n n₂ e₂ k₂.
+    split (field 4 (must bad-number (between (leastTests version) buffers)) image n₁) _ k₁ λ n n₂ e₂ k₂.
     split (field 4 (must bad-number (between 0 buffers)) image n₂) _ k₂ λ m n₃ e₃ k₃.
     split (field 4 (must bad-number (between 0 8)) image n₃) _ k₃ λ v n₄ e₄ k₄.
     let h-is : record { utility = u; tests = n; actions = m; variables = v } ≡ h = cc in
     rw (← h-is)
     (record {
-      tests-few = between-got 4 1 buffers image n₁ n n₂ e₂ .1;
+      tests-few = between-got 4 (leastTests version) buffers image n₁ n n₂ e₂ .1;
       actions-few = between-got 4 0 buffers image n₂ m n₃ e₃ .1;
       variables-few = between-got 4 0 8 image n₃ v n₄ e₄ .1;
     })
@@ -156,7 +156,7 @@ head-fits buffers image at h end e =
 header-rules : (image : List ℕ) (h : Header) (next : ℕ) → header finer image 0 ≡ Got h next → h .rules ≤ 256
 unfolding header
 header-rules image h next e =
-    split (field 8 (must bad-number (between 1 1)) image 0) _ e λ v n₁ e₁ k₁.
+    split (field 8 (must bad-number (between 1 2)) image 0) _ e λ v n₁ e₁ k₁.
     split (field 4 (must bad-number (between 1 8)) image n₁) _ k₁ λ buffers n₂ e₂ k₂.
     split (field 6 (must bad-number (between 0 63)) image n₂) _ k₂ λ declared n₃ e₃ k₃.
     split (field 9 (must bad-number (between 0 256)) image n₃) _ k₃ λ rules n₄ e₄ k₄.
@@ -172,5 +172,5 @@ pub few-rules : (image : List ℕ) (m : Model) (at : ℕ) → decode image ≡ G
 few-rules image m at e =
     let p : Parts image m = parts image m at e in
     let l : length (m .rules) ≡ p .head .rules =
-    times-all (rule finer (record { buffers = m .buffers; types = m .types })) (λ r. true) (λ image at a next e. refl) (p .head .rules) image (p .rules-at) (m .rules) (p .end) (p .rules-read) .1 in
+    times-all (rule finer (p .head .version) (record { buffers = m .buffers; types = m .types })) (λ r. true) (λ image at a next e. refl) (p .head .rules) image (p .rules-at) (m .rules) (p .end) (p .rules-read) .1 in
     omega (arith, l, header-rules image (p .head) (p .types-at) (p .head-read))

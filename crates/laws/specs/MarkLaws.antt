@@ -25,7 +25,7 @@ use Rattle.meaning.specs.Mark.{isSome, actedOn, arrived, markOf}
 use Rattle.meaning.specs.Step.{Event, Fired, Waited, Step, Stopped, Made, largest, unlessPast, fireStep, waitStep, stepBy, step}
 use Rattle.meaning.specs.Refresh.{testsMarked}
 use Rattle.laws.specs.BaseLaws.{or-left, or-right, getD-upFrom, bit-weigh, by-lt}
-use Rattle.laws.specs.MatchLaws.{Alike, AlikeOn, entry-same}
+use Rattle.laws.specs.MatchLaws.{Alike, AlikeOn, testOn, queryOn, entry-same}
 
 -- ---- each buffer anew
 
@@ -135,28 +135,31 @@ pub step-leaves : (m : Model) (memory : List Fact) (us : List ℤ) (s : State) (
 unfolding step
 step-leaves m memory us s table = step-by-leaves (m .failure) memory s (choose (m .rules) us table)
 
--- ---- no test tells such a buffer from what it was
+-- ---- no test and no query tells such a buffer from what it was
 
 waits-by : (b c : Buffer) → Waits b c → (t : Bool) → visible b ≡ t → Alike b c
 waits-by b c w true e =
     let z : b .delay ≡ b .delay - w .ms = omega (arith, eqb-true (b .delay) 0 e) in
-    inl (ap (λ (d : ℕ). record { isa = b .isa; slots = b .slots; delay = d }) z ∙ sym (w .is))
+    inl (ap (λ (d : ℕ). record { isa = b .isa; slots = b .slots; delay = d; error = b .error }) z ∙ sym (w .is))
 waits-by b c w false e = inr (e, w .pending e)
 
 pub waits-alike : (b c : Buffer) → Waits b c → Alike b c
 waits-alike b c w = waits-by b c w (visible b) refl
 
--- what a mark promises: a buffer that it does not name looks to every test as it did
+-- what a mark promises: a buffer that it does not name looks to every test and query as it did
 abbrev pub Marks : State → State → ℕ → Type 0
 Marks s s′ mark = (b : ℕ) → bit mark b ≡ false → Alike (bufferOf s b) (bufferOf s′ b)
 
-unmarked : (s s′ : State) (mark : ℕ) → Marks s s′ mark → (ts : List Test) → anyOf (λ t. bit mark (t .buffer)) ts ≡ false → AlikeOn s s′ ts
-unmarked s s′ mark h [] e = tt
-unmarked s s′ mark h (t ∷ ts) e = (
-  h (t .buffer) (or-left (bit mark (t .buffer)) (anyOf (λ t. bit mark (t .buffer)) ts) e),
-  unmarked s s′ mark h ts (or-right (bit mark (t .buffer)) _ e),
+unmarked : {A : Type 0} (buffer : A → ℕ) (s s′ : State) (mark : ℕ) → Marks s s′ mark → (xs : List A) → anyOf (λ x. bit mark (buffer x)) xs ≡ false → AlikeOn buffer s s′ xs
+unmarked buffer s s′ mark h [] e = tt
+unmarked buffer s s′ mark h (x ∷ xs) e = (
+  h (buffer x) (or-left (bit mark (buffer x)) (anyOf (λ y. bit mark (buffer y)) xs) e),
+  unmarked buffer s s′ mark h xs (or-right (bit mark (buffer x)) _ e),
 )
 
--- so the entry of a rule that tests no marked buffer stays fresh
+-- so the entry of a rule that tests and queries no marked buffer stays fresh
 pub entry-unmarked : (r : Rule) (s s′ : State) (mark : ℕ) → Marks s s′ mark → testsMarked mark r ≡ false → entryOf r s ≡ entryOf r s′
-entry-unmarked r s s′ mark h e = entry-same r s s′ (unmarked s s′ mark h (r .tests) e)
+entry-unmarked r s s′ mark h e =
+    let onTests : Bool = anyOf (λ t. bit mark (t .buffer)) (r .tests) in
+    let onQueries : Bool = anyOf (λ q. bit mark (q .buffer)) (r .queries) in
+    entry-same r s s′ (unmarked testOn s s′ mark h (r .tests) (or-left onTests onQueries e)) (unmarked queryOn s s′ mark h (r .queries) (or-right onTests onQueries e))

@@ -1,4 +1,4 @@
--- Laws of a match: place by place; and "an entry depends only on the buffers that its rule tests", of a pending buffer only on its being pending.
+-- Laws of a match: place by place; and "an entry depends only on the buffers that its rule tests" or queries, of a pending buffer only on its being pending.
 use mathlib.Core.Path.{_≡_, refl, sym, ap, ap₂, _∙_}
 use mathlib.Core.Bool.{Bool, true, false, _&&_, _||_, not, or-false, and-false, and-true}
 use mathlib.Core.List.{List, [], _∷_, _++_, append-assoc, map}
@@ -9,9 +9,9 @@ use borrow.Author.Tests.{eq-eqb}
 use lib.Dec.{eqb}
 use lib.ListN.{length, replicate, length-append}
 use Rattle.meaning.specs.Base.{if_then_else_, every, anyOf, upFrom}
-use Rattle.meaning.specs.Model.{Term, Symbol, Variable, Rule, Test}
+use Rattle.meaning.specs.Model.{Term, Symbol, Variable, Rule, Test, Query, Ask, Busy, Free, Error}
 use Rattle.meaning.specs.Image.{isVariable}
-use Rattle.meaning.specs.Match.{Place, valueIn, termIn, takes, agrees, agreed, places, shows, matches, entryOf, freshTable}
+use Rattle.meaning.specs.Match.{Place, valueIn, termIn, takes, agrees, agreed, places, shows, testsHold, answers, queriesHold, matches, entryOf, freshTable}
 use Rattle.meaning.specs.declared.Buffer.{Buffer}
 use Rattle.meaning.specs.declared.State.{State}
 use Rattle.meaning.specs.State.{bufferOf, visible}
@@ -110,13 +110,20 @@ agrees-new before v value e = rw (value-new before (record { term = Variable v; 
 
 -- ---- an entry
 
--- two buffers that no test can tell apart: the same, or both pending
+-- two buffers that no test and no query can tell apart: the same, or both pending
 abbrev pub Alike : Buffer → Buffer → Type 0
 Alike b c = (b ≡ c) ⊎ ((visible b ≡ false) × (visible c ≡ false))
 
-abbrev pub AlikeOn : State → State → List Test → Type 0
-AlikeOn s s′ [] = Unit {0}
-AlikeOn s s′ (t ∷ ts) = Alike (bufferOf s (t .buffer)) (bufferOf s′ (t .buffer)) × AlikeOn s s′ ts
+-- so of each buffer that some things are on
+abbrev pub AlikeOn : {A : Type 0} → (A → ℕ) → State → State → List A → Type 0
+AlikeOn buffer s s′ [] = Unit {0}
+AlikeOn buffer s s′ (x ∷ xs) = Alike (bufferOf s (buffer x)) (bufferOf s′ (buffer x)) × AlikeOn buffer s s′ xs
+
+abbrev pub testOn : Test → ℕ
+testOn t = t .buffer
+
+abbrev pub queryOn : Query → ℕ
+queryOn q = q .buffer
 
 abbrev allShow : List Test → State → Bool
 allShow ts s = every (λ t. shows t (bufferOf s (t .buffer))) ts
@@ -132,18 +139,29 @@ seeCons s s′ t ts (inl e) (inl (p, q)) = inl (rw (e, p), rw (e, q))
 seeCons s s′ t ts (inl e) (inr (p, q)) = inr (rw (p, and-false) refl, rw (q, and-false) refl)
 seeCons s s′ t ts (inr (e, f)) h = inr (rw e refl, rw f refl)
 
-see : (s s′ : State) (ts : List Test) → AlikeOn s s′ ts → SeeAlike s s′ ts
+see : (s s′ : State) (ts : List Test) → AlikeOn testOn s s′ ts → SeeAlike s s′ ts
 unfolding places
 see s s′ [] h = inl (refl, refl)
 see s s′ (t ∷ ts) h = seeCons s s′ t ts (h .0) (see s s′ ts (h .1))
 
-seen : (r : Rule) (s s′ : State) → SeeAlike s s′ (r .tests) → entryOf r s ≡ entryOf r s′
-unfolding entryOf matches
-seen r s s′ (inl (p, q)) = rw (p, q)
-seen r s s′ (inr (p, q)) = rw (p, q)
+-- a query's answer
+pub answers-alike : (a : Ask) (b c : Buffer) → Alike b c → answers a b ≡ answers a c
+answers-alike a b c (inl e) = ap (answers a) e
+answers-alike Busy b c (inr (e, f)) = rw (e, f) refl
+answers-alike Free b c (inr (e, f)) = rw (e, f) refl
+answers-alike Error b c (inr (e, f)) = rw (e, f) refl
 
-pub entry-same : (r : Rule) (s s′ : State) → AlikeOn s s′ (r .tests) → entryOf r s ≡ entryOf r s′
-entry-same r s s′ h = seen r s s′ (see s s′ (r .tests) h)
+ask : (s s′ : State) (qs : List Query) → AlikeOn queryOn s s′ qs → queriesHold qs s ≡ queriesHold qs s′
+ask s s′ [] h = refl
+ask s s′ (q ∷ qs) h = ap₂ (λ (x y : Bool). x && y) (answers-alike (q .asks) _ _ (h .0)) (ask s s′ qs (h .1))
+
+seen : (r : Rule) (s s′ : State) → SeeAlike s s′ (r .tests) → queriesHold (r .queries) s ≡ queriesHold (r .queries) s′ → entryOf r s ≡ entryOf r s′
+unfolding entryOf matches
+seen r s s′ (inl (p, q)) a = rw (p, q, a)
+seen r s s′ (inr (p, q)) a = rw (p, q)
+
+pub entry-same : (r : Rule) (s s′ : State) → AlikeOn testOn s s′ (r .tests) → AlikeOn queryOn s s′ (r .queries) → entryOf r s ≡ entryOf r s′
+entry-same r s s′ h g = seen r s s′ (see s s′ (r .tests) h) (ask s s′ (r .queries) g)
 
 -- an entry has nine words
 pub entry-length : (r : Rule) (s : State) → length (entryOf r s) ≡ 9

@@ -9,10 +9,10 @@ use lib.Dec.{ltb, eqb}
 use lib.ListN.{length}
 use Rattle.meaning.specs.Base.{if_then_else_, every, upFrom}
 use Rattle.meaning.specs.Numbers.{RuleNumbers, too-long, bad-end}
-use Rattle.meaning.specs.Model.{Model, Sizes, Rule, Action, Test}
+use Rattle.meaning.specs.Model.{Model, Sizes, Rule, Action, Query, Test}
 use Rattle.meaning.specs.Bits.{fieldAt}
 use Rattle.meaning.specs.Read.{Read, Refused, Got, Reader, follow, andThen, give, Judgement, field, require}
-use Rattle.meaning.specs.Image.{Head, tests, standsIn, actions, body, padding, ending, model, decodeBy}
+use Rattle.meaning.specs.Image.{Head, tests, standsIn, queries, actions, body, padding, ending, model, decodeBy}
 use Rattle.laws.specs.ReadLaws.{no-got, split, field-got, field-refused}
 use Rattle.laws.specs.FieldLaws.{judgement, allFields, atEnd, model-fields, EachField, all-each}
 
@@ -62,12 +62,14 @@ require-within number false =
       refused = λ image at n x h e. let q : at ≡ x = cc in (omega arith, omega arith);
     }
 
-pub body-within : (by : RuleNumbers) (z : Sizes) (h : Head) → Within (List Test) (tests by z (h .variables) (h .tests))
-    → ((ts : List Test) → Within (List Action) (actions by z (h .variables) ts (h .actions))) → Within Rule (body by z h)
+pub body-within : (by : RuleNumbers) (version : ℕ) (z : Sizes) (h : Head) → Within (List Test) (tests by z (h .variables) (h .tests))
+    → Within (List Query) (queries by version (z .buffers) (h .tests))
+    → ((ts : List Test) → Within (List Action) (actions by z (h .variables) ts (h .actions))) → Within Rule (body by version z h)
 unfolding body
-body-within by z h tested acted =
+body-within by version z h tested asked acted =
     then-within (List Test) Rule _ _ tested λ ts.
     then-within (Unit {0}) Rule _ _ (require-within (by .variable) (every (standsIn ts) (upFrom 0 (h .variables)))) λ u.
+    then-within (List Query) Rule _ _ asked λ qs.
     then-within (List Action) Rule _ _ (acted ts) λ as′.
     give-within Rule _
 
@@ -77,7 +79,7 @@ within-each by =
       gives = give-within;
       follows = λ A B p p′ k k′ h g. then-within A B p k h g;
       fields = λ width some narrow r. field-within width (judgement by r);
-      bodies = λ z h tested acted. body-within by z h tested acted;
+      bodies = λ version z h tested asked acted. body-within by version z h tested asked acted;
     }
 
 -- ---- an image

@@ -1,6 +1,6 @@
 -- Request 2026-03, "say where an image is bad": model A with one field, or two neighbours, set to another value, the number and the position. One table under a single statement.
 use mathlib.Core.Path.{_≡_, refl}
-use mathlib.Core.Bool.{_&&_}
+use mathlib.Core.Bool.{false, _&&_}
 use mathlib.Core.List.{List, [], _∷_, _++_, map}
 use Prim.Native.Nat.{ℕ, zero, suc, _+_, _-_, _*_, _/_, _%_, _^_}
 use lib.Dec.{ltb, leb}
@@ -45,15 +45,15 @@ unfolding set
 bad = set 258 8 160
 
 abbrev unfit : State
-unfit = record { buffers = replicate 8 (record { isa = 0; slots = replicate 8 1; delay = 0 }); clock = 0 }
+unfit = record { buffers = replicate 8 (record { isa = 0; slots = replicate 8 1; delay = 0; error = false }); clock = 0 }
 
 -- ---- the cases
 
 unfoldable pub rows : List Row
 unfolding everything modelA p1 set packed bad
 rows =
-    -- "3 now means a version, count, type or action kind": version 2; no buffer; 257 rules; 513 facts; 9 slots; of rule 0 no test, 3 actions, 9 variables
-    row (placed (decode (set 0 8 2))) (3 ∷ 0 ∷ [])
+    -- "3 now means a version, count, type or action kind": version 3; no buffer; 257 rules; 513 facts; 9 slots; of rule 0 no test, 3 actions, 9 variables
+    row (placed (decode (set 0 8 3))) (3 ∷ 0 ∷ [])
     ∷ row (placed (decode (set 8 4 0))) (3 ∷ 8 ∷ [])
     ∷ row (placed (decode (set 18 9 257))) (3 ∷ 18 ∷ [])
     ∷ row (placed (decode (set 27 10 513))) (3 ∷ 27 ∷ [])

@@ -13,7 +13,7 @@ use Rattle.meaning.specs.Model.{Model, Rule, Test, Action, Deed, Modify,
 use Rattle.meaning.specs.State.{wellFormed, bufferOf}
 use Rattle.meaning.specs.Bits.{fieldAt}
 use Rattle.meaning.specs.Read.{Got, field, times, rising}
-use Rattle.meaning.specs.Image.{header, chunk, fact, utilityOf, slotsIn, terms, masked, head, test, deed, action, body, rule, ending, beginning, contents, model, decode, decodeBy}
+use Rattle.meaning.specs.Image.{header, chunk, fact, utilityOf, slotsIn, terms, masked, head, test, query, queried, deed, action, body, rule, ending, beginning, contents, model, decode, decodeBy}
 use Rattle.meaning.specs.Match.{places, valueIn, matches, entryOf, freshTable}
 use Rattle.meaning.specs.Choice.{candidates, choose}
 use Rattle.meaning.specs.Retrieval.{retrieve}
@@ -31,7 +31,7 @@ use Rattle.meaning.specs.Print.{Line, Stepped, End, printed}
 
 -- `unfolding everything` opens each definition of document 01, and those of the run without a table
 unfoldable pub everything : Unit {0}
-unfolding wellFormed fieldAt field times rising header chunk fact slotsIn terms masked head test deed action body rule
+unfolding wellFormed fieldAt field times rising header chunk fact slotsIn terms masked head test query queried deed action body rule
     ending beginning contents model decodeBy places valueIn matches entryOf freshTable candidates choose
     retrieve put done deedOn change fire soonest wait markOf fireStep step refresh refreshCount accepted neededOf openState openOf runFrom traceLent runLent runOf refreshOf
     matched chooseFresh move freshFrom freshTraceLent freshLent freshOf printed cleared joining storeIn storeFits placesWords storeLeft
@@ -71,6 +71,7 @@ rule0 =
     record {
       utility = pos 0;
       tests = record { buffer = 0; isa = 2; named = one 0 } ∷ record { buffer = 1; isa = 0; named = [] } ∷ [];
+      queries = [];
       actions = record { buffer = 1; deed = Request 1 (one 0) } ∷ [];
     }
 
@@ -80,6 +81,7 @@ rule1 =
     record {
       utility = pos 0;
       tests = record { buffer = 0; isa = 2; named = one 0 } ∷ record { buffer = 1; isa = 1; named = two 0 1 } ∷ [];
+      queries = [];
       actions = record { buffer = 0; deed = Modify (one 1) } ∷ record { buffer = 1; deed = Request 1 (one 1) } ∷ [];
     }
 
@@ -89,6 +91,7 @@ rule2 =
     record {
       utility = pos 1000;
       tests = record { buffer = 0; isa = 2; named = two 0 0 } ∷ [];
+      queries = [];
       actions = record { buffer = 0; deed = Clear } ∷ [];
     }
 
@@ -160,14 +163,15 @@ row g s = record { given = g; said = s }
 unfoldable pub rows : List Row
 unfolding everything p1 modelA zeros afterA clockA markA
 rows =
-    -- P1 opens; P2 without its last byte; P3 with a ninth byte; P4 last byte 10; P5 last byte 20; empty image; first byte 02
+    -- P1 opens; P2 without its last byte; P3 with a ninth byte; P4 last byte 10; P5 last byte 20; empty image; first byte 02, which since request 2026-06 opens, and 04
     row (openOf p1 [] .number ∷ []) (0 ∷ [])
     ∷ row (openOf (take 7 p1) [] .number ∷ []) (2 ∷ [])
     ∷ row (openOf (p1 ++ (0 ∷ [])) [] .number ∷ []) (4 ∷ [])
     ∷ row (openOf (take 7 p1 ++ (0x10 ∷ [])) [] .number ∷ []) (4 ∷ [])
     ∷ row (openOf (take 7 p1 ++ (0x20 ∷ [])) [] .number ∷ []) (3 ∷ [])
     ∷ row (openOf [] [] .number ∷ []) (2 ∷ [])
-    ∷ row (openOf (2 ∷ drop 1 p1) [] .number ∷ []) (3 ∷ [])
+    ∷ row (openOf (2 ∷ drop 1 p1) [] .number ∷ []) (0 ∷ [])
+    ∷ row (openOf (4 ∷ drop 1 p1) [] .number ∷ []) (3 ∷ [])
     -- P6 run 5 on P1: 9, count 0. Run 0: 0
     ∷ row (ran (runOf p1 (openOf p1 [] .state) [] 5)) (9 ∷ 0 ∷ 0 ∷ [])
     ∷ row (ran (runOf p1 (openOf p1 [] .state) [] 0)) (0 ∷ 0 ∷ 0 ∷ [])

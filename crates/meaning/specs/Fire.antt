@@ -1,4 +1,5 @@
 -- "A step": fire.
+use mathlib.Core.Bool.{false}
 use mathlib.Core.List.{List, [], _∷_}
 use mathlib.Core.Option.{Option, none, some}
 use Prim.Native.Nat.{ℕ, _+_, _-_}
@@ -18,14 +19,15 @@ put (n ∷ ns) entry slots = put ns entry (set slots (n .slot) (valueOf entry (n
 
 -- what a deed makes of a buffer, with the failure latency and the facts in memory:
 -- "A modified buffer keeps its type and unnamed slots, and gets delay 0." "A requested buffer gets a fact .." "A cleared buffer holds nil, delay 0."
+-- The error flag "is set when a request finds no fact, and any other action on that buffer clears it".
 unfoldable pub done : ℕ → List Fact → List ℕ → Buffer → Deed → Buffer
-done failure memory entry b (Modify ns) = record { isa = b .isa; slots = put ns entry (b .slots); delay = 0 }
+done failure memory entry b (Modify ns) = record { isa = b .isa; slots = put ns entry (b .slots); delay = 0; error = false }
 done failure memory entry b (Request isa ns) = retrieved failure (retrieve memory isa ns entry)
 done failure memory entry b Clear = nilAfter 0
 
--- a buffer after some ms: its delay is lowered, "not below 0"
+-- a buffer after some ms: its delay is lowered, "not below 0", and that alone
 abbrev pub later : ℕ → Buffer → Buffer
-later ms b = record { isa = b .isa; slots = b .slots; delay = b .delay - ms }
+later ms b = record { isa = b .isa; slots = b .slots; delay = b .delay - ms; error = b .error }
 
 -- the deed of a rule on buffer b, if there is one ("at most one .. action per buffer in a rule")
 unfoldable pub deedOn : List Action → ℕ → Option Deed

@@ -7,7 +7,7 @@ use lib.ListN.{length, replicate}
 use lib.IntN.{ℤ, pos, subℕ}
 use Rattle.meaning.specs.Base.{if_then_else_, every, anyOf, keep, upFrom, bit}
 use Rattle.meaning.specs.Numbers.{RuleNumbers, finer, too-long, bad-end}
-use Rattle.meaning.specs.Model.{Model, Sizes, Rule, Action, Deed, Modify, Request, Clear, Test, Named, Term, Symbol, Variable, Chunk, Fact}
+use Rattle.meaning.specs.Model.{Model, Sizes, Rule, Action, Deed, Modify, Request, Clear, Query, Ask, Busy, Free, Error, Test, Named, Term, Symbol, Variable, Chunk, Fact}
 use Rattle.meaning.specs.State.{slotCount}
 use Rattle.meaning.specs.Bits.{fieldAt}
 use Rattle.meaning.specs.Read.{Read, Refused, Got, Reader, andThen as _>>=_, next as _>>_, give, Judgement, must, _also_, field, require, times, rising}
@@ -40,9 +40,10 @@ aTerm variables t = ltb t (4096 + variables)
 abbrev pub anything : Judgement
 anything value = 0
 
--- ---- 1. "Version, 8 bits, 1. Buffers, 4. T, 6. Rules, 9. Facts, 10. Failure latency in ms, 16."
+-- ---- 1. "Version, 8 bits, 1. Buffers, 4. T, 6. Rules, 9. Facts, 10. Failure latency in ms, 16."; since request 2026-06 the version is 1 or 2
 
 pub record Header : Type 0 where
+  pub version : ℕ
   pub buffers : ℕ
   pub declared : ℕ
   pub rules : ℕ
@@ -51,13 +52,13 @@ pub record Header : Type 0 where
 
 unfoldable pub header : RuleNumbers → Reader Header
 header by = do
-  version ← field 8 (must (by .number) (between 1 1))
+  version ← field 8 (must (by .number) (between 1 2))
   buffers ← field 4 (must (by .number) (between 1 8))
   declared ← field 6 (must (by .number) (between 0 63))
   rules ← field 9 (must (by .number) (between 0 256))
   facts ← field 10 (must (by .number) (between 0 512))
   failure ← field 16 anything
-  give (record { buffers = buffers; declared = declared; rules = rules; facts = facts; failure = failure })
+  give (record { version = version; buffers = buffers; declared = declared; rules = rules; facts = facts; failure = failure })
 
 -- ---- 2. "For each declared type: slot count, 4 bits."
 
@@ -94,10 +95,18 @@ pub record Head : Type 0 where
   pub actions : ℕ
   pub variables : ℕ
 
-unfoldable pub head : RuleNumbers → ℕ → Reader Head
-head by buffers = do
+-- whether an image of that version has queries: "A rule of a version 2 image has .. queries"; "Version 1 images open as before, with no queries."
+abbrev pub hasQueries : ℕ → Bool
+hasQueries version = eqb version 2
+
+-- "tests, 4 bits (1 to the buffer count)"; in version 2 "A rule may have no test if it has a query"
+abbrev pub leastTests : ℕ → ℕ
+leastTests version = if hasQueries version then 0 else 1
+
+unfoldable pub head : RuleNumbers → ℕ → ℕ → Reader Head
+head by version buffers = do
   utility ← field 16 anything
-  tests ← field 4 (must (by .number) (between 1 buffers))
+  tests ← field 4 (must (by .number) (between (leastTests version) buffers))
   actions ← field 4 (must (by .number) (between 0 buffers))
   variables ← field 4 (must (by .number) (between 0 8))
   give (record { utility = utility; tests = tests; actions = actions; variables = variables })
@@ -152,6 +161,33 @@ isVariable v (Variable w) = eqb v w
 abbrev pub standsIn : List Test → ℕ → Bool
 standsIn ts v = anyOf (λ t. anyOf (λ n. isVariable v (n .term)) (t .named)) ts
 
+-- "a kind, 2 bits: 0 busy .., 1 free .., 2 error"
+abbrev pub askOf : ℕ → Ask
+askOf zero = Busy
+askOf (suc zero) = Free
+askOf (suc (suc n)) = Error
+
+-- "for each a buffer, strictly rising, 3 bits, and a kind, 2 bits: .. 3 is refused as 3"
+unfoldable pub query : RuleNumbers → ℕ → ℕ → Reader Query
+query by buffers least = do
+  b ← field 3 (must (by .buffer) (aBuffer buffers least))
+  kind ← field 2 (must (by .number) (λ kind. leb kind 2))
+  give (record { buffer = b; asks = askOf kind })
+
+-- "without tests a query count of 0 breaks its rule"
+abbrev pub leastQueries : ℕ → ℕ
+leastQueries tests = if eqb tests 0 then 1 else 0
+
+-- "a 4-bit number of queries (0 to the buffer count), then for each .." of a rule with so many tests
+unfoldable pub queried : RuleNumbers → ℕ → ℕ → Reader (List Query)
+queried by buffers tests = do
+  n ← field 4 (must (by .number) (between (leastQueries tests) buffers))
+  rising (query by buffers) (λ q. q .buffer) n 0
+
+-- "Version 1 images open as before, with no queries."
+abbrev pub queries : RuleNumbers → ℕ → ℕ → ℕ → Reader (List Query)
+queries by version buffers tests = if hasQueries version then queried by buffers tests else give []
+
 -- a buffer is tested, and the type that its test names
 abbrev pub isTested : List Test → ℕ → Bool
 isTested ts b = anyOf (λ t. eqb (t .buffer) b) ts
@@ -187,20 +223,22 @@ action by z variables ts least = do
 abbrev pub actions : RuleNumbers → Sizes → ℕ → List Test → ℕ → Reader (List Action)
 actions by z variables ts n = rising (action by z variables ts) (λ a. a .buffer) n 0
 
--- a rule from its head on: its tests, and its actions
+-- a rule from its head on: its tests, its queries, and its actions
 -- "After its tests, every variable of the rule must have stood in one of them. This is checked before an action is read."
-unfoldable pub body : RuleNumbers → Sizes → Head → Reader Rule
-body by z h = do
+-- "The check on variables stands where the tests end, before the queries."
+unfoldable pub body : RuleNumbers → ℕ → Sizes → Head → Reader Rule
+body by version z h = do
   ts ← tests by z (h .variables) (h .tests)
   require (by .variable) (every (standsIn ts) (upFrom 0 (h .variables)))
+  qs ← queries by version (z .buffers) (h .tests)
   as′ ← actions by z (h .variables) ts (h .actions)
-  give (record { utility = utilityOf (h .utility); tests = ts; actions = as′ })
+  give (record { utility = utilityOf (h .utility); tests = ts; queries = qs; actions = as′ })
 
--- "For each rule"
-unfoldable pub rule : RuleNumbers → Sizes → Reader Rule
-rule by z = do
-  h ← head by (z .buffers)
-  body by z h
+-- "For each rule", in an image of that version
+unfoldable pub rule : RuleNumbers → ℕ → Sizes → Reader Rule
+rule by version z = do
+  h ← head by version (z .buffers)
+  body by version z h
 
 -- ---- 6. "Zero bits up to the byte's end. No byte follows."
 
@@ -234,17 +272,17 @@ pub record Contents : Type 0 where
   pub facts : List Fact
   pub rules : List Rule
 
-unfoldable pub contents : RuleNumbers → Sizes → ℕ → ℕ → Reader Contents
-contents by z n m = do
+unfoldable pub contents : RuleNumbers → ℕ → Sizes → ℕ → ℕ → Reader Contents
+contents by version z n m = do
   facts ← times n (fact by (z .types))
-  rules ← times m (rule by z)
+  rules ← times m (rule by version z)
   ending
   give (record { facts = facts; rules = rules })
 
 unfoldable pub model : RuleNumbers → Reader Model
 model by = do
   b ← beginning by
-  c ← contents by (record { buffers = b .head .buffers; types = b .types }) (b .head .facts) (b .head .rules)
+  c ← contents by (b .head .version) (record { buffers = b .head .buffers; types = b .types }) (b .head .facts) (b .head .rules)
   give (record { buffers = b .head .buffers; types = b .types; failure = b .head .failure; opening = b .opening; facts = c .facts; rules = c .rules })
 
 -- "image over 65,536 bytes" comes first

@@ -7,7 +7,7 @@ use lib.ListN.{getD, replicate}
 use Rattle.meaning.specs.declared.Buffer.{Buffer}
 use Rattle.meaning.specs.declared.State.{State}
 use Rattle.meaning.specs.Base.{if_then_else_, every, upFrom}
-use Rattle.meaning.specs.Model.{Rule, Test, Named, Term, Symbol, Variable}
+use Rattle.meaning.specs.Model.{Rule, Test, Query, Ask, Busy, Free, Error, Named, Term, Symbol, Variable}
 use Rattle.meaning.specs.State.{bufferOf, visible}
 use Rattle.meaning.specs.Image.{isVariable}
 
@@ -51,8 +51,21 @@ abbrev pub shows : Test → Buffer → Bool
 shows t b = visible b && eqb (b .isa) (t .isa)
 
 -- "A rule matches when all its tests hold"
+abbrev pub testsHold : List Test → State → Bool
+testsHold ts s = every (λ t. shows t (bufferOf s (t .buffer))) ts && agreed (places ts s)
+
+-- "0 busy (delay above 0), 1 free (delay 0), 2 error (visible, flag set)"
+abbrev pub answers : Ask → Buffer → Bool
+answers Busy b = not (visible b)
+answers Free b = visible b
+answers Error b = visible b && b .error
+
+abbrev pub queriesHold : List Query → State → Bool
+queriesHold qs s = every (λ q. answers (q .asks) (bufferOf s (q .buffer))) qs
+
+-- "For a match queries must hold too."
 unfoldable pub matches : Rule → State → Bool
-matches r s = every (λ t. shows t (bufferOf s (t .buffer))) (r .tests) && agreed (places (r .tests) s)
+matches r s = testsHold (r .tests) s && queriesHold (r .queries) s
 
 -- "An entry is 1 and then the values of variables 0 to 7 (0 where unused) if the rule matches, nine zeros if it does not."
 unfoldable pub entryOf : Rule → State → List ℕ

@@ -19,6 +19,17 @@ pub record Test : Type 0 where
   pub isa : ℕ
   pub named : List Named
 
+-- what a query asks of its buffer: "a kind, 2 bits: 0 busy (delay above 0), 1 free (delay 0), 2 error (visible, flag set)"
+pub data Ask : Type 0 where
+  Busy : Ask
+  Free : Ask
+  Error : Ask
+
+-- "for each a buffer .. and a kind"
+pub record Query : Type 0 where
+  pub buffer : ℕ
+  pub asks : Ask
+
 -- what an action does: "Kind 0, modify: mask and terms for the tested type .. Kind 1, request: type .., mask, terms. Kind 2, clear: nothing more."
 pub data Deed : Type 0 where
   Modify : List Named → Deed
@@ -29,10 +40,11 @@ pub record Action : Type 0 where
   pub buffer : ℕ
   pub deed : Deed
 
--- a rule; its utility is "in thousandths"
+-- a rule; its utility is "in thousandths", and its queries stand "after its tests"
 pub record Rule : Type 0 where
   pub utility : ℤ
   pub tests : List Test
+  pub queries : List Query
   pub actions : List Action
 
 -- a chunk: its type and eight slot values, 0 past the type's slots. "Chunk names .. are not stored."

@@ -1,5 +1,5 @@
 -- "After each step the table is refreshed with that mark."
-use mathlib.Core.Bool.{Bool}
+use mathlib.Core.Bool.{Bool, _||_}
 use mathlib.Core.List.{List, [], _∷_, _++_}
 use Prim.Native.Nat.{ℕ}
 use lib.ListN.{length, take, drop}
@@ -8,9 +8,9 @@ use Rattle.meaning.specs.Base.{if_then_else_, anyOf, keep, bit}
 use Rattle.meaning.specs.Model.{Rule}
 use Rattle.meaning.specs.Match.{entryOf}
 
--- the rules that "test a marked buffer"
+-- the rules that "test a marked buffer", where by request 2026-06 "tests" means "tests or queries"
 abbrev pub testsMarked : ℕ → Rule → Bool
-testsMarked mark r = anyOf (λ t. bit mark (t .buffer)) (r .tests)
+testsMarked mark r = anyOf (λ t. bit mark (t .buffer)) (r .tests) || anyOf (λ q. bit mark (q .buffer)) (r .queries)
 
 -- the entries of those rules are made afresh, and all others are left word for word (01 says what is shut out: "Rebuilding the whole table at each refresh")
 unfoldable pub refresh : List Rule → State → ℕ → List ℕ → List ℕ

@@ -1,15 +1,14 @@
 -- "A step", the retrieval of a fact.
-use mathlib.Core.Bool.{Bool, _&&_}
+use mathlib.Core.Bool.{Bool, true, false, _&&_}
 use mathlib.Core.List.{List}
 use mathlib.Core.Option.{Option, none, some}
 use Prim.Native.Nat.{ℕ, _+_}
 use lib.Dec.{ltb, eqb}
-use lib.ListN.{getD}
+use lib.ListN.{getD, replicate}
 use Rattle.meaning.specs.declared.Buffer.{Buffer}
 use Rattle.meaning.specs.Base.{every, keep}
 use Rattle.meaning.specs.Highest.{highest}
 use Rattle.meaning.specs.Model.{Named, Term, Symbol, Variable, Fact}
-use Rattle.meaning.specs.State.{nilAfter}
 
 -- what a term of an action stands for: a symbol, or the value of a variable in the chosen entry
 abbrev pub valueOf : List ℕ → Term → ℕ
@@ -28,7 +27,7 @@ weaker f g = ltb (f .activation) (g .activation)
 unfoldable pub retrieve : List Fact → ℕ → List Named → List ℕ → Option Fact
 retrieve memory isa ns entry = highest weaker none (keep (fits isa ns entry) memory)
 
--- "with the fact's latency as its delay. If no fact fits it gets nil with the failure latency."
+-- "with the fact's latency as its delay. If no fact fits it gets nil with the failure latency." The error flag "is set when a request finds no fact"
 abbrev pub retrieved : ℕ → Option Fact → Buffer
-retrieved failure none = nilAfter failure
-retrieved failure (some f) = record { isa = f .chunk .isa; slots = f .chunk .slots; delay = f .latency }
+retrieved failure none = record { isa = 0; slots = replicate 8 0; delay = failure; error = true }
+retrieved failure (some f) = record { isa = f .chunk .isa; slots = f .chunk .slots; delay = f .latency; error = false }

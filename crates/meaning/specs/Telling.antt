@@ -1,5 +1,6 @@
 -- Cases that tell document 01 from what is "Plausible and wrong", and the last of "On both sides of the line": one table under a single statement.
 use mathlib.Core.Path.{_≡_, refl}
+use mathlib.Core.Bool.{false}
 use mathlib.Core.List.{List, [], _∷_, _++_, map}
 use Prim.Native.Nat.{ℕ}
 use lib.ListN.{replicate, take, drop}
@@ -20,7 +21,7 @@ use Rattle.meaning.specs.Examples.{everything, Row}
 
 -- a chunk of type 1 in a buffer, and eight buffers of which two may hold something
 abbrev pub holds : ℕ → ℕ → ℕ → Buffer
-holds x y delay = record { isa = 1; slots = x ∷ y ∷ replicate 6 0; delay = delay }
+holds x y delay = record { isa = 1; slots = x ∷ y ∷ replicate 6 0; delay = delay; error = false }
 
 abbrev pub both : Buffer → Buffer → State
 both b c = record { buffers = b ∷ c ∷ replicate 6 (nilAfter 0); clock = 1000 }
@@ -45,7 +46,7 @@ abbrev pub act : ℕ → Deed → Action
 act b d = record { buffer = b; deed = d }
 
 abbrev pub rule : ℤ → List Test → List Action → Rule
-rule u ts as′ = record { utility = u; tests = ts; actions = as′ }
+rule u ts as′ = record { utility = u; tests = ts; queries = []; actions = as′ }
 
 abbrev pub fact : ℕ → ℕ → ℕ → ℕ → Fact
 fact x y activation latency = record { chunk = record { isa = 1; slots = x ∷ y ∷ replicate 6 0 }; activation = activation; latency = latency }

@@ -4,12 +4,13 @@ ghost use Rattle.meaning.specs.State.{nilAfter, zeroState};
 
 pub mod numbers;
 
-// One buffer: the type of its chunk, eight slot values, and the ms until it is visible.
+// One buffer: the type of its chunk, eight slot values, the ms until it is visible, and whether its last request found no fact.
 // (`isa` is ACT-R's own word for a chunk's type; Rattle keeps the word `type` for itself.)
 pub struct Buffer {
     pub isa: u16,
     pub slots: [u16; 8],
     pub delay: u16,
+    pub error: bool,
 }
 
 // Eight buffers and the clock in ms.
@@ -26,6 +27,7 @@ pub fn nil_after(delay: u16) -> Buffer
         isa: 0,
         slots: [0; 8],
         delay: delay,
+        error: false,
     }
 }
 
