@@ -102,7 +102,7 @@ pub extern "C" fn jirvuntsag_bench_field_singly(image: &[u8], at: usize, width: 
 pub extern "C" fn jirvuntsag_bench_open(
     image: &[u8],
     table: &mut [u16],
-    state: &mut [u32; 81],
+    state: &mut [u32; 89],
 ) -> u64
     ensures { λ r. ⌜ told r (now (state .exit)) (now (table .exit)) ≡ openIn (now (image .entry)) (now (table .entry)) ⌝ }
 {

@@ -61,7 +61,7 @@ fn set_out(
     events: &mut [u32],
     sets: &mut [u64],
 ) -> Went
-    requires { ⌜ Planned plan (now tape) × (length (now table) ≡ 9 * plan .rules) × (80 ≤ length (now state)) × Roomy (plan .rules) (now sets) × Cleared (now sets) ⌝ }
+    requires { ⌜ Planned plan (now tape) × (length (now table) ≡ 9 * plan .rules) × (88 ≤ length (now state)) × Roomy (plan .rules) (now sets) × Cleared (now sets) ⌝ }
     ensures { λ r. ⌜ ((m : Model) (store : Option (List Chunk)) → Knows plan (now (tape .entry)) m store
         → WentMet r m store (now (state .entry)) (now (state .exit)) clock (now (table .entry)) (now (table .exit)) steps (now (events .entry)) (now (events .exit)) (now (tape .exit))) ⌝ }
     ensures planned { λ r. ⌜ Planned (r .plan) (now (tape .exit)) ⌝ }
@@ -155,7 +155,7 @@ fn run_small(
     events: &mut [u32],
     store: &mut [u16],
 ) -> RunDone
-    requires { ⌜ Begun begun (now image) × Learning begun (asked .lent) × (begun .plan .end ≤ 3904) ⌝ }
+    requires { ⌜ Begun begun (now image) × Learning begun (asked .lent) × (begun .plan .end ≤ 4096) ⌝ }
     ensures { λ r. ⌜ RunMet r (accepted (now (image .entry)) (now (table .entry))) (asked .state) (now (table .entry)) (now (table .exit)) (asked .steps) (now (events .entry)) (now (events .exit))
         (asked .lent) (now (store .entry)) (now (store .exit)) ⌝ }
 {
@@ -182,7 +182,7 @@ fn run_stored(
     events: &mut [u32],
     store: &mut [u16],
 ) -> RunDone
-    requires { ⌜ Begun begun (now image) × Learning begun (asked .lent) × (begun .plan .end ≤ 6976) ⌝ }
+    requires { ⌜ Begun begun (now image) × Learning begun (asked .lent) × (begun .plan .end ≤ 7168) ⌝ }
     ensures { λ r. ⌜ RunMet r (accepted (now (image .entry)) (now (table .entry))) (asked .state) (now (table .entry)) (now (table .exit)) (asked .steps) (now (events .entry)) (now (events .exit))
         (asked .lent) (now (store .entry)) (now (store .exit)) ⌝ }
 {
@@ -209,7 +209,7 @@ fn run_middle(
     events: &mut [u32],
     store: &mut [u16],
 ) -> RunDone
-    requires { ⌜ Begun begun (now image) × Learning begun (asked .lent) × (begun .plan .end ≤ 16384) ⌝ }
+    requires { ⌜ Begun begun (now image) × Learning begun (asked .lent) × (begun .plan .end ≤ 16960) ⌝ }
     ensures { λ r. ⌜ RunMet r (accepted (now (image .entry)) (now (table .entry))) (asked .state) (now (table .entry)) (now (table .exit)) (asked .steps) (now (events .entry)) (now (events .exit))
         (asked .lent) (now (store .entry)) (now (store .exit)) ⌝ }
 {

@@ -52,7 +52,7 @@ pub fn admit(
     plan: Plan,
     tape: &mut [u16],
 ) -> Admitted
-    requires { ⌜ Planned plan (now tape) × (plan .places ≡ placesFor (plan .facts) (plan .learns)) × (80 ≤ length (now words)) ⌝ }
+    requires { ⌜ Planned plan (now tape) × (plan .places ≡ placesFor (plan .facts) (plan .learns)) × (88 ≤ length (now words)) ⌝ }
     ensures { λ r. ⌜ Admits r plan (now (tape .entry)) (now (tape .exit)) state (now (words .exit)) (now (store .entry)) ⌝ }
 {
     layout_state::lay_state(state, words);

@@ -57,7 +57,7 @@ fn set_out(
     steps: u16,
     events: &mut [u32],
 ) -> Went
-    requires { ⌜ Planned plan (now tape) × (80 ≤ length (now state)) ⌝ }
+    requires { ⌜ Planned plan (now tape) × (88 ≤ length (now state)) ⌝ }
     ensures { λ r. ⌜ ((m : Model) (store : Option (List Chunk)) → Knows plan (now (tape .entry)) m store
         → WentMet r m store (now (state .entry)) (now (state .exit)) clock steps (now (events .entry)) (now (events .exit)) (now (tape .exit))) ⌝ }
     ensures planned { λ r. ⌜ Planned (r .plan) (now (tape .exit)) ⌝ }
@@ -125,7 +125,7 @@ fn run_small(
     events: &mut [u32],
     store: &mut [u16],
 ) -> FreshDone
-    requires { ⌜ Begun begun (now image) × Learning begun (asked .lent) × (begun .plan .end ≤ 3904) ⌝ }
+    requires { ⌜ Begun begun (now image) × Learning begun (asked .lent) × (begun .plan .end ≤ 4096) ⌝ }
     ensures { λ r. ⌜ FreshMet r (decode (now (image .entry))) (asked .state) (asked .steps) (now (events .entry)) (now (events .exit)) (asked .lent) (now (store .entry)) (now (store .exit)) ⌝ }
 {
     let mut tape = [0u16; SMALL_TAPE];
@@ -140,7 +140,7 @@ fn run_stored(
     events: &mut [u32],
     store: &mut [u16],
 ) -> FreshDone
-    requires { ⌜ Begun begun (now image) × Learning begun (asked .lent) × (begun .plan .end ≤ 6976) ⌝ }
+    requires { ⌜ Begun begun (now image) × Learning begun (asked .lent) × (begun .plan .end ≤ 7168) ⌝ }
     ensures { λ r. ⌜ FreshMet r (decode (now (image .entry))) (asked .state) (asked .steps) (now (events .entry)) (now (events .exit)) (asked .lent) (now (store .entry)) (now (store .exit)) ⌝ }
 {
     let mut tape = [0u16; STORE_TAPE];
@@ -155,7 +155,7 @@ fn run_middle(
     events: &mut [u32],
     store: &mut [u16],
 ) -> FreshDone
-    requires { ⌜ Begun begun (now image) × Learning begun (asked .lent) × (begun .plan .end ≤ 16384) ⌝ }
+    requires { ⌜ Begun begun (now image) × Learning begun (asked .lent) × (begun .plan .end ≤ 16960) ⌝ }
     ensures { λ r. ⌜ FreshMet r (decode (now (image .entry))) (asked .state) (asked .steps) (now (events .entry)) (now (events .exit)) (asked .lent) (now (store .entry)) (now (store .exit)) ⌝ }
 {
     let mut tape = [0u16; MIDDLE_TAPE];

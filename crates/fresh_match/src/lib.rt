@@ -15,13 +15,13 @@ pub enum Looked {
 // Looks at the n tests that stand in words from o on: whether each buffer is visible and of the test's type, and each named slot has its symbol.
 // What is left of a mask has the bit of slot b at 128, and no slot is looked at once it is 0.
 fn look(words: &[u16], o: usize, n: usize, state: &[u16]) -> Looked
-    requires { ⌜ (o + 11 * n ≤ length (now words)) × (80 ≤ length (now state)) ⌝ }
+    requires { ⌜ (o + 11 * n ≤ length (now words)) × (88 ≤ length (now state)) ⌝ }
     ensures { λ r. ⌜ LookMet r (now (words .entry)) o n (now (state .entry)) ⌝ }
 {
     let mut q = o;
     let mut i = 0;
     while i < n {
-        let k = 10 * (words[q] % 8) as usize;
+        let k = 11 * (words[q] % 8) as usize;
         if state[k + 9] != 0 {
             return Looked::Differs;
         }
@@ -59,7 +59,7 @@ fn plain_entry(nine: &mut [u16])
 
 // The entry of the rule whose n tests stand in words from o on, into nine words, and whether it matches.
 fn whole_match(nine: &mut [u16], words: &[u16], o: usize, n: usize, state: &[u16]) -> bool
-    requires { ⌜ (length (now nine) ≡ 9) × (o + 11 * n ≤ length (now words)) × (80 ≤ length (now state)) ⌝ }
+    requires { ⌜ (length (now nine) ≡ 9) × (o + 11 * n ≤ length (now words)) × (88 ≤ length (now state)) ⌝ }
     ensures { λ r. ⌜ HitMet r (now (nine .exit)) (now (words .entry)) o n (now (state .entry)) ⌝ }
 {
     match_rule::entry_into(nine, words, o, n, state);
@@ -68,7 +68,7 @@ fn whole_match(nine: &mut [u16], words: &[u16], o: usize, n: usize, state: &[u16
 
 // Whether the rule whose n tests stand in words from o on matches; if it does, the nine words are its entry.
 pub fn hits(nine: &mut [u16], words: &[u16], o: usize, n: usize, state: &[u16]) -> bool
-    requires { ⌜ (length (now nine) ≡ 9) × (o + 11 * n ≤ length (now words)) × (80 ≤ length (now state)) ⌝ }
+    requires { ⌜ (length (now nine) ≡ 9) × (o + 11 * n ≤ length (now words)) × (88 ≤ length (now state)) ⌝ }
     ensures { λ r. ⌜ HitMet r (now (nine .exit)) (now (words .entry)) o n (now (state .entry)) ⌝ }
 {
     match look(words, o, n, state) {

@@ -30,7 +30,7 @@ pub fn advance(
     steps: u16,
     events: &mut [u32],
 ) -> Went
-    requires { ⌜ Planned plan (now tape) × (80 ≤ length (now state)) × ChainsOn plan (now tape) ⌝ }
+    requires { ⌜ Planned plan (now tape) × (88 ≤ length (now state)) × ChainsOn plan (now tape) ⌝ }
     ensures { λ r. ⌜ ((m : Model) (store : Option (List Chunk)) → Knows plan (now (tape .entry)) m store
         → WentMet r m store (now (state .entry)) (now (state .exit)) clock steps (now (events .entry)) (now (events .exit)) (now (tape .exit))) ⌝ }
     ensures planned { λ r. ⌜ Planned (r .plan) (now (tape .exit)) ⌝ }

@@ -53,7 +53,7 @@ fn fire(
     nine: &[u16],
     news: &mut [u16],
 ) -> Moved
-    requires { ⌜ Planned plan (now tape) × (k < plan .rules) × (80 ≤ length (now state)) × ChainsOn plan (now tape) × (length (now nine) ≡ 9) × (88 ≤ length (now news)) ⌝ }
+    requires { ⌜ Planned plan (now tape) × (k < plan .rules) × (88 ≤ length (now state)) × ChainsOn plan (now tape) × (length (now nine) ≡ 9) × (88 ≤ length (now news)) ⌝ }
     ensures { λ r. ⌜ MoveMet (placedMove plan (now (tape .entry)) (stateIn (now (state .entry)) clock) (movesTo (Fired k)
         (fire (plan .failure) (factsOn plan (now (tape .entry))) (ruleIn (headsOn plan (now (tape .entry))) (rowsOn plan (now (tape .entry))) k)
         (now (nine .entry)) (stateIn (now (state .entry)) clock)))) r (now (state .entry)) (now (state .exit)) clock ⌝ }
@@ -80,7 +80,7 @@ fn fire(
 
 // Waits until the next buffer is visible, unless nothing is pending or the clock would pass its limit.
 fn wait(state: &mut [u16], clock: u32) -> Moved
-    requires { ⌜ 80 ≤ length (now state) ⌝ }
+    requires { ⌜ 88 ≤ length (now state) ⌝ }
     ensures { λ r. ⌜ MoveMet (waitFresh (stateIn (now (state .entry)) clock) (soonest 0 (buffersIn (now (state .entry))))) r (now (state .entry)) (now (state .exit)) clock ⌝ }
     ensures waits { λ r. ⌜ Unfired r ⌝ }
 {
@@ -102,7 +102,7 @@ fn wait(state: &mut [u16], clock: u32) -> Moved
 
 // One step of the model that plan and tape mean; a step that is refused leaves the state as it is. What a firing adds to the store is in `news`.
 pub fn step(state: &mut [u16], clock: u32, plan: Plan, tape: &[u16], news: &mut [u16]) -> Moved
-    requires { ⌜ Planned plan (now tape) × (80 ≤ length (now state)) × ChainsOn plan (now tape) × (88 ≤ length (now news)) ⌝ }
+    requires { ⌜ Planned plan (now tape) × (88 ≤ length (now state)) × ChainsOn plan (now tape) × (88 ≤ length (now news)) ⌝ }
     ensures { λ r. ⌜ MoveMet (placedMove plan (now (tape .entry)) (stateIn (now (state .entry)) clock)
         (moveOf (modelOn plan (now (tape .entry))) (stateIn (now (state .entry)) clock))) r (now (state .entry)) (now (state .exit)) clock ⌝ }
     ensures adds { λ r. ⌜ Added r plan (now (tape .entry)) (now (state .entry)) (now (news .exit)) ⌝ }

@@ -22,35 +22,35 @@ use Rattle.jirvuntsag.specs.Words.{stateOf, buffersWords, wordsOf, fits,
 abbrev pub fitsFrom : List ℕ → ℕ → Type 0
 fitsFrom w i = every (λ v. leb v 65535) (drop i (drop 1 w)) ≡ fits w
 
-module _ (w : List ℕ) (i : ℕ) (e : length w ≡ 81) where
-  eighty : length (drop 1 w) ≡ 80
+module _ (w : List ℕ) (i : ℕ) (e : length w ≡ 89) where
+  eighty : length (drop 1 w) ≡ 88
   eighty = omega (arith, length-drop 1 w)
 
-  next : i < 80 → drop i (drop 1 w) ≡ getD w (1 + i) 0 ∷ drop (i + 1) (drop 1 w)
+  next : i < 88 → drop i (drop 1 w) ≡ getD w (1 + i) 0 ∷ drop (i + 1) (drop 1 w)
   next h =
       rw (add-one i)
       (drop-cons (drop 1 w) i 0 (omega (arith, eighty)) ∙ ap (λ (x : ℕ). x ∷ drop (suc i) (drop 1 w)) (getD-drop 1 w i 0))
 
-  pub fits-on : i < 80 → getD w (1 + i) 0 ≤ 65535 → fitsFrom w i → fitsFrom w (i + 1)
+  pub fits-on : i < 88 → getD w (1 + i) 0 ≤ 65535 → fitsFrom w i → fitsFrom w (i + 1)
   fits-on h s f = sym (rw (next h, le-leb (getD w (1 + i) 0) 65535 s) refl) ∙ f
 
-  pub fits-not : i < 80 → 65535 < getD w (1 + i) 0 → fitsFrom w i → false ≡ fits w
+  pub fits-not : i < 88 → 65535 < getD w (1 + i) 0 → fitsFrom w i → false ≡ fits w
   fits-not h s f = sym (rw (next h, lt-leb (getD w (1 + i) 0) 65535 s) refl) ∙ f
 
-  pub fits-end : i ≡ 80 → fitsFrom w i → true ≡ fits w
+  pub fits-end : i ≡ 88 → fitsFrom w i → true ≡ fits w
   fits-end h f = sym (ap (λ (n : ℕ). every (λ v. leb v 65535) (drop n (drop 1 w))) (h ∙ sym eighty) ∙ ap (every (λ v. leb v 65535)) (drop-length (drop 1 w))) ∙ f
 
-  pub narrow-on : (b : List ℕ) → i < 80 → length b ≡ 80 → take i b ≡ take i (drop 1 w) → take (i + 1) (set b i (getD w (1 + i) 0)) ≡ take (i + 1) (drop 1 w)
+  pub narrow-on : (b : List ℕ) → i < 88 → length b ≡ 88 → take i b ≡ take i (drop 1 w) → take (i + 1) (set b i (getD w (1 + i) 0)) ≡ take (i + 1) (drop 1 w)
   narrow-on b h l t =
       rw (add-one i)
       (take-suc-set b i (getD w (1 + i) 0) (omega arith)
       ∙ ap₂ (λ (xs : List ℕ) (x : ℕ). xs ++ (x ∷ [])) t (sym (getD-drop 1 w i 0))
       ∙ sym (take-suc (drop 1 w) i 0 (omega (arith, eighty))))
 
-  pub narrow-end : (b : List ℕ) → 80 ≤ i → length b ≡ 80 → take i b ≡ take i (drop 1 w) → b ≡ drop 1 w
+  pub narrow-end : (b : List ℕ) → 88 ≤ i → length b ≡ 88 → take i b ≡ take i (drop 1 w) → b ≡ drop 1 w
   narrow-end b h l t = sym (take-all i b (omega arith)) ∙ t ∙ take-all i (drop 1 w) (omega (arith, eighty))
 
-  pub widen-on : (b : List ℕ) (x : ℕ) → i < 80 → length b ≡ 80 → take (1 + i) w ≡ x ∷ take i b → take (1 + (i + 1)) (set w (1 + i) (getD b i 0)) ≡ x ∷ take (i + 1) b
+  pub widen-on : (b : List ℕ) (x : ℕ) → i < 88 → length b ≡ 88 → take (1 + i) w ≡ x ∷ take i b → take (1 + (i + 1)) (set w (1 + i) (getD b i 0)) ≡ x ∷ take (i + 1) b
   widen-on b x h l t =
       let n : 1 + (i + 1) ≡ suc (1 + i) = omega arith in
       rw (n, add-one i)
@@ -58,24 +58,24 @@ module _ (w : List ℕ) (i : ℕ) (e : length w ≡ 81) where
       ∙ ap (λ (xs : List ℕ). xs ++ (getD b i 0 ∷ [])) t
       ∙ ap (λ (xs : List ℕ). x ∷ xs) (sym (take-suc b i 0 (omega arith))))
 
-  pub widen-end : (b : List ℕ) (x : ℕ) → 80 ≤ i → length b ≡ 80 → take (1 + i) w ≡ x ∷ take i b → w ≡ x ∷ b
+  pub widen-end : (b : List ℕ) (x : ℕ) → 88 ≤ i → length b ≡ 88 → take (1 + i) w ≡ x ∷ take i b → w ≡ x ∷ b
   widen-end b x h l t = sym (take-all (1 + i) w (omega arith)) ∙ t ∙ ap (λ (xs : List ℕ). x ∷ xs) (take-all i b (omega arith))
 
-pub widen-start : (w b : List ℕ) → length w ≡ 81 → take (1 + 0) w ≡ getD w 0 0 ∷ take 0 b
+pub widen-start : (w b : List ℕ) → length w ≡ 89 → take (1 + 0) w ≡ getD w 0 0 ∷ take 0 b
 widen-start [] b e = absurd (omega arith)
 widen-start (x ∷ xs) b e = refl
 
 -- ---- eighty words are the words of the buffers in them
 
-pub words-in : (b : List ℕ) → length b ≡ 80 → buffersWords (buffersIn b) ≡ b
+pub words-in : (b : List ℕ) → length b ≡ 88 → buffersWords (buffersIn b) ≡ b
 unfolding rowsIn
-words-in b e = rows-list 80 b e
+words-in b e = rows-list 88 b e
 
-pub words-laid : (s : State) (b : List ℕ) → length b ≡ 80 → buffersIn b ≡ s .buffers → s .clock ∷ b ≡ wordsOf s
+pub words-laid : (s : State) (b : List ℕ) → length b ≡ 88 → buffersIn b ≡ s .buffers → s .clock ∷ b ≡ wordsOf s
 unfolding wordsOf
 words-laid s b e l = ap (λ (xs : List ℕ). s .clock ∷ xs) (sym (words-in b e) ∙ ap buffersWords l)
 
-pub lay-done : (s : State) (w w′ b : List ℕ) → length b ≡ 80 → buffersIn b ≡ s .buffers → w′ ≡ getD w 0 0 ∷ b → set w′ 0 (s .clock) ≡ wordsOf s
+pub lay-done : (s : State) (w w′ b : List ℕ) → length b ≡ 88 → buffersIn b ≡ s .buffers → w′ ≡ getD w 0 0 ∷ b → set w′ 0 (s .clock) ≡ wordsOf s
 lay-done s w w′ b e l d = ap (λ (xs : List ℕ). set xs 0 (s .clock)) d ∙ words-laid s b e l
 
 -- ---- the state that the words gave

@@ -1,4 +1,4 @@
--- The state in 81 words, what the calls answer in words, and that this settles all.
+-- The state in 89 words, what the calls answer in words, and that this settles all.
 pub mod Words
 pub mod Told
 pub mod Once

@@ -1,4 +1,4 @@
--- The state as C hands it in and takes it back: 81 words, the clock and then for each of the eight buffers its type, eight slots and delay.
+-- The state as C hands it in and takes it back: 89 words, the clock and then for each of the eight buffers its type, eight slots and delay.
 use Prim.Native.Nat.{ℕ}
 use mathlib.Core.Bool.{Bool}
 use mathlib.Core.List.{List, [], _∷_, _++_}
@@ -9,7 +9,7 @@ use Rattle.meaning.specs.declared.State.{State}
 use Rattle.meaning.specs.Base.{if_then_else_, every}
 use Rattle.layout.specs.StateWords.{stateIn}
 
--- the state that 81 words hold
+-- the state that 89 words hold
 abbrev pub stateOf : List ℕ → State
 stateOf w = stateIn (drop 1 w) (getD w 0 0)
 

@@ -47,11 +47,11 @@ fn unfit_state() -> State
 
 // The words past the clock in 16 bits, and whether each has room there.
 fn narrow(words: &[u32], buffers: &mut [u16]) -> bool
-    requires { ⌜ (length (now words) ≡ 81) × (length (now buffers) ≡ 80) ⌝ }
+    requires { ⌜ (length (now words) ≡ 89) × (length (now buffers) ≡ 88) ⌝ }
     ensures { λ r. ⌜ (r ≡ fits (now (words .entry))) × (r ≡ true → now (buffers .exit) ≡ drop 1 (now (words .entry))) ⌝ }
 {
     let mut i = 0;
-    while i < 80 {
+    while i < 88 {
         let word = words[1 + i];
         if 65535 < word {
             return false;
@@ -64,19 +64,19 @@ fn narrow(words: &[u32], buffers: &mut [u16]) -> bool
 
 // Eighty words of 16 bits, after the clock.
 fn widen(buffers: &[u16], words: &mut [u32])
-    requires { ⌜ (length (now buffers) ≡ 80) × (length (now words) ≡ 81) ⌝ }
+    requires { ⌜ (length (now buffers) ≡ 88) × (length (now words) ≡ 89) ⌝ }
     ensures { λ _. ⌜ now (words .exit) ≡ getD (now (words .entry)) 0 0 ∷ now (buffers .entry) ⌝ }
 {
     let mut i = 0;
-    while i < 80 {
+    while i < 88 {
         words[1 + i] = buffers[i] as u32;
         i += 1;
     }
 }
 
-// The state that 81 words hold, or the unfit one if a word is too large.
+// The state that 89 words hold, or the unfit one if a word is too large.
 fn given(words: &[u32]) -> Handed
-    requires { ⌜ length (now words) ≡ 81 ⌝ }
+    requires { ⌜ length (now words) ≡ 89 ⌝ }
     ensures { λ r. ⌜ (r .fitting ≡ fits (now (words .entry))) × (r .state ≡ givenBy (now (words .entry))) ⌝ }
 {
     let mut buffers = [0u16; STATE_WORDS];
@@ -94,9 +94,9 @@ fn given(words: &[u32]) -> Handed
     }
 }
 
-// A state into its 81 words.
+// A state into its 89 words.
 fn lay(state: State, words: &mut [u32])
-    requires { ⌜ length (now words) ≡ 81 ⌝ }
+    requires { ⌜ length (now words) ≡ 89 ⌝ }
     ensures { λ _. ⌜ now (words .exit) ≡ wordsOf state ⌝ }
 {
     let mut buffers = [0u16; STATE_WORDS];
@@ -105,9 +105,9 @@ fn lay(state: State, words: &mut [u32])
     words[0] = state.clock;
 }
 
-// A state into its 81 words if the words held one before; otherwise they stay.
+// A state into its 89 words if the words held one before; otherwise they stay.
 fn lay_back(fitting: bool, state: State, words: &mut [u32])
-    requires { ⌜ length (now words) ≡ 81 ⌝ }
+    requires { ⌜ length (now words) ≡ 89 ⌝ }
     ensures { λ _. ⌜ now (words .exit) ≡ (if fitting then wordsOf state else now (words .entry)) ⌝ }
 {
     if fitting {
@@ -126,7 +126,7 @@ pub extern "C" fn jirvuntsag_table_len(image: &[u8]) -> u64
 
 // Opens an image: writes the opening state (all zero if it is refused), and the fresh table if it is accepted.
 #[no_mangle]
-pub extern "C" fn jirvuntsag_open(image: &[u8], table: &mut [u16], state: &mut [u32; 81]) -> u64
+pub extern "C" fn jirvuntsag_open(image: &[u8], table: &mut [u16], state: &mut [u32; 89]) -> u64
     ensures { λ r. ⌜ told r (now (state .exit)) (now (table .exit)) ≡ openIn (now (image .entry)) (now (table .entry)) ⌝ }
 {
     let done = calls::open(image, table);
@@ -139,7 +139,7 @@ pub extern "C" fn jirvuntsag_open(image: &[u8], table: &mut [u16], state: &mut [
 #[no_mangle]
 pub extern "C" fn jirvuntsag_run(
     image: &[u8],
-    state: &mut [u32; 81],
+    state: &mut [u32; 89],
     table: &mut [u16],
     steps: u16,
 ) -> u64
@@ -157,7 +157,7 @@ pub extern "C" fn jirvuntsag_run(
 #[no_mangle]
 pub extern "C" fn jirvuntsag_trace(
     image: &[u8],
-    state: &mut [u32; 81],
+    state: &mut [u32; 89],
     table: &mut [u16],
     steps: u16,
     events: &mut [u32],
@@ -177,7 +177,7 @@ pub extern "C" fn jirvuntsag_trace(
 #[no_mangle]
 pub extern "C" fn jirvuntsag_run_lent(
     image: &[u8],
-    state: &mut [u32; 81],
+    state: &mut [u32; 89],
     table: &mut [u16],
     steps: u16,
     events: &mut [u32],
@@ -200,7 +200,7 @@ pub extern "C" fn jirvuntsag_run_lent(
 #[no_mangle]
 pub extern "C" fn jirvuntsag_refresh(
     image: &[u8],
-    state: &[u32; 81],
+    state: &[u32; 89],
     mark: u16,
     table: &mut [u16],
 ) -> u64
@@ -214,7 +214,7 @@ pub extern "C" fn jirvuntsag_refresh(
 
 // Runs at most `steps` steps with nothing kept, every rule matched afresh at each: writes the state after them.
 #[no_mangle]
-pub extern "C" fn jirvuntsag_run_fresh(image: &[u8], state: &mut [u32; 81], steps: u16) -> u64
+pub extern "C" fn jirvuntsag_run_fresh(image: &[u8], state: &mut [u32; 89], steps: u16) -> u64
     ensures { λ r. ⌜ freshTold r (now (state .exit)) ≡ freshIn (now (image .entry)) (now (state .entry)) steps ⌝ }
 {
     let before = given(state);
@@ -229,7 +229,7 @@ pub extern "C" fn jirvuntsag_run_fresh(image: &[u8], state: &mut [u32; 81], step
 #[no_mangle]
 pub extern "C" fn jirvuntsag_trace_fresh(
     image: &[u8],
-    state: &mut [u32; 81],
+    state: &mut [u32; 89],
     steps: u16,
     events: &mut [u32],
 ) -> u64
@@ -248,7 +248,7 @@ pub extern "C" fn jirvuntsag_trace_fresh(
 #[no_mangle]
 pub extern "C" fn jirvuntsag_run_fresh_lent(
     image: &[u8],
-    state: &mut [u32; 81],
+    state: &mut [u32; 89],
     steps: u16,
     events: &mut [u32],
     lent: u16,

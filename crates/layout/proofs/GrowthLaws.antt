@@ -49,18 +49,18 @@ facts-two w n m =
 -- ---- rows written after the facts and before the chains, or anywhere before the heads
 
 module _ (p : Plan) (tape tape′ : List ℕ) (planned : Planned p tape) (n : ℕ) (fit : p .facts + n ≤ p .places) (as-long : length tape′ ≡ length tape)
-    (begins : take (144 + 11 * p .facts) tape′ ≡ take (144 + 11 * p .facts) tape) (apart : drop (p .heads) tape′ ≡ drop (p .heads) tape) where
+    (begins : take (152 + 11 * p .facts) tape′ ≡ take (152 + 11 * p .facts) tape) (apart : drop (p .heads) tape′ ≡ drop (p .heads) tape) where
   abbrev more : Plan
   more = withFacts p (p .facts + n)
 
   abbrev added : List Fact
-  added = factsIn (drop (11 * p .facts) (drop 144 tape′)) n
+  added = factsIn (drop (11 * p .facts) (drop 152 tape′)) n
 
   stays : Stays p tape tape′
   stays = stays-apart p tape tape′ planned as-long begins apart
 
   facts-more : factsOn more tape′ ≡ factsOn p tape ++ added
-  facts-more = facts-two (drop 144 tape′) (p .facts) n ∙ ap (λ (l : List Fact). l ++ added) (facts-kept p tape tape′ begins)
+  facts-more = facts-two (drop 152 tape′) (p .facts) n ∙ ap (λ (l : List Fact). l ++ added) (facts-kept p tape tape′ begins)
 
   model-more : modelOn more tape′ ≡ withMore (modelOn p tape) added
   unfolding modelOn
@@ -92,7 +92,7 @@ module _ (p : Plan) (tape tape′ : List ℕ) (planned : Planned p tape) (n : �
   pub extended-by : Extended p tape more tape′ added
   extended-by =
       record {
-        plan = ap (λ (k : ℕ). withFacts p (p .facts + k)) (sym (rows-length (λ k. factIn (drop (11 * p .facts) (drop 144 tape′)) (11 * k)) 0 n));
+        plan = ap (λ (k : ℕ). withFacts p (p .facts + k)) (sym (rows-length (λ k. factIn (drop (11 * p .facts) (drop 152 tape′)) (11 * k)) 0 n));
         planned = planned-more;
         model = model-more;
         above = apart;
@@ -101,12 +101,12 @@ module _ (p : Plan) (tape tape′ : List ℕ) (planned : Planned p tape) (n : �
 -- ---- one row: the eleven words of a fact after the others
 
 module _ (p : Plan) (tape tape′ : List ℕ) (planned : Planned p tape) (fit : p .facts + 1 ≤ p .places) (as-long : length tape′ ≡ length tape)
-    (begins : take (144 + 11 * p .facts) tape′ ≡ take (144 + 11 * p .facts) tape) (apart : drop (p .heads) tape′ ≡ drop (p .heads) tape) where
-  pub extended-by-row : (row : List ℕ) (o : ℕ) → Alike tape′ (144 + 11 * p .facts) row o → Extended p tape (withFacts p (p .facts + 1)) tape′ (factIn row o ∷ [])
+    (begins : take (152 + 11 * p .facts) tape′ ≡ take (152 + 11 * p .facts) tape) (apart : drop (p .heads) tape′ ≡ drop (p .heads) tape) where
+  pub extended-by-row : (row : List ℕ) (o : ℕ) → Alike tape′ (152 + 11 * p .facts) row o → Extended p tape (withFacts p (p .facts + 1)) tape′ (factIn row o ∷ [])
   unfolding rowsIn
   extended-by-row row o like =
-      let there : List ℕ = drop (11 * p .facts) (drop 144 tape′) in
-      let same : Alike there (11 * 0) row o = λ j l. let s : 144 + (11 * p .facts + (11 * 0 + j)) ≡ 144 + 11 * p .facts + j = omega arith in rw (getD-drop, getD-drop, s) (like j l) in
+      let there : List ℕ = drop (11 * p .facts) (drop 152 tape′) in
+      let same : Alike there (11 * 0) row o = λ j l. let s : 152 + (11 * p .facts + (11 * 0 + j)) ≡ 152 + 11 * p .facts + j = omega arith in rw (getD-drop, getD-drop, s) (like j l) in
       subst (λ (fs : List Fact). Extended p tape (withFacts p (p .facts + 1)) tape′ fs)
       (ap (λ (f : Fact). f ∷ []) (fact-like there row (11 * 0) o same)) (extended-by p tape tape′ planned 1 fit as-long begins apart)
 

@@ -7,13 +7,15 @@ use lib.ListN.{length, getD, take, drop, length-drop}
 use lib.Seq.{sets, drop-drop, take-take, getD-take, getD-drop, length-take-le}
 use Rattle.meaning.specs.declared.Buffer.{Buffer}
 use Rattle.meaning.specs.declared.State.{State}
-use Rattle.meaning.specs.Model.{Model, Chunk, Fact, Test, Action, Rule}
+use Rattle.meaning.specs.Model.{Model, Chunk, Fact, Test, Query, Action, Rule}
+use Rattle.meaning.specs.Base.{bit}
 use Rattle.meaning.specs.Image.{utilityOf}
 use Rattle.meaning.specs.Learning.{chunkOf}
 use Rattle.meaning.specs.Calls.{openState}
+use Rattle.laws.specs.RefreshLaws.{looksAt}
 use Rattle.layout.specs.declared.Plan.{Plan}
 use Rattle.layout.specs.Walks.{Small}
-use Rattle.layout.specs.Rows.{factIn, testIn, actionIn, testsIn, actionsIn, ruleIn, rulesIn, testedMask, Laid}
+use Rattle.layout.specs.Rows.{factIn, testIn, actionIn, testsIn, actionsIn, ruleIn, rulesIn, queryBy, queriesAt, Laid}
 use Rattle.layout.specs.StateWords.{bufferIn, buffersIn, stateIn}
 use Rattle.layout.specs.Plans.{typesOn, openingOn, factsOn, headsOn, rowsOn, rulesOn, modelOn, Planned}
 use Rattle.layout.proofs.WordLaws.{below-get, sets-at}
@@ -48,16 +50,16 @@ same-written w w′ own q m h room e j l =
     ap (λ (v : List ℕ). getD (drop q v) j 0) e
     ∙ getD-drop q (sets w q (take m own)) j 0 ∙ sets-at w q (take m own) j (omega arith) (omega arith) ∙ getD-take m own j 0 l
 
--- ---- while words from 144 on are written, types and opening stay
+-- ---- while words from 152 on are written, types and opening stay
 
-module _ (p : Plan) (tape tape′ : List ℕ) (kept : take 144 tape′ ≡ take 144 tape) where
+module _ (p : Plan) (tape tape′ : List ℕ) (kept : take 152 tape′ ≡ take 152 tape) where
   pub types-kept : p .declared + 1 ≤ 64 → typesOn p tape′ ≡ typesOn p tape
-  types-kept h = begin-alike (p .declared + 1) 144 tape tape′ (omega arith) kept
+  types-kept h = begin-alike (p .declared + 1) 152 tape tape′ (omega arith) kept
 
   buffers-kept : buffersIn (drop 64 tape′) ≡ buffersIn (drop 64 tape)
   buffers-kept =
       rows-same (bufferIn (drop 64 tape′)) (bufferIn (drop 64 tape)) 0 8
-      (λ k a b. buffer-like (drop 64 tape′) (drop 64 tape) k (λ j l. same-below 64 80 tape tape′ kept (10 * k + j) (omega arith)))
+      (λ k a b. buffer-like (drop 64 tape′) (drop 64 tape) k (λ j l. same-below 64 88 tape tape′ kept (11 * k + j) (omega arith)))
 
   pub state-kept : stateIn (drop 64 tape′) 0 ≡ stateIn (drop 64 tape) 0
   state-kept = ap (λ (bs : List Buffer). record { buffers = bs; clock = 0 }) buffers-kept
@@ -67,51 +69,60 @@ module _ (p : Plan) (tape tape′ : List ℕ) (kept : take 144 tape′ ≡ take 
 
 -- ---- facts stay while words from their end on are written
 
-pub facts-kept : (p : Plan) (tape tape′ : List ℕ) → take (144 + 11 * p .facts) tape′ ≡ take (144 + 11 * p .facts) tape → factsOn p tape′ ≡ factsOn p tape
+pub facts-kept : (p : Plan) (tape tape′ : List ℕ) → take (152 + 11 * p .facts) tape′ ≡ take (152 + 11 * p .facts) tape → factsOn p tape′ ≡ factsOn p tape
 facts-kept p tape tape′ kept =
-    rows-same (λ k. factIn (drop 144 tape′) (11 * k)) (λ k. factIn (drop 144 tape) (11 * k)) 0 (p .facts)
-    (λ k a b. fact-like (drop 144 tape′) (drop 144 tape) (11 * k) (11 * k) (λ j l. same-below 144 (11 * p .facts) tape tape′ kept (11 * k + j) (omega arith)))
+    rows-same (λ k. factIn (drop 152 tape′) (11 * k)) (λ k. factIn (drop 152 tape) (11 * k)) 0 (p .facts)
+    (λ k a b. fact-like (drop 152 tape′) (drop 152 tape) (11 * k) (11 * k) (λ j l. same-below 152 (11 * p .facts) tape tape′ kept (11 * k + j) (omega arith)))
 
 -- ---- rules in heads and rows that are alike
 
-module _ (heads heads′ words words′ : List ℕ) (n : ℕ) (laid : Laid heads words n) (same-heads : SameTo (4 * n) heads heads′) (same-words : SameTo (176 * n) words words′) where
-  pub tests-kept : (j : ℕ) → j < n → testsIn words′ (176 * j) (getD heads′ (4 * j) 0) ≡ testsIn words (176 * j) (getD heads (4 * j) 0)
+module _ (heads heads′ words words′ : List ℕ) (n : ℕ) (laid : Laid heads words n) (same-heads : SameTo (4 * n) heads heads′) (same-words : SameTo (185 * n) words words′) where
+  pub tests-kept : (j : ℕ) → j < n → testsIn words′ (185 * j) (getD heads′ (4 * j) 0) ≡ testsIn words (185 * j) (getD heads (4 * j) 0)
   tests-kept j h =
-      ap (testsIn words′ (176 * j)) (same-heads (4 * j) (omega arith))
-      ∙ in-same testIn test-like words′ words (176 * j) (getD heads (4 * j) 0) (λ i l. same-words i (omega (arith, laid .tests-few j h)))
+      ap (testsIn words′ (185 * j)) (same-heads (4 * j) (omega arith))
+      ∙ in-same testIn test-like words′ words (185 * j) (getD heads (4 * j) 0) (λ i l. same-words i (omega (arith, laid .tests-few j h)))
 
-  actions-kept : (j : ℕ) → j < n → actionsIn words′ (176 * j + 88) (getD heads′ (4 * j + 1) 0) ≡ actionsIn words (176 * j + 88) (getD heads (4 * j + 1) 0)
+  actions-kept : (j : ℕ) → j < n → actionsIn words′ (185 * j + 88) (getD heads′ (4 * j + 1) 0) ≡ actionsIn words (185 * j + 88) (getD heads (4 * j + 1) 0)
   actions-kept j h =
-      ap (actionsIn words′ (176 * j + 88)) (same-heads (4 * j + 1) (omega arith))
-      ∙ in-same actionIn action-like words′ words (176 * j + 88) (getD heads (4 * j + 1) 0) (λ i l. same-words i (omega (arith, laid .actions-few j h)))
+      ap (actionsIn words′ (185 * j + 88)) (same-heads (4 * j + 1) (omega arith))
+      ∙ in-same actionIn action-like words′ words (185 * j + 88) (getD heads (4 * j + 1) 0) (λ i l. same-words i (omega (arith, laid .actions-few j h)))
+
+  queries-kept : (j : ℕ) → j < n → queriesAt words′ (185 * j) ≡ queriesAt words (185 * j)
+  queries-kept j h =
+      rw (same-words (185 * j + 176) (omega arith))
+      (rows-same (λ k. queryBy (getD words′ (185 * j + 177 + k) 0)) (λ k. queryBy (getD words (185 * j + 177 + k) 0)) 0 (getD words (185 * j + 176) 0)
+      (λ k a b. ap queryBy (same-words (185 * j + 177 + k) (omega (arith, laid .queries-few j h)))))
 
   pub rule-kept : (j : ℕ) → j < n → ruleIn heads′ words′ j ≡ ruleIn heads words j
   rule-kept j h =
-      ap (λ (u : ℕ). record { utility = utilityOf u; tests = testsIn words′ (176 * j) (getD heads′ (4 * j) 0); actions = actionsIn words′ (176 * j + 88) (getD heads′ (4 * j + 1) 0) })
-      (same-heads (4 * j + 2) (omega arith))
-      ∙ ap₂ (λ (ts : List Test) (as′ : List Action). record { utility = utilityOf (getD heads (4 * j + 2) 0); tests = ts; actions = as′ }) (tests-kept j h) (actions-kept j h)
+      ap₂ (λ (u : ℕ) (qs : List Query).
+      record { utility = utilityOf u; tests = testsIn words′ (185 * j) (getD heads′ (4 * j) 0); queries = qs; actions = actionsIn words′ (185 * j + 88) (getD heads′ (4 * j + 1) 0) })
+      (same-heads (4 * j + 2) (omega arith)) (queries-kept j h)
+      ∙ ap₂ (λ (ts : List Test) (as′ : List Action). record { utility = utilityOf (getD heads (4 * j + 2) 0); tests = ts; queries = queriesAt words (185 * j); actions = as′ })
+      (tests-kept j h) (actions-kept j h)
 
   pub rules-kept : rulesIn heads′ words′ n ≡ rulesIn heads words n
   rules-kept = rows-same (ruleIn heads′ words′) (ruleIn heads words) 0 n (λ j a b. rule-kept j (omega arith))
 
-  pub laid-kept : 4 * n ≤ length heads′ → 176 * n ≤ length words′ → Laid heads′ words′ n
+  pub laid-kept : 4 * n ≤ length heads′ → 185 * n ≤ length words′ → Laid heads′ words′ n
   laid-kept heads-fit words-fit =
       record {
         at-most = laid .at-most;
         heads-room = heads-fit;
         words-room = words-fit;
         tests-few = λ j h. omega (arith, same-heads (4 * j) (omega arith), laid .tests-few j h);
+        queries-few = λ j h. omega (arith, same-words (185 * j + 176) (omega arith), laid .queries-few j h);
         actions-few = λ j h. omega (arith, same-heads (4 * j + 1) (omega arith), laid .actions-few j h);
-        masks = λ j h. same-heads (4 * j + 3) (omega arith) ∙ laid .masks j h ∙ ap testedMask (sym (tests-kept j h));
+        masks = λ j h b. ap (λ (mask : ℕ). bit mask b) (same-heads (4 * j + 3) (omega arith)) ∙ laid .masks j h b ∙ ap (λ (r : Rule). looksAt r b) (sym (rule-kept j h));
       }
 
 -- ---- where the sections of a plan begin: each where the one before it ends
 
 pub record Follows (p : Plan) : Type 0 where
-  pub chains-at : p .chains ≡ 144 + 11 * p .places
+  pub chains-at : p .chains ≡ 152 + 11 * p .places
   pub heads-at : p .heads ≡ p .chains + 64 + p .places
   pub rows-at : p .rows ≡ p .heads + 4 * p .rules
-  pub order-at : p .order ≡ p .rows + 176 * p .rules
+  pub order-at : p .order ≡ p .rows + 185 * p .rules
 
 pub follows : {p : Plan} {tape : List ℕ} → Planned p tape → Follows p
 follows planned =
@@ -129,9 +140,9 @@ modelBy p types opening facts rules = record { buffers = p .buffers; types = typ
 
 -- types, opening and facts are as they were, and so are the heads and the rows of the rules
 pub record Stays (p : Plan) (tape tape′ : List ℕ) : Type 0 where
-  pub begins : take (144 + 11 * p .facts) tape′ ≡ take (144 + 11 * p .facts) tape
+  pub begins : take (152 + 11 * p .facts) tape′ ≡ take (152 + 11 * p .facts) tape
   pub heads : SameTo (4 * p .rules) (headsOn p tape) (headsOn p tape′)
-  pub rows : SameTo (176 * p .rules) (rowsOn p tape) (rowsOn p tape′)
+  pub rows : SameTo (185 * p .rules) (rowsOn p tape) (rowsOn p tape′)
   pub as-long : length tape′ ≡ length tape
 
 module _ (p : Plan) (tape tape′ : List ℕ) (planned : Planned p tape) (as-long : length tape′ ≡ length tape) where
@@ -142,14 +153,14 @@ module _ (p : Plan) (tape tape′ : List ℕ) (planned : Planned p tape) (as-lon
       let fit = planned .facts-placed in
       let kept-to : (m : ℕ) → m ≤ p .order → take m tape′ ≡ take m tape = λ m h. begin-alike m o tape tape′ (omega arith) below in
       record {
-        begins = kept-to (144 + 11 * p .facts) (omega arith);
+        begins = kept-to (152 + 11 * p .facts) (omega arith);
         heads = same-below (p .heads) (4 * p .rules) tape tape′ (kept-to (p .heads + 4 * p .rules) (omega arith));
-        rows = same-below (p .rows) (176 * p .rules) tape tape′ (kept-to (p .rows + 176 * p .rules) (omega arith));
+        rows = same-below (p .rows) (185 * p .rules) tape tape′ (kept-to (p .rows + 185 * p .rules) (omega arith));
         as-long = as-long;
       }
 
   -- while words after the facts and before the heads are written
-  pub stays-apart : take (144 + 11 * p .facts) tape′ ≡ take (144 + 11 * p .facts) tape → drop (p .heads) tape′ ≡ drop (p .heads) tape → Stays p tape tape′
+  pub stays-apart : take (152 + 11 * p .facts) tape′ ≡ take (152 + 11 * p .facts) tape → drop (p .heads) tape′ ≡ drop (p .heads) tape → Stays p tape tape′
   stays-apart begins apart =
       let f = follows planned in
       let at : (q : ℕ) → p .heads ≤ q → drop q tape′ ≡ drop q tape = λ q h. drop-alike (p .heads) q tape tape′ h apart in
@@ -161,11 +172,11 @@ module _ (p : Plan) (tape tape′ : List ℕ) (planned : Planned p tape) (as-lon
       }
 
 module _ (p : Plan) (tape tape′ : List ℕ) (planned : Planned p tape) (stays : Stays p tape tape′) where
-  pub same-facts : SameTo (11 * p .facts) (drop 144 tape) (drop 144 tape′)
-  same-facts = same-below 144 (11 * p .facts) tape tape′ (stays .begins)
+  pub same-facts : SameTo (11 * p .facts) (drop 152 tape) (drop 152 tape′)
+  same-facts = same-below 152 (11 * p .facts) tape tape′ (stays .begins)
 
-  opening-below : take 144 tape′ ≡ take 144 tape
-  opening-below = begin-alike 144 (144 + 11 * p .facts) tape tape′ (omega arith) (stays .begins)
+  opening-below : take 152 tape′ ≡ take 152 tape
+  opening-below = begin-alike 152 (152 + 11 * p .facts) tape tape′ (omega arith) (stays .begins)
 
   types-below : typesOn p tape′ ≡ typesOn p tape
   types-below = types-kept p tape tape′ opening-below (omega (arith, planned .most-declared))
@@ -183,7 +194,7 @@ module _ (p : Plan) (tape tape′ : List ℕ) (planned : Planned p tape) (stays 
       let s = sections planned in
       let long = stays .as-long in
       let heads-fit : 4 * p .rules ≤ length (headsOn p tape′) = omega (arith, length-drop (p .heads) tape′) in
-      let rows-fit : 176 * p .rules ≤ length (rowsOn p tape′) = omega (arith, length-drop (p .rows) tape′) in
+      let rows-fit : 185 * p .rules ≤ length (rowsOn p tape′) = omega (arith, length-drop (p .rows) tape′) in
       record {
         starts = planned .starts;
         room = omega (arith, planned .room);

@@ -8,11 +8,11 @@ use Rattle.layout.specs.declared.Plan.{Plan}
 use Rattle.layout.specs.Plans.{Planned}
 
 pub record Sections (p : Plan) (tape : List ℕ) : Type 0 where
-  pub facts-end : 144 + 11 * p .facts ≤ length tape
-  pub places-end : 144 + 11 * p .places ≤ p .chains
-  pub facts-room : 11 * p .facts ≤ length (drop 144 tape)
+  pub facts-end : 152 + 11 * p .facts ≤ length tape
+  pub places-end : 152 + 11 * p .places ≤ p .chains
+  pub facts-room : 11 * p .facts ≤ length (drop 152 tape)
   pub heads-end : p .heads + 4 * p .rules ≤ length tape
-  pub rows-end : p .rows + 176 * p .rules ≤ length tape
+  pub rows-end : p .rows + 185 * p .rules ≤ length tape
   pub chains-end : p .chains + 64 + p .facts ≤ p .heads
   pub order-end : p .order + 2 * p .rules ≤ length tape
 
@@ -27,7 +27,7 @@ sections {p} {tape} planned =
     record {
       facts-end = omega (arith, planned .room, planned .facts-placed);
       places-end = omega arith;
-      facts-room = omega (arith, planned .room, planned .facts-placed, length-drop 144 tape);
+      facts-room = omega (arith, planned .room, planned .facts-placed, length-drop 152 tape);
       heads-end = omega (arith, planned .room);
       rows-end = omega (arith, planned .room);
       chains-end = omega (arith, planned .facts-placed);

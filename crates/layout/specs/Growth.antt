@@ -11,6 +11,7 @@ use Rattle.layout.specs.Plans.{modelOn, Planned}
 abbrev pub withFacts : Plan → ℕ → Plan
 withFacts p n =
     record {
+      version = p .version;
       buffers = p .buffers;
       declared = p .declared;
       rules = p .rules;

@@ -17,11 +17,12 @@ use Rattle.layout.specs.declared.Plan.{Plan}
 abbrev pub placesFor : ℕ → Bool → ℕ
 placesFor facts learns = if learns then facts + 256 else facts
 
--- the sections one after the other: 64 slot counts, 80 words of the opening state, a row for each place of a fact; 64 chains with a word for each place,
--- which a run lays; a head and sixteen rows for each rule; and two words a rule for the order of rules, which a run lays too
-abbrev pub planOf : ℕ → ℕ → ℕ → ℕ → ℕ → ℕ → Bool → Plan
-planOf buffers declared rules facts failure places learns =
+-- the sections one after the other: 64 slot counts, 88 words of the opening state, a row for each place of a fact; 64 chains with a word for each place,
+-- which a run lays; a head for each rule, and its sixteen rows and its queries; and two words a rule for the order of rules, which a run lays too
+abbrev pub planOf : ℕ → ℕ → ℕ → ℕ → ℕ → ℕ → ℕ → Bool → Plan
+planOf version buffers declared rules facts failure places learns =
     record {
+      version = version;
       buffers = buffers;
       declared = declared;
       rules = rules;
@@ -29,11 +30,11 @@ planOf buffers declared rules facts failure places learns =
       failure = failure;
       places = places;
       learns = learns;
-      chains = 144 + 11 * places;
-      heads = 144 + 11 * places + 64 + places;
-      rows = 144 + 11 * places + 64 + places + 4 * rules;
-      order = 144 + 11 * places + 64 + places + 4 * rules + 176 * rules;
-      end = 144 + 11 * places + 64 + places + 4 * rules + 176 * rules + 2 * rules;
+      chains = 152 + 11 * places;
+      heads = 152 + 11 * places + 64 + places;
+      rows = 152 + 11 * places + 64 + places + 4 * rules;
+      order = 152 + 11 * places + 64 + places + 4 * rules + 185 * rules;
+      end = 152 + 11 * places + 64 + places + 4 * rules + 185 * rules + 2 * rules;
     }
 
 -- ---- the model that stands on a tape
@@ -46,7 +47,7 @@ abbrev pub openingOn : Plan → List ℕ → List Chunk
 openingOn p tape = map chunkOf (take (p .buffers) (buffersIn (drop 64 tape)))
 
 abbrev pub factsOn : Plan → List ℕ → List Fact
-factsOn p tape = factsIn (drop 144 tape) (p .facts)
+factsOn p tape = factsIn (drop 152 tape) (p .facts)
 
 abbrev pub headsOn : Plan → List ℕ → List ℕ
 headsOn p tape = drop (p .heads) tape
@@ -76,7 +77,7 @@ modelOn p tape =
 
 pub record Planned (p : Plan) (tape : List ℕ) : Type 0 where
   -- the sections follow each other, and the tape has room for them
-  pub starts : p ≡ planOf (p .buffers) (p .declared) (p .rules) (p .facts) (p .failure) (p .places) (p .learns)
+  pub starts : p ≡ planOf (p .version) (p .buffers) (p .declared) (p .rules) (p .facts) (p .failure) (p .places) (p .learns)
   pub room : p .end ≤ length tape
   -- the counts are those that an image and a store may have
   pub some-buffers : 1 ≤ p .buffers

@@ -1,13 +1,14 @@
 -- What stands in words. Every list of words is read as something (a buffer is below 8, a variable too),
 -- so that whoever reads words needs no fact that they are valid.
-use Prim.Native.Nat.{ℕ, zero, suc, _+_, _*_, _%_, _≤_, _<_}
+use Prim.Native.Nat.{ℕ, zero, suc, _+_, _*_, _/_, _%_, _≤_, _<_}
 use mathlib.Core.Path.{_≡_}
 use mathlib.Core.List.{List, [], _∷_, map}
 use lib.Dec.{ltb, eqb}
 use lib.ListN.{length, getD}
-use Rattle.meaning.specs.Base.{if_then_else_, upFrom, weigh}
-use Rattle.meaning.specs.Model.{Term, Symbol, Variable, Named, Test, Deed, Modify, Request, Clear, Action, Fact, Rule, Sizes}
-use Rattle.meaning.specs.Image.{slotsIn, utilityOf, isTested}
+use Rattle.meaning.specs.Base.{if_then_else_, upFrom}
+use Rattle.meaning.specs.Model.{Term, Symbol, Variable, Named, Test, Query, Deed, Modify, Request, Clear, Action, Fact, Rule, Sizes}
+use Rattle.meaning.specs.Image.{slotsIn, utilityOf, askOf}
+use Rattle.laws.specs.RefreshLaws.{MaskOf}
 
 -- n things from number i on, each as `thing` reads it
 unfoldable pub rowsIn : {A : Type 0} → (ℕ → A) → ℕ → ℕ → List A
@@ -52,6 +53,10 @@ deedOf d ns = if eqb d 0 then Modify ns else (if ltb d 64 then Request d ns else
 abbrev pub actionIn : List ℕ → ℕ → Action
 actionIn w q = record { buffer = getD w q 0 % 8; deed = deedOf (getD w (q + 1) 0) (maskedIn w q) }
 
+-- a query in a word: its buffer, and eight times its kind
+abbrev pub queryBy : ℕ → Query
+queryBy word = record { buffer = word % 8; asks = askOf (word / 8) }
+
 -- ---- rows one after the other
 
 abbrev pub factsIn : List ℕ → ℕ → List Fact
@@ -63,28 +68,35 @@ testsIn w o n = rowsIn (λ k. testIn w (o + 11 * k)) 0 n
 abbrev pub actionsIn : List ℕ → ℕ → ℕ → List Action
 actionsIn w o n = rowsIn (λ k. actionIn w (o + 11 * k)) 0 n
 
--- ---- rules: a head of four words (tests, actions, utility, mask of tested buffers), and 176 words (eight tests, eight actions)
+-- queries, a word each
+abbrev pub queriesIn : List ℕ → ℕ → ℕ → List Query
+queriesIn w o n = rowsIn (λ k. queryBy (getD w (o + k) 0)) 0 n
+
+-- ---- rules: a head of four words (tests, actions, utility, mask of the buffers that are tested or queried),
+-- and 185 words (eight tests, eight actions, how many queries, eight queries)
+
+-- the queries of the rule whose words start at o
+abbrev pub queriesAt : List ℕ → ℕ → List Query
+queriesAt w o = queriesIn w (o + 177) (getD w (o + 176) 0)
 
 abbrev pub ruleIn : List ℕ → List ℕ → ℕ → Rule
 ruleIn heads words k =
     record {
       utility = utilityOf (getD heads (4 * k + 2) 0);
-      tests = testsIn words (176 * k) (getD heads (4 * k) 0);
-      actions = actionsIn words (176 * k + 88) (getD heads (4 * k + 1) 0);
+      tests = testsIn words (185 * k) (getD heads (4 * k) 0);
+      queries = queriesAt words (185 * k);
+      actions = actionsIn words (185 * k + 88) (getD heads (4 * k + 1) 0);
     }
 
 abbrev pub rulesIn : List ℕ → List ℕ → ℕ → List Rule
 rulesIn heads words n = rowsIn (ruleIn heads words) 0 n
 
--- the number in which each tested buffer b has weight 2 to the power b
-abbrev pub testedMask : List Test → ℕ
-testedMask ts = weigh (map (isTested ts) (upFrom 0 8))
-
--- what holds of n rules that were laid out: there is room, no rule has more than eight tests or actions, and the masks are those of the tests
+-- what holds of n rules that were laid out: there is room, no rule has more than eight tests, queries or actions, and the masks are those of the buffers that it looks at
 pub record Laid (heads words : List ℕ) (n : ℕ) : Type 0 where
   pub at-most : n ≤ 256
   pub heads-room : 4 * n ≤ length heads
-  pub words-room : 176 * n ≤ length words
+  pub words-room : 185 * n ≤ length words
   pub tests-few : (k : ℕ) → k < n → getD heads (4 * k) 0 ≤ 8
+  pub queries-few : (k : ℕ) → k < n → getD words (185 * k + 176) 0 ≤ 8
   pub actions-few : (k : ℕ) → k < n → getD heads (4 * k + 1) 0 ≤ 8
-  pub masks : (k : ℕ) → k < n → getD heads (4 * k + 3) 0 ≡ testedMask (ruleIn heads words k .tests)
+  pub masks : (k : ℕ) → k < n → MaskOf (ruleIn heads words k) (getD heads (4 * k + 3) 0)

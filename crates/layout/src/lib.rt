@@ -2,6 +2,7 @@
 // The rows of facts, tests and actions have eleven words, three and eight, all alike.
 // A fact: type, activation, latency, eight slot values. A test: buffer, type, mask, eight terms at their slots.
 // An action: buffer, deed, mask, eight terms at their slots; the deed is 0 to modify, a type to request, 64 to clear.
+// A query is one word: its buffer, and eight times its kind.
 // What stands at a slot that the mask does not name, or after the deed of a clear, says nothing.
 ghost use mathlib.Core.Path.{_≡_};
 ghost use Prim.Native.Nat.{_+_, _≤_};
@@ -9,38 +10,44 @@ ghost use lib.ListN.{length};
 ghost use lib.Seq.{sets};
 ghost use Rattle.layout.specs.Plans.{placesFor, planOf};
 
-// How many words stand for one thing: a row; one side of a rule, its tests or its actions, eight rows; both sides; a rule's head; an entry of the table.
+// How many words stand for one thing: a row; one side of a rule, its tests or its actions, eight rows; both sides, and the rule's queries after their number;
+// a rule's head; an entry of the table.
 pub const ROW_WORDS: usize = 11;
 
 pub const SIDE_WORDS: usize = 88;
 
-pub const RULE_WORDS: usize = 176;
+pub const RULE_WORDS: usize = 185;
+
+// Where in a rule's words the number of its queries stands, and the queries after it.
+pub const ASKED_AT: usize = 176;
+
+pub const QUERIES_AT: usize = 177;
 
 pub const HEAD_WORDS: usize = 4;
 
 pub const ENTRY_WORDS: usize = 9;
 
 // The words of a buffer, and of the eight of a state.
-pub const BUFFER_WORDS: usize = 10;
+pub const BUFFER_WORDS: usize = 11;
 
-pub const STATE_WORDS: usize = 80;
+pub const STATE_WORDS: usize = 88;
 
 // Four tapes: one that costs little to clear, one with room for a store besides, one with room for 64 rules and 120 facts, or for 38 rules and 512 facts, and a store,
 // and one with room for the most facts and rules that an image can have, and a store.
-pub const SMALL_TAPE: usize = 3904;
+pub const SMALL_TAPE: usize = 4096;
 
-pub const STORE_TAPE: usize = 6976;
+pub const STORE_TAPE: usize = 7168;
 
-pub const MIDDLE_TAPE: usize = 16384;
+pub const MIDDLE_TAPE: usize = 16960;
 
-pub const LARGE_TAPE: usize = 56016;
+pub const LARGE_TAPE: usize = 58328;
 
 // Where the first sections of every tape begin: the slot counts of 64 types, the opening state, the facts.
 pub const TYPES_AT: usize = 0;
 
 pub const OPENING_AT: usize = 64;
 
-pub const FACTS_AT: usize = 144;
+pub const FACTS_AT: usize = 152;
 
 // The words of a store: the count, and nine for each of its places.
 pub const STORE_WORDS: usize = 2305;
@@ -49,9 +56,10 @@ pub const STORE_PLACES: u16 = 256;
 
 pub const PLACE_WORDS: usize = 9;
 
-// A model's counts and failure latency; how many facts there are places for, and whether the places past the image's facts are a store's;
+// The version of an image, its model's counts and failure latency; how many facts there are places for, and whether the places past the image's facts are a store's;
 // and where its sections begin on a tape: chains, heads, rows, order, and the end.
 pub struct Plan {
+    pub version: u16,
     pub buffers: u16,
     pub declared: u16,
     pub rules: u16,
@@ -74,8 +82,9 @@ fn places_for(facts: u16, learns: bool) -> u16
     if learns { facts + STORE_PLACES } else { facts }
 }
 
-// The plan for a model with these counts, and for a store if one is lent: each section as long as it must be, one after the other.
+// The plan for an image of that version with these counts, and for a store if one is lent: each section as long as it must be, one after the other.
 pub fn plan_for(
+    version: u16,
     buffers: u16,
     declared: u16,
     rules: u16,
@@ -84,7 +93,7 @@ pub fn plan_for(
     learns: bool,
 ) -> Plan
     requires { ⌜ facts ≤ 1024 ⌝ }
-    ensures { λ r. ⌜ r ≡ planOf buffers declared rules facts failure (placesFor facts learns) learns ⌝ }
+    ensures { λ r. ⌜ r ≡ planOf version buffers declared rules facts failure (placesFor facts learns) learns ⌝ }
 {
     let n = rules as usize;
     let places = places_for(facts, learns);
@@ -93,6 +102,7 @@ pub fn plan_for(
     let rows = heads + HEAD_WORDS * n;
     let order = rows + RULE_WORDS * n;
     Plan {
+        version: version,
         buffers: buffers,
         declared: declared,
         rules: rules,

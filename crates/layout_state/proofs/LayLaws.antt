@@ -32,39 +32,39 @@ abbrev pub bufferWords : Buffer → List ℕ
 bufferWords b = b .isa ∷ b .slots ++ (b .delay ∷ [])
 
 -- what was laid is read back
-module _ (w : List ℕ) (k : ℕ) (b : Buffer) (e : length (b .slots) ≡ 8) (h : 10 * k + 10 ≤ length w) where
-  word-laid : (j : ℕ) → j < 10 → getD (sets w (10 * k) (bufferWords b)) (10 * k + j) 0 ≡ getD (bufferWords b) j 0
+module _ (w : List ℕ) (k : ℕ) (b : Buffer) (e : length (b .slots) ≡ 8) (h : 11 * k + 11 ≤ length w) where
+  word-laid : (j : ℕ) → j < 11 → getD (sets w (11 * k) (bufferWords b)) (11 * k + j) 0 ≡ getD (bufferWords b) j 0
   word-laid j l =
       let ten : length (b .slots ++ (b .delay ∷ [])) ≡ 9 = omega (arith, length-append (b .slots) (b .delay ∷ [])) in
-      sets-at w (10 * k) (bufferWords b) j (omega arith) (omega arith)
+      sets-at w (11 * k) (bufferWords b) j (omega arith) (omega arith)
 
-  slots-laid : bufferIn (sets w (10 * k) (bufferWords b)) k .slots ≡ b .slots
+  slots-laid : bufferIn (sets w (11 * k) (bufferWords b)) k .slots ≡ b .slots
   slots-laid =
-      let w′ : List ℕ = sets w (10 * k) (bufferWords b) in
-      rows-same (λ j. getD w′ (10 * k + 1 + j) 0) (λ j. getD (b .slots) j 0) 0 8 (λ j x y.
-      let g : 10 * k + 1 + j ≡ 10 * k + suc j = omega arith in
+      let w′ : List ℕ = sets w (11 * k) (bufferWords b) in
+      rows-same (λ j. getD w′ (11 * k + 1 + j) 0) (λ j. getD (b .slots) j 0) 0 8 (λ j x y.
+      let g : 11 * k + 1 + j ≡ 11 * k + suc j = omega arith in
       ap (λ (n : ℕ). getD w′ n 0) g ∙ word-laid (suc j) (omega arith) ∙ List·getD-append (b .slots) (b .delay ∷ []) 0 j (omega arith))
       ∙ rows-list 8 (b .slots) e
 
-  pub buffer-laid : bufferIn (sets w (10 * k) (bufferWords b)) k ≡ b
+  pub buffer-laid : bufferIn (sets w (11 * k) (bufferWords b)) k ≡ b
   buffer-laid =
-      let w′ : List ℕ = sets w (10 * k) (bufferWords b) in
-      let z : 10 * k ≡ 10 * k + 0 = omega arith in
-      let first : getD w′ (10 * k) 0 ≡ b .isa = ap (λ (n : ℕ). getD w′ n 0) z ∙ word-laid 0 (omega arith) in
-      let last : getD w′ (10 * k + 9) 0 ≡ b .delay = word-laid 9 (omega arith) ∙ getD-at (b .slots) (b .delay) [] 0 8 e in
+      let w′ : List ℕ = sets w (11 * k) (bufferWords b) in
+      let z : 11 * k ≡ 11 * k + 0 = omega arith in
+      let first : getD w′ (11 * k) 0 ≡ b .isa = ap (λ (n : ℕ). getD w′ n 0) z ∙ word-laid 0 (omega arith) in
+      let last : getD w′ (11 * k + 9) 0 ≡ b .delay = word-laid 9 (omega arith) ∙ getD-at (b .slots) (b .delay) [] 0 8 e in
       ap₂ (λ (x y : ℕ). record { isa = x; slots = bufferIn w′ k .slots; delay = y }) first last
       ∙ ap (λ (l : List ℕ). record { isa = b .isa; slots = l; delay = b .delay }) slots-laid
 
 -- the type first, then the slots, then the delay
-pub lay-done : (w w′ : List ℕ) (k : ℕ) (b : Buffer) → length (b .slots) ≡ 8 → 10 * k + 10 ≤ length w → w′ ≡ sets (set w (10 * k) (b .isa)) (10 * k + 1) (b .slots)
-    → (bufferIn (set w′ (10 * k + 9) (b .delay)) k ≡ b) × (take (10 * k) (set w′ (10 * k + 9) (b .delay)) ≡ take (10 * k) w)
+pub lay-done : (w w′ : List ℕ) (k : ℕ) (b : Buffer) → length (b .slots) ≡ 8 → 11 * k + 11 ≤ length w → w′ ≡ sets (set w (11 * k) (b .isa)) (11 * k + 1) (b .slots)
+    → (bufferIn (set w′ (11 * k + 9) (b .delay)) k ≡ b) × (take (11 * k) (set w′ (11 * k + 9) (b .delay)) ≡ take (11 * k) w)
 lay-done w w′ k b e h laid =
-    let n : 10 * k + 9 ≡ 10 * k + 1 + length (b .slots) = omega arith in
-    let whole : set w′ (10 * k + 9) (b .delay) ≡ sets w (10 * k) (bufferWords b) =
+    let n : 11 * k + 9 ≡ 11 * k + 1 + length (b .slots) = omega arith in
+    let whole : set w′ (11 * k + 9) (b .delay) ≡ sets w (11 * k) (bufferWords b) =
     ap₂ (λ (l : List ℕ) (j : ℕ). set l j (b .delay)) laid n
-    ∙ sets-last (set w (10 * k) (b .isa)) (10 * k + 1) (b .slots) (b .delay)
-    ∙ ap (λ (j : ℕ). sets (set w (10 * k) (b .isa)) j (b .slots ++ (b .delay ∷ []))) (add-one (10 * k)) in
-    (ap (λ (l : List ℕ). bufferIn l k) whole ∙ buffer-laid w k b e h, ap (take (10 * k)) whole ∙ sets-take (10 * k) w (10 * k) (bufferWords b) (omega arith))
+    ∙ sets-last (set w (11 * k) (b .isa)) (11 * k + 1) (b .slots) (b .delay)
+    ∙ ap (λ (j : ℕ). sets (set w (11 * k) (b .isa)) j (b .slots ++ (b .delay ∷ []))) (add-one (11 * k)) in
+    (ap (λ (l : List ℕ). bufferIn l k) whole ∙ buffer-laid w k b e h, ap (take (11 * k)) whole ∙ sets-take (11 * k) w (11 * k) (bufferWords b) (omega arith))
 
 -- the length of an array of structs is known of what its structs are mapped to
 pub length-mapped : (A B : Type 0) (f : A → B) (l : List A) (n : ℕ) → length (map f l) ≡ n → length l ≡ n
@@ -72,12 +72,12 @@ length-mapped A B f l n e = sym (length-map l f) ∙ e
 
 -- one buffer more, in a loop over the buffers of a state
 pub lay-more : (w w′ : List ℕ) (k : ℕ) (bs : List Buffer) → k < length bs → rowsIn (bufferIn w) 0 k ≡ take k bs
-    → bufferIn w′ k ≡ getD bs k nothing → take (10 * k) w′ ≡ take (10 * k) w → rowsIn (bufferIn w′) 0 (k + 1) ≡ take (k + 1) bs
+    → bufferIn w′ k ≡ getD bs k nothing → take (11 * k) w′ ≡ take (11 * k) w → rowsIn (bufferIn w′) 0 (k + 1) ≡ take (k + 1) bs
 lay-more w w′ k bs h before made kept =
     let z : 0 + k ≡ k = omega arith in
     rows-more (bufferIn w′) 0 k
     ∙ ap₂ (λ (l : List Buffer) (x : Buffer). l ++ (x ∷ []))
-    (rows-same (bufferIn w′) (bufferIn w) 0 k (λ i a b. buffer-like w′ w i (λ j l. below-get (10 * k) w w′ kept (10 * i + j) (omega arith))) ∙ before)
+    (rows-same (bufferIn w′) (bufferIn w) 0 k (λ i a b. buffer-like w′ w i (λ j l. below-get (11 * k) w w′ kept (11 * i + j) (omega arith))) ∙ before)
     (ap (bufferIn w′) z ∙ made)
     ∙ sym (take-suc bs k nothing h)
     ∙ ap (λ (n : ℕ). take n bs) (sym (add-one k))

@@ -14,8 +14,8 @@ use meaning::State;
 
 // One buffer into its ten words; those below are kept.
 fn lay_buffer(buffer: Buffer, words: &mut [u16], k: usize)
-    requires { ⌜ 10 * k + 10 ≤ length (now words) ⌝ }
-    ensures { λ _. ⌜ (bufferIn (now (words .exit)) k ≡ buffer) × (take (10 * k) (now (words .exit)) ≡ take (10 * k) (now (words .entry))) ⌝ }
+    requires { ⌜ 11 * k + 11 ≤ length (now words) ⌝ }
+    ensures { λ _. ⌜ (bufferIn (now (words .exit)) k ≡ buffer) × (take (11 * k) (now (words .exit)) ≡ take (11 * k) (now (words .entry))) ⌝ }
 {
     let o = BUFFER_WORDS * k;
     let slots = buffer.slots;
@@ -30,7 +30,7 @@ fn lay_buffer(buffer: Buffer, words: &mut [u16], k: usize)
 
 // The eight buffers of a state into eighty words.
 pub fn lay_state(state: State, words: &mut [u16])
-    requires { ⌜ 80 ≤ length (now words) ⌝ }
+    requires { ⌜ 88 ≤ length (now words) ⌝ }
     ensures { λ _. ⌜ buffersIn (now (words .exit)) ≡ state .buffers ⌝ }
 {
     let mut k = 0;
@@ -43,7 +43,7 @@ pub fn lay_state(state: State, words: &mut [u16])
 
 // The buffer that ten words from o on hold.
 fn read_buffer(words: &[u16], o: usize) -> Buffer
-    requires { ⌜ o + 10 ≤ length (now words) ⌝ }
+    requires { ⌜ o + 11 ≤ length (now words) ⌝ }
     ensures { λ r. ⌜ r ≡ bufferAt (now (words .entry)) o ⌝ }
 {
     Buffer {
@@ -64,7 +64,7 @@ fn read_buffer(words: &[u16], o: usize) -> Buffer
 
 // The state that stands in eighty words, at a clock.
 pub fn read_state(words: &[u16], clock: u32) -> State
-    requires { ⌜ 80 ≤ length (now words) ⌝ }
+    requires { ⌜ 88 ≤ length (now words) ⌝ }
     ensures { λ r. ⌜ r ≡ stateIn (now (words .entry)) clock ⌝ }
 {
     State {
@@ -99,7 +99,7 @@ pub fn at_most(words: &[u16], from: usize, end: usize, most: u16) -> bool
 
 // Whether a buffer is well formed: its type is one of the model's, its values are symbols, its slots past the type's count are 0.
 fn well_buffer(words: &[u16], types: &[u16], k: usize) -> bool
-    requires { ⌜ 10 * k + 10 ≤ length (now words) ⌝ }
+    requires { ⌜ 11 * k + 11 ≤ length (now words) ⌝ }
     ensures { λ r. ⌜ r ≡ wellBuffer (now (types .entry)) (bufferIn (now (words .entry)) k) ⌝ }
 {
     let o = BUFFER_WORDS * k;
@@ -116,7 +116,7 @@ fn well_buffer(words: &[u16], types: &[u16], k: usize) -> bool
 
 // Whether the state in words is well formed: each buffer is, and those past the model's count hold nil with delay 0.
 pub fn well_formed(words: &[u16], types: &[u16], buffers: usize) -> bool
-    requires { ⌜ (80 ≤ length (now words)) × (buffers ≤ 8) ⌝ }
+    requires { ⌜ (88 ≤ length (now words)) × (buffers ≤ 8) ⌝ }
     ensures { λ r. ⌜ r ≡ wellIn (now (types .entry)) buffers (now (words .entry)) ⌝ }
 {
     let mut k = 0;

@@ -25,28 +25,28 @@ TakenOut at k sets sets′ = (j i : ℕ) → has sets′ j i ≡ (has sets j i &
 
 -- ---- a rule lies down
 
-module _ (s s₁ s₂ s₃ : List ℕ) (k place value : ℕ) (few : k < 256) (low : place < 80)
+module _ (s s₁ s₂ s₃ : List ℕ) (k place value : ℕ) (few : k < 256) (low : place < 88)
     (one : length s₁ ≡ length s) (two : length s₂ ≡ length s₁) (three : length s₃ ≡ length s₂)
-    (bedded : PutIn (52 + 255 * (k / 64) + bedOf place value) k s s₁) (noted : PutIn (40 + place / 10) (place % 10) s₁ s₂) (risen : TakenOut 0 k s₂ s₃) where
+    (bedded : PutIn (52 + 255 * (k / 64) + bedOf place value) k s s₁) (noted : PutIn (40 + place / 11) (place % 11) s₁ s₂) (risen : TakenOut 0 k s₂ s₃) where
   -- a word that is none of the three
   same : (j i : ℕ) → 4 ≤ j → j < 52 → (40 ≤ j → 48 ≤ j) → has s₃ j i ≡ has s j i
   same j i a b c =
       remove-word s₂ s₃ 0 k risen j i (λ e. omega arith)
-      ∙ put-word s₁ s₂ (40 + place / 10) (place % 10) noted j i (λ e. omega (arith, c (omega arith)))
+      ∙ put-word s₁ s₂ (40 + place / 11) (place % 11) noted j i (λ e. omega (arith, c (omega arith)))
       ∙ put-word s s₁ (52 + 255 * (k / 64) + bedOf place value) k bedded j i (λ e. omega arith)
 
   -- what is set in a word from 40 on stays so
   stays : (j i : ℕ) → 40 ≤ j → has s j i ≡ true → has s₃ j i ≡ true
   stays j i a b =
       remove-word s₂ s₃ 0 k risen j i (λ e. omega arith)
-      ∙ put-kept s₁ s₂ (40 + place / 10) (place % 10) noted j i (put-kept s s₁ (52 + 255 * (k / 64) + bedOf place value) k bedded j i b)
+      ∙ put-kept s₁ s₂ (40 + place / 11) (place % 11) noted j i (put-kept s s₁ (52 + 255 * (k / 64) + bedOf place value) k bedded j i b)
 
   awake-other : (q : ℕ) → q < 256 → (q ≡ k → ⊥) → isAwake s₃ q ≡ isAwake s q
   awake-other q l d =
       ap (λ (j : ℕ). has s₃ j (q % 64)) (sym (zero-add (q / 64)))
       ∙ remove-other s₂ s₃ 0 k risen q d
       ∙ ap (λ (j : ℕ). has s₂ j (q % 64)) (zero-add (q / 64))
-      ∙ put-word s₁ s₂ (40 + place / 10) (place % 10) noted (q / 64) (q % 64) (λ e. omega arith)
+      ∙ put-word s₁ s₂ (40 + place / 11) (place % 11) noted (q / 64) (q % 64) (λ e. omega arith)
       ∙ put-word s s₁ (52 + 255 * (k / 64) + bedOf place value) k bedded (q / 64) (q % 64) (λ e. omega arith)
 
   pub lain : Lain k place value s s₃
@@ -58,7 +58,7 @@ module _ (s s₁ s₂ s₃ : List ℕ) (k place value : ℕ) (few : k < 256) (lo
           sure = λ j i a b. same j i (omega arith) b (λ c. a);
           awake = awake-other;
           beds = λ h q l m b. stays (52 + 256 * (q / 64) + h) (q % 64) (omega arith) b;
-          used = λ p l u. stays (40 + p / 10) (p % 10) (omega arith) u;
+          used = λ p l u. stays (40 + p / 11) (p % 11) (omega arith) u;
         };
         hits = λ j i a b. same j i a (omega arith) (λ c. absurd (omega arith));
         asleep = ap (λ (j : ℕ). has s₃ j (k % 64)) (sym (zero-add (k / 64))) ∙ remove-out s₂ s₃ 0 k risen;
@@ -66,12 +66,12 @@ module _ (s s₁ s₂ s₃ : List ℕ) (k place value : ℕ) (few : k < 256) (lo
             let e : 52 + 255 * (k / 64) + bedOf place value + k / 64 ≡ 52 + 256 * (k / 64) + bedOf place value = omega arith in
             let here : inBed s₁ (bedOf place value) k ≡ true = rw e at (put-in s s₁ (52 + 255 * (k / 64) + bedOf place value) k bedded) in
             remove-word s₂ s₃ 0 k risen (52 + 256 * (k / 64) + bedOf place value) (k % 64) (λ z. omega arith)
-            ∙ put-kept s₁ s₂ (40 + place / 10) (place % 10) noted (52 + 256 * (k / 64) + bedOf place value) (k % 64) here;
+            ∙ put-kept s₁ s₂ (40 + place / 11) (place % 11) noted (52 + 256 * (k / 64) + bedOf place value) (k % 64) here;
         down =
-            let e : 40 + place / 10 + place % 10 / 64 ≡ 40 + place / 10 = omega arith in
-            let f : place % 10 % 64 ≡ place % 10 = omega arith in
-            let here : isUsed s₂ place ≡ true = rw (e, f) at (put-in s₁ s₂ (40 + place / 10) (place % 10) noted) in
-            remove-word s₂ s₃ 0 k risen (40 + place / 10) (place % 10) (λ z. omega arith) ∙ here;
+            let e : 40 + place / 11 + place % 11 / 64 ≡ 40 + place / 11 = omega arith in
+            let f : place % 11 % 64 ≡ place % 11 = omega arith in
+            let here : isUsed s₂ place ≡ true = rw (e, f) at (put-in s₁ s₂ (40 + place / 11) (place % 11) noted) in
+            remove-word s₂ s₃ 0 k risen (40 + place / 11) (place % 11) (λ z. omega arith) ∙ here;
       }
 
 -- ---- the rules of a word that test a marked buffer

@@ -110,24 +110,24 @@ module _ (n w h : ℕ) (sets : List ℕ) (low : h < 256) (room : 52 + 256 * w + 
 -- ---- the used places of a buffer, one after the other
 
 -- the places of buffer b are the bits of its word
-used-bit : (sets : List ℕ) (b j : ℕ) → j < 10 → isUsed sets (10 * b + j) ≡ bit (getD sets (40 + b) 0 % 1024) j
+used-bit : (sets : List ℕ) (b j : ℕ) → j < 11 → isUsed sets (11 * b + j) ≡ bit (getD sets (40 + b) 0 % 2048) j
 used-bit sets b j h =
-    let e : (10 * b + j) / 10 ≡ b = omega arith in
-    let f : (10 * b + j) % 10 ≡ j = omega arith in
-    rw (e, f) (sym (bit-low 10 (getD sets (40 + b) 0) j h))
+    let e : (11 * b + j) / 11 ≡ b = omega arith in
+    let f : (11 * b + j) % 11 ≡ j = omega arith in
+    rw (e, f) (sym (bit-low 11 (getD sets (40 + b) 0) j h))
 
-module _ (state sets : List ℕ) (b x i : ℕ) (is : x ≡ getD sets (40 + b) 0 % 1024) (h : ℕ) where
+module _ (state sets : List ℕ) (b x i : ℕ) (is : x ≡ getD sets (40 + b) 0 % 2048) (h : ℕ) where
   module _ (m : ℕ) (none : (j : ℕ) → i ≤ j → j < m → bit x j ≡ false) where
     -- a used place is not one of those that were passed
-    passed : (j : ℕ) → j < 10 → i ≤ j → j < m → isUsed sets (10 * b + j) ≡ true → ⊥
+    passed : (j : ℕ) → j < 11 → i ≤ j → j < m → isUsed sets (11 * b + j) ≡ true → ⊥
     passed j l f g u = no-true (sym u ∙ used-bit sets b j l ∙ ap (λ (y : ℕ). bit y j) (sym is) ∙ none j f g)
 
-    pub called-turn : Called state sets b (m + 1) h → Called state sets b i h ⊎ (h ≡ bedOf (10 * b + m) (getD state (10 * b + m) 0))
+    pub called-turn : Called state sets b (m + 1) h → Called state sets b i h ⊎ (h ≡ bedOf (11 * b + m) (getD state (11 * b + m) 0))
     called-turn c =
         by-lt (c .at) i
         (λ l. inl (record { at = c .at; below = l; low = c .low; used = c .used; visible = c .visible; is = c .is }))
         (λ l. by-lt (c .at) m (λ g. absurd (passed (c .at) (c .low) l g (c .used)))
-        (λ g. inr (let e : c .at ≡ m = omega (arith, c .below) in c .is ∙ ap (λ (j : ℕ). bedOf (10 * b + j) (getD state (10 * b + j) 0)) e)))
+        (λ g. inr (let e : c .at ≡ m = omega (arith, c .below) in c .is ∙ ap (λ (j : ℕ). bedOf (11 * b + j) (getD state (11 * b + j) 0)) e)))
 
     pub called-end : Called state sets b m h → Called state sets b i h
     called-end c =
@@ -141,7 +141,7 @@ module _ (state sets : List ℕ) (mark x b : ℕ) (is : x ≡ mark % 256) (h m :
   unmarked : (j : ℕ) → j < 8 → b ≤ j → j < m → bit mark j ≡ true → ⊥
   unmarked j l f g u = no-true (sym u ∙ sym (bit-low 8 mark j l) ∙ ap (λ (y : ℕ). bit y j) (sym is) ∙ none j f g)
 
-  pub by-turn : CalledBy state sets mark (m + 1) h → CalledBy state sets mark b h ⊎ Called state sets m 10 h
+  pub by-turn : CalledBy state sets mark (m + 1) h → CalledBy state sets mark b h ⊎ Called state sets m 11 h
   by-turn c =
       by-lt (c .buffer) b
       (λ l. inl (record { buffer = c .buffer; below = l; low = c .low; marked = c .marked; called = c .called }))
@@ -162,7 +162,7 @@ called-kept state sets sets′ b i h low kept c =
       at = c .at;
       below = c .below;
       low = c .low;
-      used = kept (40 + (10 * b + c .at) / 10) ((10 * b + c .at) % 10) (omega arith) (omega (arith, c .low)) ∙ c .used;
+      used = kept (40 + (11 * b + c .at) / 11) ((11 * b + c .at) % 11) (omega arith) (omega (arith, c .low)) ∙ c .used;
       visible = c .visible;
       is = c .is;
     }

@@ -20,7 +20,7 @@ tests sets b k = has sets (8 + 8 * (k / 64) + b) (k % 64)
 
 -- some rule has slept by that word of the state
 abbrev pub isUsed : List ℕ → ℕ → Bool
-isUsed sets place = has sets (40 + place / 10) (place % 10)
+isUsed sets place = has sets (40 + place / 11) (place % 11)
 
 -- rule k sleeps in bed h
 abbrev pub inBed : List ℕ → ℕ → ℕ → Bool

@@ -28,7 +28,7 @@ pub record Besides (k : ℕ) (sets sets′ : List ℕ) : Type 0 where
   pub sure : (j i : ℕ) → 48 ≤ j → j < 52 → has sets′ j i ≡ has sets j i
   pub awake : (q : ℕ) → q < 256 → (q ≡ k → ⊥) → isAwake sets′ q ≡ isAwake sets q
   pub beds : (h q : ℕ) → h < 256 → q < 256 → inBed sets h q ≡ true → inBed sets′ h q ≡ true
-  pub used : (p : ℕ) → p < 80 → isUsed sets p ≡ true → isUsed sets′ p ≡ true
+  pub used : (p : ℕ) → p < 88 → isUsed sets p ≡ true → isUsed sets′ p ≡ true
 
 -- rule k lies in its bed, and the matching rules are as they were
 pub record Lain (k place value : ℕ) (sets sets′ : List ℕ) : Type 0 where

@@ -21,10 +21,10 @@ pub record Woke (n : ℕ) (which : ℕ → ℕ → Type 0) (sets sets′ : List 
 pub record Called (state sets : List ℕ) (b i h : ℕ) : Type 0 where
   pub at : ℕ
   pub below : at < i
-  pub low : at < 10
-  pub used : isUsed sets (10 * b + at) ≡ true
-  pub visible : getD state (10 * b + 9) 0 ≡ 0
-  pub is : h ≡ bedOf (10 * b + at) (getD state (10 * b + at) 0)
+  pub low : at < 11
+  pub used : isUsed sets (11 * b + at) ≡ true
+  pub visible : getD state (11 * b + 9) 0 ≡ 0
+  pub is : h ≡ bedOf (11 * b + at) (getD state (11 * b + at) 0)
 
 -- the same of a marked buffer, of the first b
 pub record CalledBy (state sets : List ℕ) (mark b h : ℕ) : Type 0 where
@@ -32,4 +32,4 @@ pub record CalledBy (state sets : List ℕ) (mark b h : ℕ) : Type 0 where
   pub below : buffer < b
   pub low : buffer < 8
   pub marked : bit mark buffer ≡ true
-  pub called : Called state sets buffer 10 h
+  pub called : Called state sets buffer 11 h

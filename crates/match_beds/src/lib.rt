@@ -31,7 +31,7 @@ pub const LARGE_SETS: usize = 1076;
 
 // The bed for a word of the state and the value wanted there.
 fn bed(place: usize, value: u16) -> usize
-    requires { ⌜ place < 80 ⌝ }
+    requires { ⌜ place < 88 ⌝ }
     ensures { λ h. ⌜ h ≡ bedOf place value ⌝ }
 {
     (value as usize + 23 * place) % 256
@@ -53,13 +53,13 @@ fn wake_bed(sets: &mut [u64], n: usize, h: usize)
 
 // Those who sleep by a word of buffer b that has a value of their bed are awake, if the buffer is visible: before that none of them can match.
 fn wake(sets: &mut [u64], n: usize, state: &[u16], b: usize)
-    requires { ⌜ Roomy n (now sets) × (80 ≤ length (now state)) × (b < 8) ⌝ }
-    ensures { λ _. ⌜ Woke n (λ (g k : ℕ). Called (now (state .entry)) (now (sets .entry)) b 10 g) (now (sets .entry)) (now (sets .exit)) ⌝ }
+    requires { ⌜ Roomy n (now sets) × (88 ≤ length (now state)) × (b < 8) ⌝ }
+    ensures { λ _. ⌜ Woke n (λ (g k : ℕ). Called (now (state .entry)) (now (sets .entry)) b 11 g) (now (sets .entry)) (now (sets .exit)) ⌝ }
 {
     if state[BUFFER_WORDS * b + 9] != 0 {
         return;
     }
-    let mut rest = sets[USED_AT + b] % 1024;
+    let mut rest = sets[USED_AT + b] % 2048;
     while rest != 0 {
         let p = BUFFER_WORDS * b + match_sets::lowest(rest);
         wake_bed(sets, n, bed(p, state[p]));
@@ -69,7 +69,7 @@ fn wake(sets: &mut [u64], n: usize, state: &[u16], b: usize)
 
 // Those who sleep by a word of a marked and visible buffer that has a value of their bed are awake.
 pub fn wake_all(sets: &mut [u64], n: usize, state: &[u16], mark: u16)
-    requires { ⌜ Roomy n (now sets) × (80 ≤ length (now state)) ⌝ }
+    requires { ⌜ Roomy n (now sets) × (88 ≤ length (now state)) ⌝ }
     ensures { λ _. ⌜ Woke n (λ (g k : ℕ). CalledBy (now (state .entry)) (now (sets .entry)) mark 8 g) (now (sets .entry)) (now (sets .exit)) ⌝ }
 {
     let mut rest = mark as u64 % 256;
@@ -95,7 +95,7 @@ pub fn touched(sets: &[u64], w: usize, mark: u16) -> u64
 
 // Rule k goes to sleep in the bed for a word of the state and the value wanted there.
 pub fn lay_down(sets: &mut [u64], k: usize, place: usize, value: u16)
-    requires { ⌜ (k < 256) × (place < 80) × (308 + 256 * (k / 64) ≤ length (now sets)) ⌝ }
+    requires { ⌜ (k < 256) × (place < 88) × (308 + 256 * (k / 64) ≤ length (now sets)) ⌝ }
     ensures { λ _. ⌜ Lain k place value (now (sets .entry)) (now (sets .exit)) ⌝ }
 {
     let h = bed(place, value);

@@ -20,32 +20,32 @@ use Rattle.layout.proofs.StateLaws.{buffer-is, slot-of}
 use Rattle.match_rest.specs.Rest.{Kept}
 
 module _ (w w′ : List ℕ) (clock clock′ mark : ℕ) (leaves : Leaves (stateIn w clock) (stateIn w′ clock′) mark) where
-  waits : (p : ℕ) → p < 80 → bit mark (p / 10) ≡ false → Waits (bufferIn w (p / 10)) (bufferIn w′ (p / 10))
+  waits : (p : ℕ) → p < 88 → bit mark (p / 11) ≡ false → Waits (bufferIn w (p / 11)) (bufferIn w′ (p / 11))
   unfolding rowsIn
   waits p h e =
-      let low : p / 10 < 8 = omega arith in
-      rw (sym (buffer-is w (p / 10) low), sym (buffer-is w′ (p / 10) low)) (leaves (p / 10) e)
+      let low : p / 11 < 8 = omega arith in
+      rw (sym (buffer-is w (p / 11) low), sym (buffer-is w′ (p / 11) low)) (leaves (p / 11) e)
 
   pub kept-in : Kept w w′ mark
   kept-in =
       record {
         words = λ p h e d.
-            let x : Waits (bufferIn w (p / 10)) (bufferIn w′ (p / 10)) = waits p h e in
-            elim (ℕ-discrete (p % 10) 0) [
+            let x : Waits (bufferIn w (p / 11)) (bufferIn w′ (p / 11)) = waits p h e in
+            elim (ℕ-discrete (p % 11) 0) [
               | yes z ↦
-                  let q : 10 * (p / 10) ≡ p = omega arith in
+                  let q : 11 * (p / 11) ≡ p = omega arith in
                   rw q at (ap (λ (b : Buffer). b .isa) (x .is))
               | no z ↦
-                  let i : ℕ = p % 10 - 1 in
-                  let low : p % 10 - 1 < 8 = omega (arith, z, d) in
-                  let q : 10 * (p / 10) + 1 + (p % 10 - 1) ≡ p = omega (arith, z) in
-                  rw q at (sym (slot-of w′ (p / 10) (p % 10 - 1) low) ∙ ap (λ (b : Buffer). getD (b .slots) (p % 10 - 1) 0) (x .is) ∙ slot-of w (p / 10) (p % 10 - 1) low)
+                  let i : ℕ = p % 11 - 1 in
+                  let low : p % 11 - 1 < 8 = omega (arith, z, d) in
+                  let q : 11 * (p / 11) + 1 + (p % 11 - 1) ≡ p = omega (arith, z) in
+                  rw q at (sym (slot-of w′ (p / 11) (p % 11 - 1) low) ∙ ap (λ (b : Buffer). getD (b .slots) (p % 11 - 1) 0) (x .is) ∙ slot-of w (p / 11) (p % 11 - 1) low)
             ];
         delays = λ p h e nine d gone.
-            let q : 10 * (p / 10) + 9 ≡ p = omega arith in
-            let was : bufferIn w (p / 10) .delay ≡ 0 → ⊥ = rw q d in
-            let is : bufferIn w′ (p / 10) .delay ≡ 0 = rw q gone in
-            eqb-false (bufferIn w′ (p / 10) .delay) 0 (waits p h e .pending (ne-eqb (bufferIn w (p / 10) .delay) 0 was)) is;
+            let q : 11 * (p / 11) + 9 ≡ p = omega arith in
+            let was : bufferIn w (p / 11) .delay ≡ 0 → ⊥ = rw q d in
+            let is : bufferIn w′ (p / 11) .delay ≡ 0 = rw q gone in
+            eqb-false (bufferIn w′ (p / 11) .delay) 0 (waits p h e .pending (ne-eqb (bufferIn w (p / 11) .delay) 0 was)) is;
         marks = λ clock clock′ b off. waits-alike (bufferOf (stateIn w clock) b) (bufferOf (stateIn w′ clock′) b) (leaves b off);
       }
 

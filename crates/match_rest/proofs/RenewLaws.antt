@@ -42,11 +42,11 @@ by-test false f g = g refl
 module _ (heads words order : List ℕ) (n mark : ℕ) (before state table sets sets′ : List ℕ) (kept : Kept before state mark) (few : n ≤ 256)
     (woke : Woke n (λ h k. CalledBy state sets mark 8 h) sets sets′) where
   -- a word that differed while its buffer was visible differs still if the buffer is not marked
-  unmarked-differs : (p v : ℕ) → p < 80 → bit mark (p / 10) ≡ false → (getD before (delayOf p) 0 ≡ 0 → getD before p 0 ≡ v → ⊥) → getD state (delayOf p) 0 ≡ 0 → getD state p 0 ≡ v → ⊥
+  unmarked-differs : (p v : ℕ) → p < 88 → bit mark (p / 11) ≡ false → (getD before (delayOf p) 0 ≡ 0 → getD before p 0 ≡ v → ⊥) → getD state (delayOf p) 0 ≡ 0 → getD state p 0 ≡ v → ⊥
   unmarked-differs p v low off differs shown e =
-      let b : delayOf p / 10 ≡ p / 10 = omega arith in
+      let b : delayOf p / 11 ≡ p / 11 = omega arith in
       elim (ℕ-discrete (getD before (delayOf p) 0) 0) [
-        | yes was ↦ elim (ℕ-discrete (p % 10) 9) [
+        | yes was ↦ elim (ℕ-discrete (p % 11) 9) [
           | yes d ↦ let q : delayOf p ≡ p = omega arith in differs was ((rw q at was) ∙ sym (rw q at shown) ∙ e)
           | no d ↦ differs was (sym (kept .words p low off d) ∙ e)
         ]
@@ -56,17 +56,17 @@ module _ (heads words order : List ℕ) (n mark : ℕ) (before state table sets 
   -- STILL SHUT, OR WOKEN: the word of a rule that still sleeps is still another, if its buffer is visible
   still : (k : ℕ) → k < n → isAwake sets′ k ≡ false → (a : Asleep heads words before table sets k) → getD state (delayOf (a .place)) 0 ≡ 0 → getD state (a .place) 0 ≡ a .value → ⊥
   still k h no-one a shown e =
-      by-test (bit mark (a .place / 10))
+      by-test (bit mark (a .place / 11))
       (λ m.
-      let p : 10 * (a .place / 10) + a .place % 10 ≡ a .place = omega arith in
+      let p : 11 * (a .place / 11) + a .place % 11 ≡ a .place = omega arith in
       let called : CalledBy state sets mark 8 (bedOf (a .place) (a .value)) =
       record {
-        buffer = a .place / 10;
+        buffer = a .place / 11;
         below = omega (arith, a .low);
         low = omega (arith, a .low);
         marked = m;
         called = record {
-          at = a .place % 10;
+          at = a .place % 11;
           below = omega arith;
           low = omega arith;
           used = rw p (a .used);
@@ -82,7 +82,7 @@ module _ (heads words order : List ℕ) (n mark : ℕ) (before state table sets 
       asleep-as a (still k h no-one a)
       (⊎-elim (λ (b : inBed sets′ (bedOf (a .place) (a .value)) k ≡ true). b) (λ (w : isAwake sets′ k ≡ true). absurd (no-true (sym w ∙ no-one)))
       (woke .stays (bedOf (a .place) (a .value)) k (omega arith) h (a .bed)))
-      (woke .kept (40 + a .place / 10) (a .place % 10) (omega arith) (omega (arith, a .low)) ∙ a .used)
+      (woke .kept (40 + a .place / 11) (a .place % 11) (omega arith) (omega (arith, a .low)) ∙ a .used)
       refl
 
   sleeping-still : Sleeping heads words n before table sets → Sleeping heads words n state table sets′
@@ -271,7 +271,7 @@ lying-beside heads words order n state table s s′ size same ranked x =
           (λ (w : isAwake s k ≡ true). inl (same (k / 64) (k % 64) (λ f g. omega (arith, x .roomy .few)) ∙ w))
           (λ (a : Asleep heads words state table s k). inr (asleep-as a (a .differs)
           (same (52 + 256 * (k / 64) + bedOf (a .place) (a .value)) (k % 64) (λ f g. omega arith) ∙ a .bed)
-          (same (40 + a .place / 10) (a .place % 10) (λ f g. omega (arith, a .low)) ∙ a .used)
+          (same (40 + a .place / 11) (a .place % 11) (λ f g. omega (arith, a .low)) ∙ a .used)
           refl))
           (x .sleeping k h);
     }

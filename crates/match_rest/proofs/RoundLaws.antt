@@ -41,7 +41,7 @@ said false = refl
 
 module _ (heads words order state : List ℕ) (k : ℕ) (table nine sets sets′ : List ℕ) (size : length nine ≡ 9) (room : 9 * k + 9 ≤ length table) where
   -- it sleeps, or is as awake as it was
-  lying : (t : Tried) → Made t nine words (176 * k) (getD heads (4 * k) 0) state → Lies t k sets sets′
+  lying : (t : Tried) → Made t nine words (185 * k) (getD heads (4 * k) 0) state → Lies t k sets sets′
       → (isAwake sets′ k ≡ isAwake sets k) ⊎ Asleep heads words state (withEntry table k nine) sets′ k
   lying Hit m lies = inl lies
   lying (Differs p v) m lies =
@@ -59,7 +59,7 @@ module _ (heads words order state : List ℕ) (k : ℕ) (table nine sets sets′
       })
   lying Varies m lies = inl lies
 
-  pub visited : (t : Tried) (table′ : List ℕ) → table′ ≡ withEntry table k nine → Made t nine words (176 * k) (getD heads (4 * k) 0) state → Settled t k (placeOf order k) sets sets′
+  pub visited : (t : Tried) (table′ : List ℕ) → table′ ≡ withEntry table k nine → Made t nine words (185 * k) (getD heads (4 * k) 0) state → Settled t k (placeOf order k) sets sets′
       → Visited heads words order state k table table′ sets sets′
   visited t table′ e m s =
       record {

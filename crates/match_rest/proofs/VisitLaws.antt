@@ -34,7 +34,7 @@ besides-hits k at s s′ low size same =
       sure = λ j i a b. same j i (λ e. omega arith);
       awake = λ q l d. same (q / 64) (q % 64) (λ e. omega arith);
       beds = λ h q l m b. same (52 + 256 * (q / 64) + h) (q % 64) (λ e. omega arith) ∙ b;
-      used = λ p l u. same (40 + p / 10) (p % 10) (λ e. omega arith) ∙ u;
+      used = λ p l u. same (40 + p / 11) (p % 11) (λ e. omega arith) ∙ u;
     }
 
 module _ (k at : ℕ) (s s′ : List ℕ) (few : k < 256) (low : at < 256) (size : length s′ ≡ length s) where

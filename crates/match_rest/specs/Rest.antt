@@ -25,7 +25,7 @@ entryAt table k = take 9 (drop (9 * k) table)
 pub record Asleep (heads words state table sets : List ℕ) (k : ℕ) : Type 0 where
   pub place : ℕ
   pub value : ℕ
-  pub low : place < 80
+  pub low : place < 88
   pub shuts : Shuts (ruleIn heads words k) place value
   pub hidden : Shuts (ruleIn heads words k) (delayOf place) 0
   pub differs : getD state (delayOf place) 0 ≡ 0 → getD state place 0 ≡ value → ⊥
@@ -55,8 +55,8 @@ pub record Resting (heads words order : List ℕ) (n : ℕ) (state table sets : 
 
 -- ---- what a step leaves of the buffers that it does not mark: their words but the delay, a delay above 0 stays above 0, and no test tells them from what they were
 pub record Kept (before after : List ℕ) (mark : ℕ) : Type 0 where
-  pub words : (p : ℕ) → p < 80 → bit mark (p / 10) ≡ false → (p % 10 ≡ 9 → ⊥) → getD after p 0 ≡ getD before p 0
-  pub delays : (p : ℕ) → p < 80 → bit mark (p / 10) ≡ false → p % 10 ≡ 9 → (getD before p 0 ≡ 0 → ⊥) → getD after p 0 ≡ 0 → ⊥
+  pub words : (p : ℕ) → p < 88 → bit mark (p / 11) ≡ false → (p % 11 ≡ 9 → ⊥) → getD after p 0 ≡ getD before p 0
+  pub delays : (p : ℕ) → p < 88 → bit mark (p / 11) ≡ false → p % 11 ≡ 9 → (getD before p 0 ≡ 0 → ⊥) → getD after p 0 ≡ 0 → ⊥
   pub marks : (clock clock′ : ℕ) → Marks (stateIn before clock) (stateIn after clock′) mark
 
 -- after a step with that mark, before the refresh
@@ -64,7 +64,7 @@ pub record Stepped (heads words order : List ℕ) (n : ℕ) (state : List ℕ) (
   pub laid : Laid heads words n
   pub ranked : Ranked heads order n
   pub entries : length table ≡ 9 * n
-  pub buffers : 80 ≤ length state
+  pub buffers : 88 ≤ length state
   pub before : List ℕ
   pub kept : Kept before state mark
   pub resting : Resting heads words order n before table sets

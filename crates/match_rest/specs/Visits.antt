@@ -22,7 +22,7 @@ use Rattle.match_rest.specs.Rest.{entryAt, Asleep, Sleeping}
 
 abbrev pub LowPlace : Tried → Type 0
 LowPlace Hit = Unit {0}
-LowPlace (Differs place value) = place < 80
+LowPlace (Differs place value) = place < 88
 LowPlace Varies = Unit {0}
 
 -- rule k lies in its bed, or is as awake as it was
@@ -44,7 +44,7 @@ pub record Visitable (heads words order : List ℕ) (entries sets k : ℕ) : Typ
   pub few : k < 256
   pub head : 4 * k + 4 ≤ length heads
   pub tests : getD heads (4 * k) 0 ≤ 8
-  pub rows : 176 * k + 176 ≤ length words
+  pub rows : 185 * k + 185 ≤ length words
   pub entry : 9 * k + 9 ≤ entries
   pub bed : 308 + 256 * (k / 64) ≤ sets
   pub ordered : 2 * k + 2 ≤ length order

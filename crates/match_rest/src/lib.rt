@@ -46,7 +46,7 @@ fn visit(
     state: &[u16],
     k: usize,
 )
-    requires { ⌜ Visitable (now heads) (now words) (now order) (length (now table)) (length (now sets)) k × (80 ≤ length (now state)) ⌝ }
+    requires { ⌜ Visitable (now heads) (now words) (now order) (length (now table)) (length (now sets)) k × (88 ≤ length (now state)) ⌝ }
     ensures { λ _. ⌜ Visited (now (heads .entry)) (now (words .entry)) (now (order .entry)) (now (state .entry)) k (now (table .entry)) (now (table .exit)) (now (sets .entry)) (now (sets .exit)) ⌝ }
 {
     let tests = heads[HEAD_WORDS * k] as usize;
@@ -67,7 +67,7 @@ fn visit_all(
     w: usize,
     todo: u64,
 )
-    requires { ⌜ (80 ≤ length (now state)) × (w < 4) × ((i : ℕ) → bit todo i ≡ true → Visitable (now heads) (now words) (now order) (length (now table)) (length (now sets)) (64 * w + i)) ⌝ }
+    requires { ⌜ (88 ≤ length (now state)) × (w < 4) × ((i : ℕ) → bit todo i ≡ true → Visitable (now heads) (now words) (now order) (length (now table)) (length (now sets)) (64 * w + i)) ⌝ }
     ensures { λ _. ⌜ VisitedAll (now (heads .entry)) (now (words .entry)) (now (order .entry)) (now (state .entry)) w todo 64
         (now (table .entry)) (now (table .exit)) (now (sets .entry)) (now (sets .exit)) ⌝ }
 {

@@ -53,24 +53,24 @@ module _ (w st : List ℕ) (o n i q : ℕ) (at : q ≡ o + 11 * i) (h : i < n) w
   abbrev come : Vars → Run
   come v = testsRun (buffersIn st) (testsFrom w o i (n - i)) v
 
-  pub still-pending : (getD st (10 * buffer + 9) 0 ≡ 0 → ⊥) → (v : Vars) → come v ≡ stop
+  pub still-pending : (getD st (11 * buffer + 9) 0 ≡ 0 → ⊥) → (v : Vars) → come v ≡ stop
   still-pending d v = sym (flat-pending w st o n i q v at h d)
 
-  pub other-type : (getD st (10 * buffer) 0 ≡ getD w (q + 1) 0 → ⊥) → (v : Vars) → come v ≡ stop
+  pub other-type : (getD st (11 * buffer) 0 ≡ getD w (q + 1) 0 → ⊥) → (v : Vars) → come v ≡ stop
   other-type z v =
-      elim (ℕ-discrete (getD st (10 * buffer + 9) 0) 0) [
+      elim (ℕ-discrete (getD st (11 * buffer + 9) 0) 0) [
         | yes d ↦ sym (flat-other w st o n i q v at h d z)
         | no d ↦ still-pending d v
       ]
 
-  pub other-symbol : (b : ℕ) → b < 8 → names (getD w (q + 2) 0) b ≡ true → getD w (q + 3 + b) 0 < 4096 → (getD st (10 * buffer + 1 + b) 0 ≡ getD w (q + 3 + b) 0 → ⊥) → (v : Vars)
+  pub other-symbol : (b : ℕ) → b < 8 → names (getD w (q + 2) 0) b ≡ true → getD w (q + 3 + b) 0 < 4096 → (getD st (11 * buffer + 1 + b) 0 ≡ getD w (q + 3 + b) 0 → ⊥) → (v : Vars)
       → come v ≡ stop
   other-symbol b l named symbol z v =
       let xs : List ℕ = getD (buffersIn st) buffer nothing .slots in
       let differs : getD (getD (buffersIn st) buffer nothing .slots) b 0 ≡ getD w (q + 3 + b) 0 → ⊥ = λ e. z (sym (slot-is st buffer b (omega arith) l) ∙ e) in
       let rest : Vars → Run = λ u. testsRun (buffersIn st) (testsFrom w o (i + 1) (n - (i + 1))) u in
-      elim (ℕ-discrete (getD st (10 * buffer) 0) (getD w (q + 1) 0)) [
-        | yes t ↦ elim (ℕ-discrete (getD st (10 * buffer + 9) 0) 0) [
+      elim (ℕ-discrete (getD st (11 * buffer) 0) (getD w (q + 1) 0)) [
+        | yes t ↦ elim (ℕ-discrete (getD st (11 * buffer + 9) 0) 0) [
           | yes d ↦ sym (flat-on w st o n i q v at h d t) ∙ given-up w xs q (getD w (q + 2) 0) b l named symbol differs b 0 (omega arith) v rest
           | no d ↦ still-pending d v
         ]
@@ -102,33 +102,33 @@ module _ (w : List ℕ) (o n i q : ℕ) (at : q ≡ o + 11 * i) (h : i < n) (r :
   shut : (st : List ℕ) (clock : ℕ) → ((v : Vars) → testsRun (buffersIn st) (testsFrom w o i (n - i)) v ≡ stop) → entryOf r (stateIn st clock) ≡ replicate 9 0
   shut st clock all = sym (entry-words w o n r (stateIn st clock) e) ∙ ap entryWords (all-over w (buffersIn st) o n i (omega arith) all)
 
-  pub delay-shuts : Shuts r (10 * (getD w q 0 % 8) + 9) 0
+  pub delay-shuts : Shuts r (11 * (getD w q 0 % 8) + 9) 0
   delay-shuts st clock z = shut st clock (still-pending w st o n i q at h z)
 
-  pub type-shuts : Shuts r (10 * (getD w q 0 % 8)) (getD w (q + 1) 0)
+  pub type-shuts : Shuts r (11 * (getD w q 0 % 8)) (getD w (q + 1) 0)
   type-shuts st clock z = shut st clock (other-type w st o n i q at h z)
 
-  pub symbol-shuts : (b : ℕ) → b < 8 → names (getD w (q + 2) 0) b ≡ true → getD w (q + 3 + b) 0 < 4096 → Shuts r (10 * (getD w q 0 % 8) + 1 + b) (getD w (q + 3 + b) 0)
+  pub symbol-shuts : (b : ℕ) → b < 8 → names (getD w (q + 2) 0) b ≡ true → getD w (q + 3 + b) 0 < 4096 → Shuts r (11 * (getD w q 0 % 8) + 1 + b) (getD w (q + 3 + b) 0)
   symbol-shuts b l named symbol st clock z = shut st clock (other-symbol w st o n i q at h b l named symbol z)
 
 -- ---- and the word at which the match was given up is one of them
 
 module _ (w st : List ℕ) (o n i q : ℕ) (at : q ≡ o + 11 * i) (h : i < n) where
   -- whatever its word is, the delay of that word's buffer shuts the rule too
-  hidden : (place : ℕ) → place / 10 ≡ getD w q 0 % 8 → (r : Rule) → r .tests ≡ testsIn w o n → Shuts r (delayOf place) 0
+  hidden : (place : ℕ) → place / 11 ≡ getD w q 0 % 8 → (r : Rule) → r .tests ≡ testsIn w o n → Shuts r (delayOf place) 0
   hidden place is r e = rw is (delay-shuts w o n i q at h r e)
 
-  pub because-pending : (getD st (10 * (getD w q 0 % 8) + 9) 0 ≡ 0 → ⊥) → Differing w o n st (10 * (getD w q 0 % 8) + 9) 0
-  because-pending z = record { low = omega arith; differs = z; shuts = λ r e. delay-shuts w o n i q at h r e; hidden = hidden (10 * (getD w q 0 % 8) + 9) (omega arith) }
+  pub because-pending : (getD st (11 * (getD w q 0 % 8) + 9) 0 ≡ 0 → ⊥) → Differing w o n st (11 * (getD w q 0 % 8) + 9) 0
+  because-pending z = record { low = omega arith; differs = z; shuts = λ r e. delay-shuts w o n i q at h r e; hidden = hidden (11 * (getD w q 0 % 8) + 9) (omega arith) }
 
-  pub because-type : (getD st (10 * (getD w q 0 % 8)) 0 ≡ getD w (q + 1) 0 → ⊥) → Differing w o n st (10 * (getD w q 0 % 8)) (getD w (q + 1) 0)
-  because-type z = record { low = omega arith; differs = z; shuts = λ r e. type-shuts w o n i q at h r e; hidden = hidden (10 * (getD w q 0 % 8)) (omega arith) }
+  pub because-type : (getD st (11 * (getD w q 0 % 8)) 0 ≡ getD w (q + 1) 0 → ⊥) → Differing w o n st (11 * (getD w q 0 % 8)) (getD w (q + 1) 0)
+  because-type z = record { low = omega arith; differs = z; shuts = λ r e. type-shuts w o n i q at h r e; hidden = hidden (11 * (getD w q 0 % 8)) (omega arith) }
 
   pub because-slot : (b : ℕ) → b < 8 → names (getD w (q + 2) 0) b ≡ true
-      → (getD w (q + 3 + b) 0 < 4096 → getD st (10 * (getD w q 0 % 8) + 1 + b) 0 ≡ getD w (q + 3 + b) 0 → ⊥)
-      → Because (whyOf (10 * (getD w q 0 % 8) + 1 + b) (getD w (q + 3 + b) 0)) w o n st
+      → (getD w (q + 3 + b) 0 < 4096 → getD st (11 * (getD w q 0 % 8) + 1 + b) 0 ≡ getD w (q + 3 + b) 0 → ⊥)
+      → Because (whyOf (11 * (getD w q 0 % 8) + 1 + b) (getD w (q + 3 + b) 0)) w o n st
   because-slot b l named differs =
       by-lt (getD w (q + 3 + b) 0) 4096
       (λ s. rw (lt-ltb (getD w (q + 3 + b) 0) 4096 s)
-      (record { low = omega arith; differs = differs s; shuts = λ r e. symbol-shuts w o n i q at h r e b l named s; hidden = hidden (10 * (getD w q 0 % 8) + 1 + b) (omega arith) }))
+      (record { low = omega arith; differs = differs s; shuts = λ r e. symbol-shuts w o n i q at h r e b l named s; hidden = hidden (11 * (getD w q 0 % 8) + 1 + b) (omega arith) }))
       (λ s. rw (le-ltb (getD w (q + 3 + b) 0) 4096 s) tt)

@@ -62,17 +62,17 @@ module _ (w st : List ℕ) (o n i q : ℕ) (v : Vars) (at : q ≡ o + 11 * i) (h
   small : getD w q 0 % 8 < 8
   small = omega arith
 
-  pub flat-pending : (getD st (10 * kb + 9) 0 ≡ 0 → ⊥) → stop ≡ testsRun (buffersIn st) (testsFrom w o i (n - i)) v
+  pub flat-pending : (getD st (11 * kb + 9) 0 ≡ 0 → ⊥) → stop ≡ testsRun (buffersIn st) (testsFrom w o i (n - i)) v
   flat-pending z = test-pending w (buffersIn st) o n i q v at h (λ e. z (sym (ap (λ (b : Buffer). b .delay) (buffer-is st kb small)) ∙ e))
 
-  module _ (d : getD st (10 * kb + 9) 0 ≡ 0) where
+  module _ (d : getD st (11 * kb + 9) 0 ≡ 0) where
     d′ : getD (buffersIn st) kb nothing .delay ≡ 0
     d′ = ap (λ (b : Buffer). b .delay) (buffer-is st kb small) ∙ d
 
-    pub flat-other : (getD st (10 * kb) 0 ≡ getD w (q + 1) 0 → ⊥) → stop ≡ testsRun (buffersIn st) (testsFrom w o i (n - i)) v
+    pub flat-other : (getD st (11 * kb) 0 ≡ getD w (q + 1) 0 → ⊥) → stop ≡ testsRun (buffersIn st) (testsFrom w o i (n - i)) v
     flat-other z = test-other w (buffersIn st) o n i q v at h d′ (λ e. z (sym (ap (λ (b : Buffer). b .isa) (buffer-is st kb small)) ∙ e))
 
-    pub flat-on : getD st (10 * kb) 0 ≡ getD w (q + 1) 0
+    pub flat-on : getD st (11 * kb) 0 ≡ getD w (q + 1) 0
         → thenOn (termsRun (getD (buffersIn st) kb nothing .slots) (left w q (getD w (q + 2) 0) 0) v) (λ u. testsRun (buffersIn st) (testsFrom w o (i + 1) (n - (i + 1))) u) ≡ testsRun
         (buffersIn st) (testsFrom w o i (n - i)) v
     flat-on z = test-on w (buffersIn st) o n i q v at h d′ (ap (λ (b : Buffer). b .isa) (buffer-is st kb small) ∙ z)
@@ -91,7 +91,7 @@ module _ (w st : List ℕ) (q m b : ℕ) (v : Vars) (k : Vars → Run) (h : b < 
   flat-skip v′ e z = slot-skip w xs q m b v k h v′ e z
 
   module _ (z : names m b ≡ true) (r : Bool) (u : Vars)
-      (e : (if r then on u else stop) ≡ termRun (getD st (10 * kq + 1 + b) 0) (wordTerm (getD w (q + 3 + b) 0)) v) where
+      (e : (if r then on u else stop) ≡ termRun (getD st (11 * kq + 1 + b) 0) (wordTerm (getD w (q + 3 + b) 0)) v) where
     e′ : (if r then on u else stop) ≡ termRun (getD xs b 0) (wordTerm (getD w (q + 3 + b) 0)) v
     e′ = e ∙ ap (λ (x : ℕ). termRun x (wordTerm (getD w (q + 3 + b) 0)) v) (sym (slot-is st kq b less h))
 

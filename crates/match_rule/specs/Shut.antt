@@ -19,7 +19,7 @@ Shuts r place value = (state : List ℕ) (clock : ℕ) → (getD state place 0 �
 
 -- the delay of the buffer that a word of the state is of
 abbrev pub delayOf : ℕ → ℕ
-delayOf place = 10 * (place / 10) + 9
+delayOf place = 11 * (place / 11) + 9
 
 -- a term that is a symbol was wanted at that place; of a variable nothing is said
 abbrev pub whyOf : ℕ → ℕ → Tried
@@ -32,7 +32,7 @@ isHit Varies = false
 
 -- the word at `place` is another than `value`, and as long as it is, or the buffer is not visible, no rule with these tests matches
 pub record Differing (words : List ℕ) (o n : ℕ) (state : List ℕ) (place value : ℕ) : Type 0 where
-  pub low : place < 80
+  pub low : place < 88
   pub differs : getD state place 0 ≡ value → ⊥
   pub shuts : (r : Rule) → r .tests ≡ testsIn words o n → Shuts r place value
   pub hidden : (r : Rule) → r .tests ≡ testsIn words o n → Shuts r (delayOf place) 0

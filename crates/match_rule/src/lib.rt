@@ -57,7 +57,7 @@ fn match_tests(
     bound: &mut [u16],
     nine: &mut [u16],
 ) -> Tried
-    requires { ⌜ (o + 11 * n ≤ length (now words)) × (80 ≤ length (now state)) × (length (now bound) ≡ 8) × (length (now nine) ≡ 9) × (varsIn (now bound) (now nine) ≡ noVars) ⌝ }
+    requires { ⌜ (o + 11 * n ≤ length (now words)) × (88 ≤ length (now state)) × (length (now bound) ≡ 8) × (length (now nine) ≡ 9) × (varsIn (now bound) (now nine) ≡ noVars) ⌝ }
     ensures { λ t. ⌜ (if isHit t then on (varsIn (now (bound .exit)) (now (nine .exit))) else stop) ≡ testsRun (buffersIn (now (state .entry))) (testsIn (now (words .entry)) o n) noVars ⌝ }
     ensures because { λ t. ⌜ Because t (now (words .entry)) o n (now (state .entry)) ⌝ }
 {
@@ -65,7 +65,7 @@ fn match_tests(
     let mut i = 0;
     let mut tried = Tried::Hit;
     'tests: while i < n {
-        let p = 10 * (words[q] % 8);
+        let p = 11 * (words[q] % 8);
         let k = p as usize;
         if state[k + 9] != 0 {
             tried = Tried::Differs(p + 9, 0);
@@ -103,7 +103,7 @@ pub fn no_entry(nine: &mut [u16])
 
 // The fresh entry of the rule whose n tests stand in words from o on, into nine words; and why it does not match.
 pub fn try_into(nine: &mut [u16], words: &[u16], o: usize, n: usize, state: &[u16]) -> Tried
-    requires { ⌜ (length (now nine) ≡ 9) × (o + 11 * n ≤ length (now words)) × (80 ≤ length (now state)) ⌝ }
+    requires { ⌜ (length (now nine) ≡ 9) × (o + 11 * n ≤ length (now words)) × (88 ≤ length (now state)) ⌝ }
     ensures { λ t. ⌜ Made t (now (nine .exit)) (now (words .entry)) o n (now (state .entry)) ⌝ }
 {
     no_entry(nine);
@@ -119,7 +119,7 @@ pub fn try_into(nine: &mut [u16], words: &[u16], o: usize, n: usize, state: &[u1
 
 // The same, for whoever does not ask why.
 pub fn entry_into(nine: &mut [u16], words: &[u16], o: usize, n: usize, state: &[u16])
-    requires { ⌜ (length (now nine) ≡ 9) × (o + 11 * n ≤ length (now words)) × (80 ≤ length (now state)) ⌝ }
+    requires { ⌜ (length (now nine) ≡ 9) × (o + 11 * n ≤ length (now words)) × (88 ≤ length (now state)) ⌝ }
     ensures { λ _. ⌜ ((r : Rule) (clock : ℕ) → r .tests ≡ testsIn (now (words .entry)) o n → now (nine .exit) ≡ entryOf r (stateIn (now (state .entry)) clock)) ⌝ }
 {
     try_into(nine, words, o, n, state);

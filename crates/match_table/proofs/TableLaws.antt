@@ -134,7 +134,7 @@ low-tests w o i (suc n) = (omega arith, low-tests w o (i + 1) n)
 
 module _ (heads words : List ℕ) (n k mark : ℕ) (laid : Laid heads words n) (h : k < n) where
   tests-low : LowBuffers (ruleIn heads words k .tests)
-  tests-low = low-tests words (176 * k) 0 (getD heads (4 * k) 0)
+  tests-low = low-tests words (185 * k) 0 (getD heads (4 * k) 0)
 
   pub mark-meets : (bitAnd (getD heads (4 * k + 3) 0) mark ≡ 0 → ⊥) → testsMarked mark (ruleIn heads words k) ≡ true
   mark-meets z = meets mark (ruleIn heads words k .tests) tests-low (λ e. z (ap (λ (x : ℕ). bitAnd x mark) (laid .masks k h) ∙ e))

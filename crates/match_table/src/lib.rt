@@ -13,7 +13,7 @@ use layout::RULE_WORDS;
 
 // Rule k's entry, made afresh, into its nine words of the table.
 fn entry_at(table: &mut [u16], k: usize, heads: &[u16], words: &[u16], n: usize, state: &[u16])
-    requires { ⌜ Laid (now heads) (now words) n × (k < n) × (length (now table) ≡ 9 * n) × (80 ≤ length (now state)) ⌝ }
+    requires { ⌜ Laid (now heads) (now words) n × (k < n) × (length (now table) ≡ 9 * n) × (88 ≤ length (now state)) ⌝ }
     ensures { λ _. ⌜ ((clock : ℕ) → now (table .exit) ≡ withEntry (now (table .entry)) k (entryOf (ruleIn (now (heads .entry)) (now (words .entry)) k) (stateIn (now (state .entry)) clock))) ⌝ }
 {
     let tests = heads[HEAD_WORDS * k] as usize;
@@ -24,7 +24,7 @@ fn entry_at(table: &mut [u16], k: usize, heads: &[u16], words: &[u16], n: usize,
 
 // The fresh table of n rules.
 pub fn fresh(table: &mut [u16], heads: &[u16], words: &[u16], n: usize, state: &[u16])
-    requires { ⌜ Laid (now heads) (now words) n × (length (now table) ≡ 9 * n) × (80 ≤ length (now state)) ⌝ }
+    requires { ⌜ Laid (now heads) (now words) n × (length (now table) ≡ 9 * n) × (88 ≤ length (now state)) ⌝ }
     ensures { λ _. ⌜ ((clock : ℕ) → now (table .exit) ≡ freshTable (rulesIn (now (heads .entry)) (now (words .entry)) n) (stateIn (now (state .entry)) clock)) ⌝ }
 {
     let mut k = 0;
@@ -43,7 +43,7 @@ pub fn refresh(
     state: &[u16],
     mark: u16,
 ) -> u16
-    requires { ⌜ Laid (now heads) (now words) n × (length (now table) ≡ 9 * n) × (80 ≤ length (now state)) ⌝ }
+    requires { ⌜ Laid (now heads) (now words) n × (length (now table) ≡ 9 * n) × (88 ≤ length (now state)) ⌝ }
     ensures { λ r. ⌜ ((clock : ℕ) → now (table .exit) ≡ refresh (rulesIn (now (heads .entry)) (now (words .entry)) n) (stateIn (now (state .entry)) clock) mark (now (table .entry))) ⌝ }
     ensures counted { λ r. ⌜ r ≡ refreshCount (rulesIn (now (heads .entry)) (now (words .entry)) n) mark ⌝ }
 {

@@ -130,12 +130,12 @@ module _ (image w : List ℕ) (steps : ℕ) where
   told-alike m end accepted = alike.told-alike image w steps m end accepted
 
   -- Where a word does not fit, or the state is not well formed, any table of the right length does: 6 from both, with no position, and the words of state and table stay.
-  pub told-unwell : (m : Model) (end : ℕ) → decode image ≡ Got m end → length w ≡ 81 → (fits w && wellFormed m (stateOf w)) ≡ false
+  pub told-unwell : (m : Model) (end : ℕ) → decode image ≡ Got m end → length w ≡ 89 → (fits w && wellFormed m (stateOf w)) ≡ false
       → (table : List ℕ) → length table ≡ 9 * length (m .rules) → (runIn image w table steps ≡ told (answer ill-formed 0 0) w table) × SameTold image w table steps
   told-unwell m end accepted l ill table long = alike.told-unwell image w steps m end accepted l ill table long
 
   -- A refused image gets its number and its position from both, whatever table, and the words of state and table stay.
-  pub told-refused : (n at : ℕ) → decode image ≡ Refused n at → length w ≡ 81 → (table : List ℕ) → (runIn image w table steps ≡ told (answer n 0 at) w table) × SameTold image w table steps
+  pub told-refused : (n at : ℕ) → decode image ≡ Refused n at → length w ≡ 89 → (table : List ℕ) → (runIn image w table steps ≡ told (answer n 0 at) w table) × SameTold image w table steps
   told-refused n at unread l table = alike.told-refused image w steps n at unread l table
 
   -- After an accepted opening, and any kept runs, refreshes, and changes of the words that are refreshed with their mark: the same as with whatever table is held, word for word.
@@ -153,7 +153,7 @@ module _ (image w : List ℕ) (steps : ℕ) where
   fresh-most = lone.most image w steps
 
   -- Refused by 1 to 4, 6 or 11 to 13, too large words among it: the words as they were, and nothing counted;
-  pub run-fresh-leaves : length w ≡ 81 → let a : FreshTold = freshIn image w steps in Beforehand (numberIn (a .answered)) → FreshLeaves w a
+  pub run-fresh-leaves : length w ≡ 89 → let a : FreshTold = freshIn image w steps in Beforehand (numberIn (a .answered)) → FreshLeaves w a
   run-fresh-leaves l b = lone.run-leaves image w steps l b
 
   -- and nothing is noted: every lent word stays as it was.
@@ -180,19 +180,19 @@ module _ (image w : List ℕ) (steps lent : ℕ) (store : List ℕ) where
 
   -- Where a word does not fit, or the state is not well formed, any table of the right length does: 6 from both, with no position, and the words of state, table and store
   -- stay.
-  pub told-lent-unwell : (m : Model) (end : ℕ) → decode image ≡ Got m end → length w ≡ 81 → (fits w && wellFormed m (stateOf w)) ≡ false
+  pub told-lent-unwell : (m : Model) (end : ℕ) → decode image ≡ Got m end → length w ≡ 89 → (fits w && wellFormed m (stateOf w)) ≡ false
       → (table : List ℕ) → length table ≡ 9 * length (m .rules)
       → (runLentIn image w table steps lent store ≡ toldWith (told (answer ill-formed 0 0) w table) store) × SameLent image w table steps lent store
   told-lent-unwell m end accepted l ill table long = alike.lent-unwell image w steps lent store m end accepted l ill table long
 
   -- A store that is lent and does not fit, with a well-formed state, and any table of the right length: 15 from both, with no position, and all words stay.
-  pub told-lent-misfit : (m : Model) (end : ℕ) → decode image ≡ Got m end → length w ≡ 81 → fits w ≡ true → wellFormed m (stateOf w) ≡ true
+  pub told-lent-misfit : (m : Model) (end : ℕ) → decode image ≡ Got m end → length w ≡ 89 → fits w ≡ true → wellFormed m (stateOf w) ≡ true
       → storeFits (m .types) (lentBy lent store) ≡ false → (table : List ℕ) → length table ≡ 9 * length (m .rules)
       → (runLentIn image w table steps lent store ≡ toldWith (told (answer bad-store 0 0) w table) store) × SameLent image w table steps lent store
   told-lent-misfit m end accepted l fit well bad table long = alike.lent-misfit image w steps lent store m end accepted l fit well bad table long
 
   -- A refused image gets its number and its position from both, whatever table, and the words of state, table and store stay.
-  pub told-lent-refused : (n at : ℕ) → decode image ≡ Refused n at → length w ≡ 81 → (table : List ℕ)
+  pub told-lent-refused : (n at : ℕ) → decode image ≡ Refused n at → length w ≡ 89 → (table : List ℕ)
       → (runLentIn image w table steps lent store ≡ toldWith (told (answer n 0 at) w table) store) × SameLent image w table steps lent store
   told-lent-refused n at unread l table = alike.lent-refused image w steps lent store n at unread l table
 
@@ -212,7 +212,7 @@ module _ (image w : List ℕ) (steps lent : ℕ) (store : List ℕ) where
   fresh-lent-most = lone.lent-most image w steps lent store
 
   -- Refused by 1 to 4, 6, 11 to 13 or 15, too large words among it: the words of state and store as they were, and nothing counted;
-  pub run-fresh-lent-leaves : length w ≡ 81 → let a : WithStore FreshTold = freshLentIn image w steps lent store in Beforehand (numberIn (a .answer .answered))
+  pub run-fresh-lent-leaves : length w ≡ 89 → let a : WithStore FreshTold = freshLentIn image w steps lent store in Beforehand (numberIn (a .answer .answered))
       → FreshLeaves w (a .answer) × (a .store ≡ store)
   run-fresh-lent-leaves l b = (lone.lent-leaves image w steps lent store b l, lone.store-leaves image w steps lent store b)
 

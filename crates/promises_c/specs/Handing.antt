@@ -43,7 +43,7 @@ freshRanIn a = record { number = numberIn (a .answered); position = positionIn (
 
 -- two states have the same ten words for buffer b
 abbrev pub SameBuffer : List ℕ → List ℕ → ℕ → Type 0
-SameBuffer w w′ b = (j : ℕ) → j < 10 → getD w (1 + (10 * b + j)) 0 ≡ getD w′ (1 + (10 * b + j)) 0
+SameBuffer w w′ b = (j : ℕ) → j < 11 → getD w (1 + (11 * b + j)) 0 ≡ getD w′ (1 + (11 * b + j)) 0
 
 -- the words and tables that a caller of one image can hold: those of an accepted opening; then what a kept run, with any store beside it, lent or not, or a refresh leaves
 -- when it is handed what was left before it, whatever it answers; and words that the caller changes itself, refreshed with a mark of every buffer changed, if that refresh answers 0
@@ -52,7 +52,7 @@ pub data Held (image : List ℕ) : List ℕ → List ℕ → Type 0 where
   ran : {w table : List ℕ} → Held image w table → (steps lent : ℕ) (store : List ℕ)
       → Held image (runLentIn image w table steps lent store .answer .words) (runLentIn image w table steps lent store .answer .table)
   refreshed : {w table : List ℕ} → Held image w table → (mark : ℕ) → Held image (refreshIn image w mark table .words) (refreshIn image w mark table .table)
-  changed : {w table : List ℕ} → Held image w table → (w′ : List ℕ) (mark : ℕ) → length w′ ≡ 81 → getD w′ 0 0 ≤ largest → ((b : ℕ) → bit mark b ≡ false → SameBuffer w w′ b)
+  changed : {w table : List ℕ} → Held image w table → (w′ : List ℕ) (mark : ℕ) → length w′ ≡ 89 → getD w′ 0 0 ≤ largest → ((b : ℕ) → bit mark b ≡ false → SameBuffer w w′ b)
       → numberIn (refreshIn image w′ mark table .answered) ≡ 0 → Held image w′ (refreshIn image w′ mark table .table)
 
 -- a call left the words and the table, and counted nothing

@@ -1,4 +1,4 @@
--- For C, and so for Rust and Python, who hold a state as 81 words: words and state stand for each other, a refused call leaves the words, and a caller who hands on
+-- For C, and so for Rust and Python, who hold a state as 89 words: words and state stand for each other, a refused call leaves the words, and a caller who hands on
 -- the words and the table left before it always holds the fresh table.
 use mathlib.Core.Path.{_≡_}
 use mathlib.Core.Bool.{true, false}
@@ -27,12 +27,12 @@ use Rattle.promises_c.specs.Proofs.Lent as lending
 
 -- ---- words and state
 
--- The words of a state of the machine are 81, each fits its field, and they hold that state.
-pub words-of-state : (s : State) → Machine s → (length (wordsOf s) ≡ 81) × (fits (wordsOf s) ≡ true) × (stateOf (wordsOf s) ≡ s)
+-- The words of a state of the machine are 89, each fits its field, and they hold that state.
+pub words-of-state : (s : State) → Machine s → (length (wordsOf s) ≡ 89) × (fits (wordsOf s) ≡ true) × (stateOf (wordsOf s) ≡ s)
 words-of-state s m = (back.eighty-one s m, back.words-fit s m, back.state-back s m)
 
--- 81 words are the words of the state that they hold, and if each fits its field that is a state of the machine.
-pub state-of-words : (w : List ℕ) → length w ≡ 81 → wordsOf (stateOf w) ≡ w
+-- 89 words are the words of the state that they hold, and if each fits its field that is a state of the machine.
+pub state-of-words : (w : List ℕ) → length w ≡ 89 → wordsOf (stateOf w) ≡ w
 state-of-words w l = back.words-back w l
 
 pub fitting-state : (w : List ℕ) → fits w ≡ true → getD w 0 0 ≤ largest → Machine (stateOf w)
@@ -40,16 +40,16 @@ fitting-state w f c = back.state-fits w f c
 
 -- ---- a refused call leaves the words
 
--- Open: 81 zeros and the table as it was.
-pub open-leaves : (image table : List ℕ) → (numberIn (openIn image table .answered) ≡ 0 → ⊥) → Leaves (replicate 81 0) table (openIn image table)
+-- Open: 89 zeros and the table as it was.
+pub open-leaves : (image table : List ℕ) → (numberIn (openIn image table .answered) ≡ 0 → ⊥) → Leaves (replicate 89 0) table (openIn image table)
 open-leaves image table h = calling.open-leaves image table h
 
 -- Run, refused by 1 to 6 or 11 to 13, too large words among it: the words and the table as they were.
-pub run-leaves : (image w table : List ℕ) (steps : ℕ) → length w ≡ 81 → let a : Told = runIn image w table steps in Beforehand (numberIn (a .answered)) → Leaves w table a
+pub run-leaves : (image w table : List ℕ) (steps : ℕ) → length w ≡ 89 → let a : Told = runIn image w table steps in Beforehand (numberIn (a .answered)) → Leaves w table a
 run-leaves image w table steps l b = calling.run-leaves image w table steps l b
 
 -- The same of a run to which a store may be lent, refused by 15 too; and every word of the store as it was.
-pub run-lent-leaves : (image w table : List ℕ) (steps lent : ℕ) (store : List ℕ) → length w ≡ 81 → let a : WithStore Told = runLentIn image w table steps lent store in
+pub run-lent-leaves : (image w table : List ℕ) (steps lent : ℕ) (store : List ℕ) → length w ≡ 89 → let a : WithStore Told = runLentIn image w table steps lent store in
     Beforehand (numberIn (a .answer .answered)) → Leaves w table (a .answer) × (a .store ≡ store)
 run-lent-leaves image w table steps lent store l b = (calling.lent-leaves image w table steps lent store b l, calling.store-leaves image w table steps lent store b)
 
@@ -71,9 +71,9 @@ refresh-too-large image w table mark m t f = calling.refresh-six image w table m
 -- ---- demand 3 over words
 
 -- After an accepted opening, and any kept runs, each with any store beside it, lent or not, refreshes, and changes of the words that are refreshed with their mark, each
--- handed the words and the table left before it: the words are 81, each fits, the state that they hold is well formed, and the table is its fresh one.
+-- handed the words and the table left before it: the words are 89, each fits, the state that they hold is well formed, and the table is its fresh one.
 pub held-fresh : (image : List ℕ) (m : Model) (end : ℕ) → decode image ≡ Got m end → {w table : List ℕ} → Held image w table
-    → (length w ≡ 81) × (fits w ≡ true) × (wellFormed m (stateOf w) ≡ true) × (table ≡ freshTable (m .rules) (stateOf w))
+    → (length w ≡ 89) × (fits w ≡ true) × (wellFormed m (stateOf w) ≡ true) × (table ≡ freshTable (m .rules) (stateOf w))
 held-fresh image m end d h =
     let s = calling.held-stands image m end d h in
     (s .many, s .fit, reached-well image m end d (s .reached), reached-fresh image m end d (s .reached))

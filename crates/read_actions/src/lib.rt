@@ -67,7 +67,7 @@ pub fn actions(
     n: usize,
 ) -> Walk
     requires { ⌜ (length (now image) ≤ 65536) × (p ≤ 8 * length (now image)) × (buffers ≤ 8) × (variables ≤ 8) × (0 < length (now types))
-        × (n ≤ 8) × (176 ≤ length (now rule)) × (m ≤ 8) ⌝ }
+        × (n ≤ 8) × (185 ≤ length (now rule)) × (m ≤ 8) ⌝ }
     ensures { λ r. ⌜ answer r (actionsIn (now (rule .exit)) 88 m) ≡ actions finer (sizes buffers (now (types .entry))) variables (testsIn (now (rule .entry)) 0 n) m (now (image .entry)) p ⌝ }
     ensures within { λ r. ⌜ Within r (8 * length (now (image .entry))) ⌝ }
     ensures kept { λ r. ⌜ take 88 (now (rule .exit)) ≡ take 88 (now (rule .entry)) ⌝ }

@@ -12,16 +12,16 @@ use Rattle.layout.specs.Plans.{typesOn}
 use Rattle.layout.proofs.KeptLaws.{types-kept, opening-kept}
 use Rattle.read_image.specs.Whole.{beginningOn}
 
--- ---- while words from 144 on are written, the beginning stays
+-- ---- while words from 152 on are written, the beginning stays
 
-module _ (p : Plan) (tape tape′ : List ℕ) (kept : take 144 tape′ ≡ take 144 tape) where
+module _ (p : Plan) (tape tape′ : List ℕ) (kept : take 152 tape′ ≡ take 152 tape) where
   pub beginning-kept : p .declared + 1 ≤ 64 → beginningOn p tape′ ≡ beginningOn p tape
   beginning-kept h =
       ap₂ (λ (ts : List ℕ) (cs : List Chunk). record { head = beginningOn p tape .head; types = ts; opening = cs }) (types-kept p tape tape′ kept h) (opening-kept p tape tape′ kept)
 
 -- ---- types at the start of a tape, and then a state after them
 
-module _ (p : Plan) (tape types own : List ℕ) (h : p .declared + 1 ≤ 64) (l : length types ≡ 64) (room : 144 ≤ length tape) where
+module _ (p : Plan) (tape types own : List ℕ) (h : p .declared + 1 ≤ 64) (l : length types ≡ 64) (room : 152 ≤ length tape) where
   pub types-laid : typesOn p (take 64 (sets tape 0 types) ++ own) ≡ take (p .declared + 1) types
   types-laid =
       let s = sets tape 0 types in

@@ -46,8 +46,8 @@ pub record Begun (r : PlanRead) (image : List ℕ) : Type 0 where
   pub short : (q : ℕ) → r .walk ≡ Next q → length image ≤ 65536
   pub in-bounds : (q : ℕ) → r .walk ≡ Next q → InBounds (r .plan)
   pub few-rules : r .plan .rules ≤ 256
-  pub long : 182 * r .plan .rules ≤ r .plan .end
-  pub fits : r .plan .end ≤ 56016
+  pub long : 191 * r .plan .rules ≤ r .plan .end
+  pub fits : r .plan .end ≤ 58328
 
 -- a plan that was read is with a store if one is lent
 abbrev pub Learning : PlanRead → Bool → Type 0

@@ -38,7 +38,7 @@ pub fn begin(image: &[u8], learns: bool) -> PlanRead
 
 // The slot counts and the opening chunks, from p on: laid on the tape; the slot counts are given back too, to read the rest by.
 fn lay_opening(image: &[u8], p: usize, plan: Plan, tape: &mut [u16]) -> TypesRead
-    requires { ⌜ (length (now image) ≤ 65536) × (p ≤ 8 * length (now image)) × (Got (headerIn plan) p ≡ header finer (now image) 0) × InBounds plan × (144 ≤ length (now tape)) ⌝ }
+    requires { ⌜ (length (now image) ≤ 65536) × (p ≤ 8 * length (now image)) × (Got (headerIn plan) p ≡ header finer (now image) 0) × InBounds plan × (152 ≤ length (now tape)) ⌝ }
     ensures { λ r. ⌜ OpeningMet r plan (now (image .entry)) (now (tape .exit)) ⌝ }
 {
     let t = read_opening::slot_counts(image, p, plan.declared);
@@ -81,7 +81,7 @@ fn finish(image: &[u8], at: usize) -> Walk
 fn contents(image: &[u8], p: usize, types: &[u16], plan: Plan, tape: &mut [u16]) -> Walk
     requires { ⌜ (length (now image) ≤ 65536) × (p ≤ 8 * length (now image)) × Small (now types) × (0 < length (now types)) × InBounds plan × (plan .end ≤ length (now tape)) ⌝ }
     ensures { λ r. ⌜ answer r (contentsOn plan (now (tape .exit))) ≡ contents finer (sizes (plan .buffers) (now (types .entry))) (plan .facts) (plan .rules) (now (image .entry)) p ⌝ }
-    ensures kept { λ r. ⌜ take 144 (now (tape .exit)) ≡ take 144 (now (tape .entry)) ⌝ }
+    ensures kept { λ r. ⌜ take 152 (now (tape .exit)) ≡ take 152 (now (tape .entry)) ⌝ }
     ensures laid { λ r. ⌜ LaidIf r (headsOn plan (now (tape .exit))) (rowsOn plan (now (tape .exit))) (plan .rules) ⌝ }
 {
     let n = plan.facts as usize;

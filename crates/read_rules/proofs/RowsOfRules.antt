@@ -17,16 +17,16 @@ use Rattle.read_rules.specs.Heads.{ruleBy, RuleFits}
 module _ (heads heads′ words words′ four own : List ℕ) (k : ℕ) (laid : Laid heads words k)
     (old-heads : SameTo (4 * k) heads heads′)
     (new-head : (i : ℕ) → i < 4 → getD heads′ (4 * k + i) 0 ≡ getD four i 0)
-    (old-words : SameTo (176 * k) words words′) (is-own : drop (176 * k) words′ ≡ own) where
+    (old-words : SameTo (185 * k) words words′) (is-own : drop (185 * k) words′ ≡ own) where
   first-new : getD heads′ (4 * k) 0 ≡ getD four 0 0
   first-new = let e : 4 * k ≡ 4 * k + 0 = omega arith in ap (λ (n : ℕ). getD heads′ n 0) e ∙ new-head 0 (omega arith)
 
   -- the rows of rule k are its own words
-  new-tests : (n : ℕ) → testsIn words′ (176 * k) n ≡ testsIn own 0 n
-  new-tests n = let e : 176 * k + 0 ≡ 176 * k = omega arith in sym (in-drop testIn test-like words′ (176 * k) 0 (176 * k) n e) ∙ ap (λ (l : List ℕ). testsIn l 0 n) is-own
+  new-tests : (n : ℕ) → testsIn words′ (185 * k) n ≡ testsIn own 0 n
+  new-tests n = let e : 185 * k + 0 ≡ 185 * k = omega arith in sym (in-drop testIn test-like words′ (185 * k) 0 (185 * k) n e) ∙ ap (λ (l : List ℕ). testsIn l 0 n) is-own
 
-  new-actions : (n : ℕ) → actionsIn words′ (176 * k + 88) n ≡ actionsIn own 88 n
-  new-actions n = sym (in-drop actionIn action-like words′ (176 * k) 88 (176 * k + 88) n refl) ∙ ap (λ (l : List ℕ). actionsIn l 88 n) is-own
+  new-actions : (n : ℕ) → actionsIn words′ (185 * k + 88) n ≡ actionsIn own 88 n
+  new-actions n = sym (in-drop actionIn action-like words′ (185 * k) 88 (185 * k + 88) n refl) ∙ ap (λ (l : List ℕ). actionsIn l 88 n) is-own
 
   new-rule : ruleIn heads′ words′ k ≡ ruleBy four own
   new-rule =
@@ -39,7 +39,7 @@ module _ (heads heads′ words words′ four own : List ℕ) (k : ℕ) (laid : L
       rows-more (ruleIn heads′ words′) 0 k
       ∙ ap₂ (λ (l : List Rule) (r : Rule). l ++ (r ∷ [])) (rules-kept heads heads′ words words′ k laid old-heads old-words) (ap (ruleIn heads′ words′) z ∙ new-rule)
 
-  module _ (n : ℕ) (h : k < n) (few : n ≤ 256) (hr : 4 * n ≤ length heads′) (wr : 176 * n ≤ length words′) (f : RuleFits four own) where
+  module _ (n : ℕ) (h : k < n) (few : n ≤ 256) (hr : 4 * n ≤ length heads′) (wr : 185 * n ≤ length words′) (f : RuleFits four own) where
     by : {C : Type 0} (j : ℕ) → j < k + 1 → (j < k → C) → (j ≡ k → C) → C
     by j l old new = elim (ℕ-discrete j k) [ yes e ↦ new e | no e ↦ old (omega arith) ]
 
@@ -53,29 +53,29 @@ module _ (heads heads′ words words′ four own : List ℕ) (k : ℕ) (laid : L
           actions-few = λ j l. by j l (λ g. omega (arith, old-heads (4 * j + 1) (omega arith), laid .actions-few j g)) (λ e. rw e (omega (arith, new-head 1 (omega arith), f .actions-few)));
           masks = λ j l.
               by j l (λ g. old-heads (4 * j + 3) (omega arith) ∙ laid .masks j g ∙ ap testedMask (sym (tests-kept heads heads′ words words′ k laid old-heads old-words j g)))
-              (λ e. rw e (new-head 3 (omega arith) ∙ f .mask-is ∙ ap testedMask (sym (ap (testsIn words′ (176 * k)) first-new ∙ new-tests (getD four 0 0)))));
+              (λ e. rw e (new-head 3 (omega arith) ∙ f .mask-is ∙ ap testedMask (sym (ap (testsIn words′ (185 * k)) first-new ∙ new-tests (getD four 0 0)))));
         }
 
--- heads and rows stand on one tape: rule k's own words came back from rows + 176 k on, and then its head was written
-module _ (w w₁ w₂ four own : List ℕ) (rows k n : ℕ) (laid : Laid w (drop rows w) k) (h : k < n) (hr : 4 * n ≤ rows) (wr : rows + 176 * n ≤ length w)
-    (lf : length four ≡ 4) (e : w₁ ≡ take (rows + 176 * k) w ++ own) (as-long : length w₁ ≡ length w) (e₂ : w₂ ≡ sets w₁ (4 * k) four) where
-  below : take (rows + 176 * k) w₁ ≡ take (rows + 176 * k) w
-  below = ap (take (rows + 176 * k)) e ∙ part-below (rows + 176 * k) w own (omega arith)
+-- heads and rows stand on one tape: rule k's own words came back from rows + 185 k on, and then its head was written
+module _ (w w₁ w₂ four own : List ℕ) (rows k n : ℕ) (laid : Laid w (drop rows w) k) (h : k < n) (hr : 4 * n ≤ rows) (wr : rows + 185 * n ≤ length w)
+    (lf : length four ≡ 4) (e : w₁ ≡ take (rows + 185 * k) w ++ own) (as-long : length w₁ ≡ length w) (e₂ : w₂ ≡ sets w₁ (4 * k) four) where
+  below : take (rows + 185 * k) w₁ ≡ take (rows + 185 * k) w
+  below = ap (take (rows + 185 * k)) e ∙ part-below (rows + 185 * k) w own (omega arith)
 
   rows-after : drop rows w₂ ≡ drop rows w₁
   rows-after = ap (drop rows) e₂ ∙ sets-drop rows w₁ (4 * k) four (omega arith)
 
   old : SameTo (4 * k) w w₂
-  old j a = ap (λ (l : List ℕ). getD l j 0) e₂ ∙ sets-below w₁ (4 * k) four j a ∙ below-get (rows + 176 * k) w w₁ below j (omega arith)
+  old j a = ap (λ (l : List ℕ). getD l j 0) e₂ ∙ sets-below w₁ (4 * k) four j a ∙ below-get (rows + 185 * k) w w₁ below j (omega arith)
 
   new : (i : ℕ) → i < 4 → getD w₂ (4 * k + i) 0 ≡ getD four i 0
   new i b = ap (λ (l : List ℕ). getD l (4 * k + i) 0) e₂ ∙ sets-at w₁ (4 * k) four i (omega arith) (omega arith)
 
-  kept : SameTo (176 * k) (drop rows w) (drop rows w₂)
-  kept j a = ap (λ (l : List ℕ). getD l j 0) rows-after ∙ same-below rows (176 * k) w w₁ below j a
+  kept : SameTo (185 * k) (drop rows w) (drop rows w₂)
+  kept j a = ap (λ (l : List ℕ). getD l j 0) rows-after ∙ same-below rows (185 * k) w w₁ below j a
 
-  is-own : drop (176 * k) (drop rows w₂) ≡ own
-  is-own = ap (drop (176 * k)) rows-after ∙ drop-drop (176 * k) rows w₁ ∙ ap (drop (rows + 176 * k)) e ∙ part-own (rows + 176 * k) w own (omega arith)
+  is-own : drop (185 * k) (drop rows w₂) ≡ own
+  is-own = ap (drop (185 * k)) rows-after ∙ drop-drop (185 * k) rows w₁ ∙ ap (drop (rows + 185 * k)) e ∙ part-own (rows + 185 * k) w own (omega arith)
 
   pub tape-more : rulesIn w₂ (drop rows w₂) (k + 1) ≡ rulesIn w (drop rows w) k ++ (ruleBy four own ∷ [])
   tape-more = rules-more w w₂ (drop rows w) (drop rows w₂) four own k laid old new kept is-own

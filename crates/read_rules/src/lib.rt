@@ -1,5 +1,5 @@
 // Rules, read from the packed image: each one's head into four words (tests, actions, utility, mask of tested buffers),
-// its tests and actions into 176 words of their own (eight rows each); the heads stand first, one after the other.
+// its tests and actions into 185 words of their own (eight rows each); the heads stand first, one after the other.
 ghost use mathlib.Core.Path.{_≡_};
 ghost use Prim.Native.Nat.{_+_, _*_, _≤_, _<_};
 ghost use lib.ListN.{length, drop};
@@ -64,7 +64,7 @@ fn head(image: &[u8], p: usize, buffers: u16) -> HeadRead
 
 // One rule: its tests into the first side of its own words, its actions into the second, and its four words.
 fn rule(image: &[u8], p: usize, buffers: u16, types: &[u16], own: &mut [u16]) -> RuleRead
-    requires { ⌜ (length (now image) ≤ 65536) × (p ≤ 8 * length (now image)) × (buffers ≤ 8) × (0 < length (now types)) × (176 ≤ length (now own)) ⌝ }
+    requires { ⌜ (length (now image) ≤ 65536) × (p ≤ 8 * length (now image)) × (buffers ≤ 8) × (0 < length (now types)) × (185 ≤ length (now own)) ⌝ }
     ensures { λ r. ⌜ RuleMet r (now (image .entry)) p buffers (now (types .entry)) (now (own .exit)) ⌝ }
 {
     let h = head(image, p, buffers);
@@ -95,7 +95,7 @@ fn rule(image: &[u8], p: usize, buffers: u16, types: &[u16], own: &mut [u16]) ->
     }
 }
 
-// n rules: rule k's four words into words from 4 k on, its rows into words from rows + 176 k on.
+// n rules: rule k's four words into words from 4 k on, its rows into words from rows + 185 k on.
 pub fn rules(
     image: &[u8],
     p: usize,
@@ -105,7 +105,7 @@ pub fn rules(
     words: &mut [u16],
     rows: usize,
 ) -> Walk
-    requires { ⌜ (length (now image) ≤ 65536) × (p ≤ 8 * length (now image)) × (buffers ≤ 8) × (0 < length (now types)) × (n ≤ 256) × (4 * n ≤ rows) × (rows + 176 * n ≤ length (now words)) ⌝ }
+    requires { ⌜ (length (now image) ≤ 65536) × (p ≤ 8 * length (now image)) × (buffers ≤ 8) × (0 < length (now types)) × (n ≤ 256) × (4 * n ≤ rows) × (rows + 185 * n ≤ length (now words)) ⌝ }
     ensures { λ r. ⌜ answer r (rulesIn (now (words .exit)) (drop rows (now (words .exit))) n) ≡ times n (rule finer (sizes buffers (now (types .entry)))) (now (image .entry)) p ⌝ }
     ensures within { λ r. ⌜ Within r (8 * length (now (image .entry))) ⌝ }
     ensures laid { λ r. ⌜ LaidIf r (now (words .exit)) (drop rows (now (words .exit))) n ⌝ }

@@ -59,7 +59,7 @@ module _ (p : Plan) (tape tape₁ tape₂ : List ℕ) (planned : Planned p tape)
         let same = same-below (p .chains) (64 + p .facts) tape₁ tape₂ (begin-alike (p .chains + (64 + p .facts)) (p .order) tape₁ tape₂ (omega arith) (order .below)) in
         let room : 64 + p .facts ≤ length (drop (p .chains) tape₂) = omega (arith, length-drop (p .chains) tape₂) in
         let facts = same-facts p tape₁ tape₂ chained stays in
-        chained-kept (drop (p .chains) tape₁) (drop (p .chains) tape₂) (drop 144 tape₁) (drop 144 tape₂) (p .facts) (chains .chains) room same facts
+        chained-kept (drop (p .chains) tape₁) (drop (p .chains) tape₂) (drop 152 tape₁) (drop 152 tape₂) (p .facts) (chains .chains) room same facts
 
     pub aids-laid : AidsLaid p tape tape₂
     aids-laid =

@@ -20,10 +20,10 @@ module _ (p : Plan) (tape tape′ : List ℕ) (planned : Planned p tape) where
   stays long below above =
       let s = sections planned in
       let fit = planned .facts-placed in
-      stays-apart p tape tape′ planned long (begin-alike (144 + 11 * p .facts) (p .chains) tape tape′ (omega arith) below) above
+      stays-apart p tape tape′ planned long (begin-alike (152 + 11 * p .facts) (p .chains) tape tape′ (omega arith) below) above
 
   -- chains that were copied onto the tape stand there
-  pub chains-laid : (own : List ℕ) → Chained own (drop 144 tape) (p .facts) → tape′ ≡ sets tape (p .chains) (take (64 + p .facts) own) → ChainsLaid p tape tape′
+  pub chains-laid : (own : List ℕ) → Chained own (drop 152 tape) (p .facts) → tape′ ≡ sets tape (p .chains) (take (64 + p .facts) own) → ChainsLaid p tape tape′
   chains-laid own chained e =
       let s = sections planned in
       let words : List ℕ = take (64 + p .facts) own in
@@ -37,7 +37,7 @@ module _ (p : Plan) (tape tape′ : List ℕ) (planned : Planned p tape) where
       record {
         below = below;
         above = above;
-        chains = chained-kept own (drop (p .chains) tape′) (drop 144 tape) (drop 144 tape′) (p .facts) chained room same facts;
+        chains = chained-kept own (drop (p .chains) tape′) (drop 152 tape) (drop 152 tape′) (p .facts) chained room same facts;
       }
 
   -- the tape means the model that it meant

@@ -21,27 +21,27 @@ use Rattle.step_effect.specs.Deeds.{chunkIn, modified}
 -- no word but the eight slots of buffer k has changed
 pub record OnlySlots (w w′ : List ℕ) (k : ℕ) : Type 0 where
   pub size : length w′ ≡ length w
-  pub before : (j : ℕ) → j < 10 * k + 1 → getD w′ j 0 ≡ getD w j 0
-  pub after : (j : ℕ) → 10 * k + 9 ≤ j → getD w′ j 0 ≡ getD w j 0
+  pub before : (j : ℕ) → j < 11 * k + 1 → getD w′ j 0 ≡ getD w j 0
+  pub after : (j : ℕ) → 11 * k + 9 ≤ j → getD w′ j 0 ≡ getD w j 0
 
 pub only-none : (w : List ℕ) (k : ℕ) → OnlySlots w w k
 only-none w k = record { size = refl; before = λ j h. refl; after = λ j h. refl }
 
-pub only-more : {w w′ : List ℕ} {k : ℕ} → OnlySlots w w′ k → (b v : ℕ) → b < 8 → OnlySlots w (set w′ (10 * k + 1 + b) v) k
+pub only-more : {w w′ : List ℕ} {k : ℕ} → OnlySlots w w′ k → (b v : ℕ) → b < 8 → OnlySlots w (set w′ (11 * k + 1 + b) v) k
 only-more {w} {w′} {k} o b v h =
     record {
-      size = length-set w′ (10 * k + 1 + b) v ∙ o .size;
-      before = λ j l. getD-set-other w′ (10 * k + 1 + b) j v 0 (λ e. omega arith) ∙ o .before j l;
-      after = λ j l. getD-set-other w′ (10 * k + 1 + b) j v 0 (λ e. omega arith) ∙ o .after j l;
+      size = length-set w′ (11 * k + 1 + b) v ∙ o .size;
+      before = λ j l. getD-set-other w′ (11 * k + 1 + b) j v 0 (λ e. omega arith) ∙ o .before j l;
+      after = λ j l. getD-set-other w′ (11 * k + 1 + b) j v 0 (λ e. omega arith) ∙ o .after j l;
     }
 
 -- the delay last: the type is as it was, the slots are xs
-pub only-end : {w w′ : List ℕ} {k : ℕ} → OnlySlots w w′ k → (d : ℕ) (xs : List ℕ) → 10 * k + 10 ≤ length w → bufferIn w′ k .slots ≡ xs
-    → Remade w (set w′ (10 * k + 9) d) k (record { isa = bufferIn w k .isa; slots = xs; delay = d })
+pub only-end : {w w′ : List ℕ} {k : ℕ} → OnlySlots w w′ k → (d : ℕ) (xs : List ℕ) → 11 * k + 11 ≤ length w → bufferIn w′ k .slots ≡ xs
+    → Remade w (set w′ (11 * k + 9) d) k (record { isa = bufferIn w k .isa; slots = xs; delay = d })
 only-end {w} {w′} {k} o d xs h e =
-    let m : Remade w′ (set w′ (10 * k + 9) d) k (record { isa = bufferIn w′ k .isa; slots = bufferIn w′ k .slots; delay = d }) = delay-set w′ k d (omega (arith, o .size)) in
+    let m : Remade w′ (set w′ (11 * k + 9) d) k (record { isa = bufferIn w′ k .isa; slots = bufferIn w′ k .slots; delay = d }) = delay-set w′ k d (omega (arith, o .size)) in
     record {
-      made = m .made ∙ rw (o .before (10 * k) (omega arith), e);
+      made = m .made ∙ rw (o .before (11 * k) (omega arith), e);
       below = λ j l. m .below j l ∙ o .before j (omega arith);
       above = λ j l. m .above j l ∙ o .after j (omega arith);
     }
@@ -50,34 +50,34 @@ only-end {w} {w′} {k} o d xs h e =
 
 -- the first b slots of buffer k of w are the words of `from` at `at`
 abbrev pub Copied : List ℕ → ℕ → List ℕ → ℕ → ℕ → Type 0
-Copied w k from at b = (j : ℕ) → j < b → getD w (10 * k + 1 + j) 0 ≡ getD from (at + j) 0
+Copied w k from at b = (j : ℕ) → j < b → getD w (11 * k + 1 + j) 0 ≡ getD from (at + j) 0
 
-pub copied-more : (w : List ℕ) (k : ℕ) (from : List ℕ) (at b : ℕ) → 10 * k + 1 + b < length w → Copied w k from at b → Copied (set w (10 * k + 1 + b) (getD from (at + b) 0)) k from at (b + 1)
+pub copied-more : (w : List ℕ) (k : ℕ) (from : List ℕ) (at b : ℕ) → 11 * k + 1 + b < length w → Copied w k from at b → Copied (set w (11 * k + 1 + b) (getD from (at + b) 0)) k from at (b + 1)
 copied-more w k from at b h g =
-    below-more _ _ (λ j l. getD-set-other w (10 * k + 1 + b) (10 * k + 1 + j) (getD from (at + b) 0) 0 (λ e. omega arith) ∙ g j l) (getD-set-same w (10 * k + 1 + b) (getD from (at + b) 0) 0 h)
+    below-more _ _ (λ j l. getD-set-other w (11 * k + 1 + b) (11 * k + 1 + j) (getD from (at + b) 0) 0 (λ e. omega arith) ∙ g j l) (getD-set-same w (11 * k + 1 + b) (getD from (at + b) 0) 0 h)
 
 -- the type and the delay last
-pub copied-end : {w w′ : List ℕ} {k : ℕ} → OnlySlots w w′ k → (isa : ℕ) (from : List ℕ) (at delay b : ℕ) → 10 * k + 10 ≤ length w → 8 ≤ b → Copied w′ k from at b
-    → Remade w (set (set w′ (10 * k) isa) (10 * k + 9) delay) k (chunkIn isa from at delay)
+pub copied-end : {w w′ : List ℕ} {k : ℕ} → OnlySlots w w′ k → (isa : ℕ) (from : List ℕ) (at delay b : ℕ) → 11 * k + 11 ≤ length w → 8 ≤ b → Copied w′ k from at b
+    → Remade w (set (set w′ (11 * k) isa) (11 * k + 9) delay) k (chunkIn isa from at delay)
 copied-end {w} {w′} {k} o isa from at delay b h l g =
     record {
       made =
           m .made
-          ∙ rw (getD-set-same w′ (10 * k) isa 0 (omega (arith, o .size)))
+          ∙ rw (getD-set-same w′ (11 * k) isa 0 (omega (arith, o .size)))
           (ap (λ (xs : List ℕ). record { isa = isa; slots = xs; delay = delay })
-          (rows-same (λ j. getD u (10 * k + 1 + j) 0) (λ j. getD from (at + j) 0) 0 8 (λ j x y. other (10 * k + 1 + j) (λ e. omega arith) ∙ g j (omega arith))));
+          (rows-same (λ j. getD u (11 * k + 1 + j) 0) (λ j. getD from (at + j) 0) 0 8 (λ j x y. other (11 * k + 1 + j) (λ e. omega arith) ∙ g j (omega arith))));
       below = λ j x. m .below j x ∙ other j (λ e. omega arith) ∙ o .before j (omega arith);
       above = λ j x. m .above j x ∙ other j (λ e. omega arith) ∙ o .after j (omega arith);
     }
   where
     u : List ℕ
-    u = set w′ (10 * k) isa
+    u = set w′ (11 * k) isa
 
-    other : (j : ℕ) → (j ≡ 10 * k → ⊥) → getD u j 0 ≡ getD w′ j 0
-    other j n = getD-set-other w′ (10 * k) j isa 0 n
+    other : (j : ℕ) → (j ≡ 11 * k → ⊥) → getD u j 0 ≡ getD w′ j 0
+    other j n = getD-set-other w′ (11 * k) j isa 0 n
 
-    m : Remade u (set u (10 * k + 9) delay) k (record { isa = getD u (10 * k) 0; slots = bufferIn u k .slots; delay = delay })
-    m = delay-set u k delay (omega (arith, o .size, length-set w′ (10 * k) isa))
+    m : Remade u (set u (11 * k + 9) delay) k (record { isa = getD u (11 * k) 0; slots = bufferIn u k .slots; delay = delay })
+    m = delay-set u k delay (omega (arith, o .size, length-set w′ (11 * k) isa))
 
 -- ---- slots that a mask names
 
@@ -91,11 +91,11 @@ rows-set f g i (suc n) (suc b) v h e o =
     let z : i + 1 + b ≡ i + suc b = omega arith in
     rw (o i (λ q. omega arith)) (ap (λ (l : List ℕ). f i ∷ l) (rows-set f g (i + 1) n b v (omega arith) (ap g z ∙ e) (λ j n. o j (λ q. n (omega arith)))))
 
-slots-set : (w : List ℕ) (k b v : ℕ) → b < 8 → 10 * k + 10 ≤ length w → bufferIn (set w (10 * k + 1 + b) v) k .slots ≡ set (bufferIn w k .slots) b v
+slots-set : (w : List ℕ) (k b v : ℕ) → b < 8 → 11 * k + 11 ≤ length w → bufferIn (set w (11 * k + 1 + b) v) k .slots ≡ set (bufferIn w k .slots) b v
 slots-set w k b v h l =
-    let z : 10 * k + 1 + (0 + b) ≡ 10 * k + 1 + b = omega arith in
-    rows-set (λ j. getD w (10 * k + 1 + j) 0) (λ j. getD (set w (10 * k + 1 + b) v) (10 * k + 1 + j) 0) 0 8 b v h (rw z (getD-set-same w (10 * k + 1 + b) v 0 (omega arith)))
-    (λ j n. getD-set-other w (10 * k + 1 + b) (10 * k + 1 + j) v 0 (λ e. n (omega arith)))
+    let z : 11 * k + 1 + (0 + b) ≡ 11 * k + 1 + b = omega arith in
+    rows-set (λ j. getD w (11 * k + 1 + j) 0) (λ j. getD (set w (11 * k + 1 + b) v) (11 * k + 1 + j) 0) 0 8 b v h (rw z (getD-set-same w (11 * k + 1 + b) v 0 (omega arith)))
+    (λ j n. getD-set-other w (11 * k + 1 + b) (11 * k + 1 + j) v 0 (λ e. n (omega arith)))
 
 -- what the slots become when those that the action at q names from b on are put
 unfoldable pub putFrom : List ℕ → ℕ → List ℕ → ℕ → List ℕ → List ℕ
@@ -112,8 +112,8 @@ putting-start words q nine w k = record { only = only-none w k; slots = rw (rest
 
 module _ {words : List ℕ} {q : ℕ} {nine w w′ : List ℕ} {k b : ℕ} (p : Putting words q nine w w′ k b) where
   module _ (h : b < 8) where
-    pub putting-on : (v : ℕ) → names (getD words (q + 2) 0) b ≡ true → v ≡ valueOf nine (wordTerm (getD words (q + 3 + b) 0)) → 10 * k + 10 ≤ length w
-        → Putting words q nine w (set w′ (10 * k + 1 + b) v) k (b + 1)
+    pub putting-on : (v : ℕ) → names (getD words (q + 2) 0) b ≡ true → v ≡ valueOf nine (wordTerm (getD words (q + 3 + b) 0)) → 11 * k + 11 ≤ length w
+        → Putting words q nine w (set w′ (11 * k + 1 + b) v) k (b + 1)
     unfolding putFrom put
     putting-on v e g l =
         record {
@@ -131,7 +131,7 @@ module _ {words : List ℕ} {q : ℕ} {nine w w′ : List ℕ} {k b : ℕ} (p : 
           slots = ap (λ (bs : List ℕ). put (map (namedIn words q) bs) nine (bufferIn w′ k .slots)) (sym (rest-off (getD words (q + 2) 0) b h e)) ∙ p .slots;
         }
 
-  pub putting-end : rest (getD words (q + 2) 0) b ≡ [] → 10 * k + 10 ≤ length w → Remade w (set w′ (10 * k + 9) 0) k (modified (maskedIn words q) nine (bufferIn w k))
+  pub putting-end : rest (getD words (q + 2) 0) b ≡ [] → 11 * k + 11 ≤ length w → Remade w (set w′ (11 * k + 9) 0) k (modified (maskedIn words q) nine (bufferIn w k))
   unfolding putFrom put
   putting-end h l =
       only-end (p .only) 0 (put (maskedIn words q) nine (bufferIn w k .slots)) l

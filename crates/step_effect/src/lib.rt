@@ -17,7 +17,7 @@ use step_retrieve::Found;
 
 // Writes a chunk over buffer k: its type, eight words of `from` that start at `at`, and its delay.
 fn fill(state: &mut [u16], k: usize, isa: u16, from: &[u16], at: usize, delay: u16)
-    requires { ⌜ (80 ≤ length (now state)) × (k < 8) × (at + 8 ≤ length (now from)) ⌝ }
+    requires { ⌜ (88 ≤ length (now state)) × (k < 8) × (at + 8 ≤ length (now from)) ⌝ }
     ensures { λ _. ⌜ Remade (now (state .entry)) (now (state .exit)) k (chunkIn isa (now (from .entry)) at delay) ⌝ }
 {
     let mut b = 0;
@@ -31,7 +31,7 @@ fn fill(state: &mut [u16], k: usize, isa: u16, from: &[u16], at: usize, delay: u
 
 // Writes nil over buffer k, visible after some ms.
 pub fn nil(state: &mut [u16], k: usize, delay: u16)
-    requires { ⌜ (80 ≤ length (now state)) × (k < 8) ⌝ }
+    requires { ⌜ (88 ≤ length (now state)) × (k < 8) ⌝ }
     ensures { λ _. ⌜ Remade (now (state .entry)) (now (state .exit)) k (nilAfter delay) ⌝ }
 {
     let zeros = [0u16; 8];
@@ -41,7 +41,7 @@ pub fn nil(state: &mut [u16], k: usize, delay: u16)
 // Writes the values of the terms of the action at q into the slots of buffer k that it names, and makes it visible.
 // What is left of the mask has the bit of slot b at 128, and no slot is looked at once it is 0.
 pub fn modify(state: &mut [u16], k: usize, words: &[u16], q: usize, nine: &[u16])
-    requires { ⌜ (80 ≤ length (now state)) × (k < 8) × (q + 11 ≤ length (now words)) × (9 ≤ length (now nine)) ⌝ }
+    requires { ⌜ (88 ≤ length (now state)) × (k < 8) × (q + 11 ≤ length (now words)) × (9 ≤ length (now nine)) ⌝ }
     ensures { λ _. ⌜ Remade (now (state .entry)) (now (state .exit)) k (modified (maskedIn (now (words .entry)) q) (now (nine .entry)) (bufferIn (now (state .entry)) k)) ⌝ }
 {
     let mut rest = words[q + 2] % 256;
@@ -58,7 +58,7 @@ pub fn modify(state: &mut [u16], k: usize, words: &[u16], q: usize, nine: &[u16]
 
 // Writes over buffer k the fact that the request at q of the rows finds, with its latency as the delay; or nil with the failure latency.
 pub fn request(state: &mut [u16], k: usize, plan: Plan, tape: &[u16], q: usize, nine: &[u16])
-    requires { ⌜ (80 ≤ length (now state)) × (k < 8) × (q + 11 ≤ length (rowsOn plan (now tape))) × (9 ≤ length (now nine)) × Planned plan (now tape) × ChainsOn plan (now tape) ⌝ }
+    requires { ⌜ (88 ≤ length (now state)) × (k < 8) × (q + 11 ≤ length (rowsOn plan (now tape))) × (9 ≤ length (now nine)) × Planned plan (now tape) × ChainsOn plan (now tape) ⌝ }
     ensures { λ _. ⌜ Remade (now (state .entry)) (now (state .exit)) k (retrieved (plan .failure)
         (retrieve (factsOn plan (now (tape .entry))) (getD (rowsOn plan (now (tape .entry))) (q + 1) 0) (maskedIn (rowsOn plan (now (tape .entry))) q) (now (nine .entry)))) ⌝ }
 {

@@ -31,7 +31,7 @@ use Rattle.step_fire.specs.Acts.{ActedMask, acting}
 -- a buffer but the one that was changed
 remade-other : {w w′ : List ℕ} {k : ℕ} {b : Buffer} → Remade w w′ k b → (j : ℕ) → (j ≡ k → ⊥) → bufferIn w′ j ≡ bufferIn w j
 remade-other {w} {w′} {k} r j n =
-    buffer-like w′ w j (λ i l. by-lt j k (λ h. r .below (10 * j + i) (omega arith)) (λ h. r .above (10 * j + i) (omega arith)))
+    buffer-like w′ w j (λ i l. by-lt j k (λ h. r .below (11 * j + i) (omega arith)) (λ h. r .above (11 * j + i) (omega arith)))
 
 change-rows : (f : ℕ → Buffer → Buffer) (g : ℕ → Buffer) (i n : ℕ) → change f i (rowsIn g i n) ≡ rowsIn (λ k. f k (g k)) i n
 unfolding change rowsIn

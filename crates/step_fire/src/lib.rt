@@ -50,7 +50,7 @@ fn action_on(words: &[u16], o: usize, m: usize, k: usize) -> usize
 
 // Does the action at q of the rows on buffer k.
 fn perform(state: &mut [u16], k: usize, plan: Plan, tape: &[u16], q: usize, nine: &[u16])
-    requires { ⌜ (80 ≤ length (now state)) × (k < 8) × (q + 11 ≤ length (rowsOn plan (now tape))) × (9 ≤ length (now nine)) × Planned plan (now tape) × ChainsOn plan (now tape) ⌝ }
+    requires { ⌜ (88 ≤ length (now state)) × (k < 8) × (q + 11 ≤ length (rowsOn plan (now tape))) × (9 ≤ length (now nine)) × Planned plan (now tape) × ChainsOn plan (now tape) ⌝ }
     ensures { λ _. ⌜ Remade (now (state .entry)) (now (state .exit)) k
         (done (plan .failure) (factsOn plan (now (tape .entry))) (now (nine .entry)) (bufferIn (now (state .entry)) k) (actionIn (rowsOn plan (now (tape .entry))) q .deed)) ⌝ }
 {
@@ -78,7 +78,7 @@ fn act_all(
     nine: &[u16],
     acted: u16,
 )
-    requires { ⌜ (80 ≤ length (now state)) × (o + 11 * m ≤ length (rowsOn plan (now tape))) × (9 ≤ length (now nine)) × Planned plan (now tape) × ChainsOn plan (now tape)
+    requires { ⌜ (88 ≤ length (now state)) × (o + 11 * m ≤ length (rowsOn plan (now tape))) × (9 ≤ length (now nine)) × Planned plan (now tape) × ChainsOn plan (now tape)
         × ActedMask (actionsIn (rowsOn plan (now tape)) o m) acted ⌝ }
     ensures { λ _. ⌜ ((k : ℕ) → bufferIn (now (state .exit)) k
         ≡ acting (plan .failure) (factsOn plan (now (tape .entry))) (now (nine .entry)) (bufferIn (now (state .entry)) k) (deedOn (actionsIn (rowsOn plan (now (tape .entry))) o m) k)) ⌝ }
@@ -96,7 +96,7 @@ fn act_all(
 // Fires a rule with the m actions from o on and the nine words of its entry; the mark of the buffers acted on or arrived.
 // A buffer acted on that would have arrived without its action is in both masks.
 pub fn fire(state: &mut [u16], plan: Plan, tape: &[u16], o: usize, m: usize, nine: &[u16]) -> u16
-    requires { ⌜ (80 ≤ length (now state)) × (o + 11 * m ≤ length (rowsOn plan (now tape))) × (m ≤ 8) × (9 ≤ length (now nine)) × Planned plan (now tape) × ChainsOn plan (now tape) ⌝ }
+    requires { ⌜ (88 ≤ length (now state)) × (o + 11 * m ≤ length (rowsOn plan (now tape))) × (m ≤ 8) × (9 ≤ length (now nine)) × Planned plan (now tape) × ChainsOn plan (now tape) ⌝ }
     ensures { λ _. ⌜ ((clock : ℕ) (r : Rule) → r .actions ≡ actionsIn (rowsOn plan (now (tape .entry))) o m
         → stateIn (now (state .exit)) (clock + 50) ≡ fire (plan .failure) (factsOn plan (now (tape .entry))) r (now (nine .entry)) (stateIn (now (state .entry)) clock)) ⌝ }
     ensures mark { λ r. ⌜ ((clock clock′ : ℕ) → r ≡ markOf (actionsIn (rowsOn plan (now (tape .entry))) o m) (stateIn (now (state .entry)) clock) (stateIn (now (state .exit)) clock′)) ⌝ }

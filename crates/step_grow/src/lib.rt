@@ -13,8 +13,8 @@ use step_retrieve::CHAIN_END;
 
 // The last link of chain h of n facts: the number of the word, among the words of the chains, that names no fact after it.
 fn last_link(tape: &[u16], chains: usize, h: usize, n: usize) -> usize
-    requires { ⌜ Chained (drop chains (now tape)) (drop 144 (now tape)) n × (chains + 64 + n ≤ length (now tape)) × (h < 64) ⌝ }
-    ensures { λ r. ⌜ Last (drop chains (now (tape .entry))) (drop 144 (now (tape .entry))) n h r ⌝ }
+    requires { ⌜ Chained (drop chains (now tape)) (drop 152 (now tape)) n × (chains + 64 + n ≤ length (now tape)) × (h < 64) ⌝ }
+    ensures { λ r. ⌜ Last (drop chains (now (tape .entry))) (drop 152 (now (tape .entry))) n h r ⌝ }
 {
     let mut at = h;
     let mut next = tape[chains + at] as usize;

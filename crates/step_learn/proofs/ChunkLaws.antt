@@ -64,7 +64,7 @@ module _ (f g : ℕ → ℕ) where
 
 -- the slots of buffer b, and of the fact at f
 abbrev pub slotIn : List ℕ → ℕ → ℕ → ℕ
-slotIn state b i = getD state (10 * b + 1 + i) 0
+slotIn state b i = getD state (11 * b + 1 + i) 0
 
 abbrev pub factSlot : List ℕ → ℕ → ℕ → ℕ
 factSlot facts f i = getD facts (f + 3 + i) 0
@@ -72,17 +72,17 @@ factSlot facts f i = getD facts (f + 3 + i) 0
 -- ---- another chunk than nil in a visible buffer
 
 module _ (state : List ℕ) (b : ℕ) where
-  pub gives-pending : (getD state (10 * b + 9) 0 ≡ 0 → ⊥) → false ≡ gives (bufferIn state b)
-  gives-pending e = rw (ne-eqb (getD state (10 * b + 9) 0) 0 e)
+  pub gives-pending : (getD state (11 * b + 9) 0 ≡ 0 → ⊥) → false ≡ gives (bufferIn state b)
+  gives-pending e = rw (ne-eqb (getD state (11 * b + 9) 0) 0 e)
 
-  module _ (now : getD state (10 * b + 9) 0 ≡ 0) where
-    pub gives-typed : (getD state (10 * b) 0 ≡ 0 → ⊥) → true ≡ gives (bufferIn state b)
-    gives-typed e = rw (eq-eqb (getD state (10 * b + 9) 0) 0 now, ne-eqb (getD state (10 * b) 0) 0 e)
+  module _ (now : getD state (11 * b + 9) 0 ≡ 0) where
+    pub gives-typed : (getD state (11 * b) 0 ≡ 0 → ⊥) → true ≡ gives (bufferIn state b)
+    gives-typed e = rw (eq-eqb (getD state (11 * b + 9) 0) 0 now, ne-eqb (getD state (11 * b) 0) 0 e)
 
-    pub gives-slots : getD state (10 * b) 0 ≡ 0 → not (zerosFrom (slotIn state b) 0) ≡ gives (bufferIn state b)
+    pub gives-slots : getD state (11 * b) 0 ≡ 0 → not (zerosFrom (slotIn state b) 0) ≡ gives (bufferIn state b)
     unfolding zerosFrom
     gives-slots e =
-        rw (eq-eqb (getD state (10 * b + 9) 0) 0 now, eq-eqb (getD state (10 * b) 0) 0 e)
+        rw (eq-eqb (getD state (11 * b + 9) 0) 0 now, eq-eqb (getD state (11 * b) 0) 0 e)
         (elim (every (λ v. eqb v 0) (rowsIn (slotIn state b) 0 8)) as (λ t. not t ≡ not (t && true)) [ true ↦ refl | false ↦ refl ])
 
 -- ---- a buffer's chunk and a fact's
@@ -91,23 +91,23 @@ module _ (state : List ℕ) (b : ℕ) (facts : List ℕ) (f : ℕ) where
   abbrev pub sameChunk : Bool
   sameChunk = equal (chunkOf (bufferIn state b)) (factIn facts f .chunk)
 
-  pub chunk-other : (getD state (10 * b) 0 ≡ getD facts f 0 → ⊥) → false ≡ sameChunk
-  chunk-other e = rw (ne-eqb (getD state (10 * b) 0) (getD facts f 0) e)
+  pub chunk-other : (getD state (11 * b) 0 ≡ getD facts f 0 → ⊥) → false ≡ sameChunk
+  chunk-other e = rw (ne-eqb (getD state (11 * b) 0) (getD facts f 0) e)
 
-  pub chunk-start : getD state (10 * b) 0 ≡ getD facts f 0 → sameFrom (slotIn state b) (factSlot facts f) 0 ≡ sameChunk
+  pub chunk-start : getD state (11 * b) 0 ≡ getD facts f 0 → sameFrom (slotIn state b) (factSlot facts f) 0 ≡ sameChunk
   unfolding sameFrom
   chunk-start e =
-      rw (eq-eqb (getD state (10 * b) 0) (getD facts f 0) e)
+      rw (eq-eqb (getD state (11 * b) 0) (getD facts f 0) e)
       (ap (same (rowsIn (slotIn state b) 0 8)) (sym (map-rows (factSlot facts f) 0 8)))
 
   -- a fact whose first slot is another
-  pub chunk-first : (getD state (10 * b + 1) 0 ≡ getD facts (f + 3) 0 → ⊥) → sameChunk ≡ false
+  pub chunk-first : (getD state (11 * b + 1) 0 ≡ getD facts (f + 3) 0 → ⊥) → sameChunk ≡ false
   unfolding sameFrom
   chunk-first n =
-      let z : 10 * b + 1 + 0 ≡ 10 * b + 1 = omega arith in
+      let z : 11 * b + 1 + 0 ≡ 11 * b + 1 = omega arith in
       let y : f + 3 + 0 ≡ f + 3 = omega arith in
       let other = same-not (slotIn state b) (factSlot facts f) 0 (omega arith) (λ e. n (sym (ap (λ (i : ℕ). getD state i 0) z) ∙ e ∙ ap (λ (i : ℕ). getD facts i 0) y)) in
-      (elim (eqb (getD state (10 * b) 0) (getD facts f 0)) as (λ t. (t && same (bufferIn state b .slots) (factIn facts f .chunk .slots)) ≡ false) [
+      (elim (eqb (getD state (11 * b) 0) (getD facts f 0)) as (λ t. (t && same (bufferIn state b .slots) (factIn facts f .chunk .slots)) ≡ false) [
         | true ↦ ap (same (rowsIn (slotIn state b) 0 8)) (map-rows (factSlot facts f) 0 8) ∙ other
         | false ↦ refl
       ])
@@ -124,11 +124,11 @@ row-written w q x y z ws =
 
 -- eight slots after a type, activation 0 and latency 50
 row-is : (state : List ℕ) (b : ℕ) (ws : List ℕ) → ((i : ℕ) → i < 8 → getD ws i 0 ≡ slotIn state b i)
-    → factIn (getD state (10 * b) 0 ∷ 0 ∷ 50 ∷ ws) 0 ≡ learned (chunkOf (bufferIn state b))
+    → factIn (getD state (11 * b) 0 ∷ 0 ∷ 50 ∷ ws) 0 ≡ learned (chunkOf (bufferIn state b))
 row-is state b ws h =
-    let row : List ℕ = getD state (10 * b) 0 ∷ 0 ∷ 50 ∷ ws in
+    let row : List ℕ = getD state (11 * b) 0 ∷ 0 ∷ 50 ∷ ws in
     let at : (i : ℕ) → i < 8 → factSlot row 0 i ≡ slotIn state b i = λ i l. let g : 0 + 3 + i ≡ suc (suc (suc i)) = omega arith in ap (λ (n : ℕ). getD row n 0) g ∙ h i l in
-    ap (λ (l : List ℕ). record { chunk = record { isa = getD state (10 * b) 0; slots = l }; activation = 0; latency = 50 })
+    ap (λ (l : List ℕ). record { chunk = record { isa = getD state (11 * b) 0; slots = l }; activation = 0; latency = 50 })
     (map-upFrom (factSlot row 0) (slotIn state b) 0 8 at ∙ map-rows (slotIn state b) 0 8)
 
 facts-from : (w : List ℕ) (n : ℕ) → factsIn w n ≡ rowsIn (λ k. factIn w (0 + 11 * k)) 0 n
@@ -137,9 +137,9 @@ facts-from w n = rows-same (λ k. factIn w (11 * k)) (λ k. factIn w (0 + 11 * k
 -- such a row after n others is one fact more
 pub row-more : (news : List ℕ) (n : ℕ) (state : List ℕ) (b : ℕ) (ws : List ℕ) → length ws ≡ 8 → 11 * n + 11 ≤ length news
     → ((i : ℕ) → i < 8 → getD ws i 0 ≡ slotIn state b i)
-    → factsIn (sets news (11 * n) (getD state (10 * b) 0 ∷ 0 ∷ 50 ∷ ws)) (n + 1) ≡ (factsIn news n ++ (learned (chunkOf (bufferIn state b)) ∷ []))
+    → factsIn (sets news (11 * n) (getD state (11 * b) 0 ∷ 0 ∷ 50 ∷ ws)) (n + 1) ≡ (factsIn news n ++ (learned (chunkOf (bufferIn state b)) ∷ []))
 row-more news n state b ws e room h =
-    let row : List ℕ = getD state (10 * b) 0 ∷ 0 ∷ 50 ∷ ws in
+    let row : List ℕ = getD state (11 * b) 0 ∷ 0 ∷ 50 ∷ ws in
     let z : 11 * n ≡ 0 + 11 * n = omega arith in
     rw z
     (facts-from (sets news (0 + 11 * n) row) (n + 1) ∙ in-more factIn fact-like news 0 n row (ap (λ (i : ℕ). suc (suc (suc i))) e) (omega arith)

@@ -79,7 +79,7 @@ module _ (state : List ℕ) (b : ℕ) (facts : List ℕ) (n : ℕ) where
 
   -- ---- along a chain: a row in another than that of the buffer's first slot has another chunk
 
-  out : (j : ℕ) → (chainOf facts j ≡ getD state (10 * b + 1) 0 % 64 → ⊥) → sameChunk state b facts (11 * j) ≡ false
+  out : (j : ℕ) → (chainOf facts j ≡ getD state (11 * b + 1) 0 % 64 → ⊥) → sameChunk state b facts (11 * j) ≡ false
   out j n = chunk-first state b facts (11 * j) (λ e. n (ap (λ (x : ℕ). x % 64) (sym e)))
 
   past : (d k : ℕ) → k + d ≤ n → ((j : ℕ) → k ≤ j → j < k + d → sameChunk state b facts (11 * j) ≡ false) → amongFrom (k + d) ≡ amongFrom k
@@ -88,7 +88,7 @@ module _ (state : List ℕ) (b : ℕ) (facts : List ℕ) (n : ℕ) where
       let e : k + suc d ≡ k + d + 1 = omega arith in
       ap amongFrom e ∙ among-skip (k + d) (omega arith) (none (k + d) (omega arith) (omega arith)) ∙ past d k (omega arith) (λ j a b. none j a (omega arith))
 
-  pub among-leap : (k x : ℕ) → k ≤ n → Leap facts n (getD state (10 * b + 1) 0 % 64) k x → amongFrom x ≡ amongFrom k
+  pub among-leap : (k x : ℕ) → k ≤ n → Leap facts n (getD state (11 * b + 1) 0 % 64) k x → amongFrom x ≡ amongFrom k
   among-leap k x h leap =
       by-lt x n
       (λ l. let e : k + (x - k) ≡ x = omega (arith, leap .forth) in
@@ -104,10 +104,10 @@ chunk-drop state b o tape f =
 
 -- where a chain starts and goes on, by the words of the tape
 module _ (p : Plan) (tape : List ℕ) (chains : ChainsOn p tape) where
-  pub chain-starts : (h : ℕ) → h < 64 → Leap (drop 144 tape) (p .facts) h 0 (getD tape (p .chains + h) 0)
+  pub chain-starts : (h : ℕ) → h < 64 → Leap (drop 152 tape) (p .facts) h 0 (getD tape (p .chains + h) 0)
   chain-starts h l = rw (← getD-drop (p .chains) tape h 0) (chains .starts h l)
 
-  pub chain-goes-on : (k : ℕ) → k < p .facts → Leap (drop 144 tape) (p .facts) (chainOf (drop 144 tape) k) (k + 1) (getD tape (p .chains + 64 + k) 0)
+  pub chain-goes-on : (k : ℕ) → k < p .facts → Leap (drop 152 tape) (p .facts) (chainOf (drop 152 tape) k) (k + 1) (getD tape (p .chains + 64 + k) 0)
   chain-goes-on k l =
       let e : p .chains + 64 + k ≡ p .chains + (64 + k) = omega arith in
       rw (e, ← getD-drop (p .chains) tape (64 + k) 0) (chains .goes-on k l)

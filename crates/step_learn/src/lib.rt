@@ -52,7 +52,7 @@ fn clear_mask(words: &[u16], o: usize, m: usize) -> u16
 
 // Whether buffer b is visible and holds another chunk than nil.
 fn gives(state: &[u16], b: usize) -> bool
-    requires { ⌜ (80 ≤ length (now state)) × (b < 8) ⌝ }
+    requires { ⌜ (88 ≤ length (now state)) × (b < 8) ⌝ }
     ensures { λ r. ⌜ r ≡ gives (bufferIn (now (state .entry)) b) ⌝ }
 {
     let o = BUFFER_WORDS * b;
@@ -74,7 +74,7 @@ fn gives(state: &[u16], b: usize) -> bool
 
 // Whether the chunk in buffer b is that of the fact whose row starts at f; at the first slot that differs the fact is given up.
 fn same_chunk(state: &[u16], b: usize, facts: &[u16], f: usize) -> bool
-    requires { ⌜ (80 ≤ length (now state)) × (b < 8) × (f + 11 ≤ length (now facts)) ⌝ }
+    requires { ⌜ (88 ≤ length (now state)) × (b < 8) × (f + 11 ≤ length (now facts)) ⌝ }
     ensures { λ r. ⌜ r ≡ equal (chunkOf (bufferIn (now (state .entry)) b)) (factIn (now (facts .entry)) f .chunk) ⌝ }
 {
     let o = BUFFER_WORDS * b;
@@ -93,7 +93,7 @@ fn same_chunk(state: &[u16], b: usize, facts: &[u16], f: usize) -> bool
 
 // Whether a fact that the plan knows of has the chunk in buffer b: only the chain of its first slot is walked.
 fn known(state: &[u16], b: usize, plan: Plan, tape: &[u16]) -> bool
-    requires { ⌜ (80 ≤ length (now state)) × (b < 8) × Planned plan (now tape) × ChainsOn plan (now tape) ⌝ }
+    requires { ⌜ (88 ≤ length (now state)) × (b < 8) × Planned plan (now tape) × ChainsOn plan (now tape) ⌝ }
     ensures { λ r. ⌜ r ≡ anyOf (equal (chunkOf (bufferIn (now (state .entry)) b))) (chunksOf (factsOn plan (now (tape .entry)))) ⌝ }
 {
     let n = plan.facts as usize;
@@ -111,7 +111,7 @@ fn known(state: &[u16], b: usize, plan: Plan, tape: &[u16]) -> bool
 
 // Whether one of the first n rows has the chunk in buffer b.
 fn among(state: &[u16], b: usize, rows: &[u16], n: usize) -> bool
-    requires { ⌜ (80 ≤ length (now state)) × (b < 8) × (11 * n ≤ length (now rows)) ⌝ }
+    requires { ⌜ (88 ≤ length (now state)) × (b < 8) × (11 * n ≤ length (now rows)) ⌝ }
     ensures { λ r. ⌜ r ≡ anyOf (equal (chunkOf (bufferIn (now (state .entry)) b))) (chunksOf (factsIn (now (rows .entry)) n)) ⌝ }
 {
     let mut i = 0;
@@ -126,7 +126,7 @@ fn among(state: &[u16], b: usize, rows: &[u16], n: usize) -> bool
 
 // Writes the chunk in buffer b as a row after n rows: a fact with activation 0 and latency 50.
 fn write_row(news: &mut [u16], n: usize, state: &[u16], b: usize)
-    requires { ⌜ (11 * n + 11 ≤ length (now news)) × (80 ≤ length (now state)) × (b < 8) ⌝ }
+    requires { ⌜ (11 * n + 11 ≤ length (now news)) × (88 ≤ length (now state)) × (b < 8) ⌝ }
     ensures { λ _. ⌜ factsIn (now (news .exit)) (n + 1) ≡ (factsIn (now (news .entry)) n ++ (learned (chunkOf (bufferIn (now (state .entry)) b)) ∷ [])) ⌝ }
 {
     let q = ROW_WORDS * n;
@@ -141,7 +141,7 @@ fn write_row(news: &mut [u16], n: usize, state: &[u16], b: usize)
 
 // The chunk in buffer b after n new rows, if it gives one and neither a fact that the plan knows of nor one of these rows has it; how many rows there are then.
 fn join(news: &mut [u16], n: usize, state: &[u16], b: usize, plan: Plan, tape: &[u16]) -> usize
-    requires { ⌜ (11 * n + 11 ≤ length (now news)) × (80 ≤ length (now state)) × (b < 8) × Planned plan (now tape) × ChainsOn plan (now tape) ⌝ }
+    requires { ⌜ (11 * n + 11 ≤ length (now news)) × (88 ≤ length (now state)) × (b < 8) × Planned plan (now tape) × ChainsOn plan (now tape) ⌝ }
     ensures { λ r. ⌜ factsIn (now (news .exit)) r ≡ (factsIn (now (news .entry)) n
         ++ map learned (joining (chunksOf (factsOn plan (now (tape .entry))) ++ chunksOf (factsIn (now (news .entry)) n)) (given (bufferIn (now (state .entry)) b)))) ⌝ }
     ensures more { λ r. ⌜ r ≤ n + 1 ⌝ }
@@ -161,7 +161,7 @@ fn join(news: &mut [u16], n: usize, state: &[u16], b: usize, plan: Plan, tape: &
 
 // Writes the chunks that the firing of rule k would add to the store, as rows of facts, into `news`; how many they are (none where no store is lent).
 pub fn collect(news: &mut [u16], state: &[u16], plan: Plan, tape: &[u16], k: usize) -> usize
-    requires { ⌜ Planned plan (now tape) × ChainsOn plan (now tape) × (k < plan .rules) × (80 ≤ length (now state)) × (88 ≤ length (now news)) ⌝ }
+    requires { ⌜ Planned plan (now tape) × ChainsOn plan (now tape) × (k < plan .rules) × (88 ≤ length (now state)) × (88 ≤ length (now news)) ⌝ }
     ensures { λ n. ⌜ Collected (now (news .exit)) n (joinsOn plan (now (tape .entry)) (now (state .entry)) k) ⌝ }
 {
     if !plan.learns {

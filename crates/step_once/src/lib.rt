@@ -36,7 +36,7 @@ pub enum StepDone {
 
 // Whether nine words are the fresh entry of the rule whose n tests stand in words from o on.
 fn is_fresh(nine: &[u16], words: &[u16], o: usize, n: usize, state: &[u16]) -> bool
-    requires { ⌜ (length (now nine) ≡ 9) × (o + 11 * n ≤ length (now words)) × (80 ≤ length (now state)) ⌝ }
+    requires { ⌜ (length (now nine) ≡ 9) × (o + 11 * n ≤ length (now words)) × (88 ≤ length (now state)) ⌝ }
     ensures { λ b. ⌜ ((r : Rule) (clock : ℕ) → r .tests ≡ testsIn (now (words .entry)) o n → b ≡ same (now (nine .entry)) (entryOf r (stateIn (now (state .entry)) clock))) ⌝ }
 {
     let mut fresh = [0u16; ENTRY_WORDS];
@@ -53,7 +53,7 @@ fn chosen_fresh(
     tape: &[u16],
     state: &[u16],
 ) -> bool
-    requires { ⌜ Planned plan (now tape) × (k < plan .rules) × (length (now table) ≡ 9 * plan .rules) × (80 ≤ length (now state))
+    requires { ⌜ Planned plan (now tape) × (k < plan .rules) × (length (now table) ≡ 9 * plan .rules) × (88 ≤ length (now state))
         × SureOn plan (now tape) (now state) (now table) (now sets) ⌝ }
     ensures { λ b. ⌜ ((clock : ℕ) → b ≡ same (entryAt (now (table .entry)) k) (entryOf (ruleOn plan (now (tape .entry)) k) (stateIn (now (state .entry)) clock))) ⌝ }
 {
@@ -80,7 +80,7 @@ fn fire_step(
     sets: &[u64],
     news: &mut [u16],
 ) -> StepDone
-    requires { ⌜ Planned plan (now tape) × (k < plan .rules) × (length (now table) ≡ 9 * plan .rules) × (80 ≤ length (now state))
+    requires { ⌜ Planned plan (now tape) × (k < plan .rules) × (length (now table) ≡ 9 * plan .rules) × (88 ≤ length (now state))
         × ChainsOn plan (now tape) × SureOn plan (now tape) (now state) (now table) (now sets) × (88 ≤ length (now news)) ⌝ }
     ensures { λ r. ⌜ StepMet (placed plan (now (tape .entry)) (stateIn (now (state .entry)) clock) (fireStep (plan .failure) (factsOn plan (now (tape .entry))) (stateIn (now (state .entry)) clock)
         (candidateAt (headsOn plan (now (tape .entry))) (rowsOn plan (now (tape .entry))) (now (table .entry)) k))) r (now (state .entry)) (now (state .exit)) clock ⌝ }
@@ -109,7 +109,7 @@ fn fire_step(
 
 // Waits until the next buffer is visible, unless nothing is pending or the clock would pass its limit.
 fn wait_step(state: &mut [u16], clock: u32) -> StepDone
-    requires { ⌜ 80 ≤ length (now state) ⌝ }
+    requires { ⌜ 88 ≤ length (now state) ⌝ }
     ensures { λ r. ⌜ StepMet (waitStep (stateIn (now (state .entry)) clock) (soonest 0 (buffersIn (now (state .entry))))) r (now (state .entry)) (now (state .exit)) clock ⌝ }
     ensures waits { λ r. ⌜ Unfired r ⌝ }
 {
@@ -135,7 +135,7 @@ pub fn step(
     sets: &[u64],
     news: &mut [u16],
 ) -> StepDone
-    requires { ⌜ Planned plan (now tape) × (length (now table) ≡ 9 * plan .rules) × (80 ≤ length (now state)) × ChainsOn plan (now tape)
+    requires { ⌜ Planned plan (now tape) × (length (now table) ≡ 9 * plan .rules) × (88 ≤ length (now state)) × ChainsOn plan (now tape)
         × RankedOn plan (now tape) × HittingOn plan (now tape) (now table) (now sets) × SureOn plan (now tape) (now state) (now table) (now sets) × (88 ≤ length (now news)) ⌝ }
     ensures { λ r. ⌜ StepMet (placed plan (now (tape .entry)) (stateIn (now (state .entry)) clock)
         (stepOf (modelOn plan (now (tape .entry))) (stateIn (now (state .entry)) clock) (now (table .entry)))) r (now (state .entry)) (now (state .exit)) clock ⌝ }

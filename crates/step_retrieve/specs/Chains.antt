@@ -24,4 +24,4 @@ pub record Chained (index facts : List ℕ) (n : ℕ) : Type 0 where
 
 -- the chains of a plan's facts stand in the tape's section for them
 abbrev pub ChainsOn : Plan → List ℕ → Type 0
-ChainsOn p tape = Chained (drop (p .chains) tape) (drop 144 tape) (p .facts)
+ChainsOn p tape = Chained (drop (p .chains) tape) (drop 152 tape) (p .facts)

@@ -104,7 +104,7 @@ pub fn advance(
     events: &mut [u32],
     sets: &mut [u64],
 ) -> Went
-    requires { ⌜ Planned plan (now tape) × (length (now table) ≡ 9 * plan .rules) × (80 ≤ length (now state)) × Aided plan (now tape)
+    requires { ⌜ Planned plan (now tape) × (length (now table) ≡ 9 * plan .rules) × (88 ≤ length (now state)) × Aided plan (now tape)
         × RestingOn plan (now tape) (now state) (now table) (now sets) ⌝ }
     ensures { λ r. ⌜ ((m : Model) (store : Option (List Chunk)) → Knows plan (now (tape .entry)) m store
         → WentMet r m store (now (state .entry)) (now (state .exit)) clock (now (table .entry)) (now (table .exit)) steps (now (events .entry)) (now (events .exit)) (now (tape .exit))) ⌝ }

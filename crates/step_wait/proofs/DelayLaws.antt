@@ -35,7 +35,7 @@ sooner-second (suc ms) (suc delay) n h = rw (le-ltb ms delay (omega arith))
 -- ---- the soonest of a state, in a loop over its buffers
 
 module _ (w : List ℕ) (k ms : ℕ) where
-  pub soonest-turn : {r : ℕ} → r ≡ sooner ms (getD w (10 * k + 9) 0) → k < 8 → soonest r (rowsIn (bufferIn w) (k + 1) (8 - (k + 1))) ≡ soonest ms (rowsIn (bufferIn w) k (8 - k))
+  pub soonest-turn : {r : ℕ} → r ≡ sooner ms (getD w (11 * k + 9) 0) → k < 8 → soonest r (rowsIn (bufferIn w) (k + 1) (8 - (k + 1))) ≡ soonest ms (rowsIn (bufferIn w) k (8 - k))
   unfolding soonest
   soonest-turn e h =
       let n : 8 - k + k ≡ 8 = omega arith in
@@ -48,27 +48,27 @@ module _ (w : List ℕ) (k ms : ℕ) where
 -- ---- the delay of one buffer
 
 -- another delay, and the rest of the buffer as it was
-pub delay-set : (w : List ℕ) (k d : ℕ) → 10 * k + 10 ≤ length w → Remade w (set w (10 * k + 9) d) k (record { isa = bufferIn w k .isa; slots = bufferIn w k .slots; delay = d })
+pub delay-set : (w : List ℕ) (k d : ℕ) → 11 * k + 11 ≤ length w → Remade w (set w (11 * k + 9) d) k (record { isa = bufferIn w k .isa; slots = bufferIn w k .slots; delay = d })
 delay-set w k d h =
     record {
       made =
-          rw (other (10 * k) (λ e. omega arith), getD-set-same w (10 * k + 9) d 0 (omega arith))
-          (ap (λ (l : List ℕ). record { isa = getD w (10 * k) 0; slots = l; delay = d })
-          (rows-same (λ b. getD (set w (10 * k + 9) d) (10 * k + 1 + b) 0) (λ b. getD w (10 * k + 1 + b) 0) 0 8 (λ b x y. other (10 * k + 1 + b) (λ e. omega arith))));
+          rw (other (11 * k) (λ e. omega arith), getD-set-same w (11 * k + 9) d 0 (omega arith))
+          (ap (λ (l : List ℕ). record { isa = getD w (11 * k) 0; slots = l; delay = d })
+          (rows-same (λ b. getD (set w (11 * k + 9) d) (11 * k + 1 + b) 0) (λ b. getD w (11 * k + 1 + b) 0) 0 8 (λ b x y. other (11 * k + 1 + b) (λ e. omega arith))));
       below = λ j l. other j (λ e. omega arith);
       above = λ j l. other j (λ e. omega arith);
     }
   where
-    other : (j : ℕ) → (j ≡ 10 * k + 9 → ⊥) → getD (set w (10 * k + 9) d) j 0 ≡ getD w j 0
-    other j n = getD-set-other w (10 * k + 9) j d 0 n
+    other : (j : ℕ) → (j ≡ 11 * k + 9 → ⊥) → getD (set w (11 * k + 9) d) j 0 ≡ getD w j 0
+    other j n = getD-set-other w (11 * k + 9) j d 0 n
 
-pub delay-lowered : (w : List ℕ) (k ms d : ℕ) → 10 * k + 10 ≤ length w → d ≡ getD w (10 * k + 9) 0 - ms → Remade w (set w (10 * k + 9) d) k (later ms (bufferIn w k))
-delay-lowered w k ms d h e = rw e (delay-set w k (getD w (10 * k + 9) 0 - ms) h)
+pub delay-lowered : (w : List ℕ) (k ms d : ℕ) → 11 * k + 11 ≤ length w → d ≡ getD w (11 * k + 9) 0 - ms → Remade w (set w (11 * k + 9) d) k (later ms (bufferIn w k))
+delay-lowered w k ms d h e = rw e (delay-set w k (getD w (11 * k + 9) 0 - ms) h)
 
 -- a delay of 0 stays, and the words with it
-pub delay-none : (w : List ℕ) (k ms : ℕ) → getD w (10 * k + 9) 0 ≡ 0 → Remade w w k (later ms (bufferIn w k))
+pub delay-none : (w : List ℕ) (k ms : ℕ) → getD w (11 * k + 9) 0 ≡ 0 → Remade w w k (later ms (bufferIn w k))
 delay-none w k ms e =
-    let z : getD w (10 * k + 9) 0 ≡ getD w (10 * k + 9) 0 - ms = omega arith in
+    let z : getD w (11 * k + 9) 0 ≡ getD w (11 * k + 9) 0 - ms = omega arith in
     record { made = ap (λ (d : ℕ). record { isa = bufferIn w k .isa; slots = bufferIn w k .slots; delay = d }) z; below = λ j l. refl; above = λ j l. refl }
 
 pub none-arrives : (b : Buffer) (ms : ℕ) → b .delay ≡ 0 → false ≡ arrives b (later ms b)

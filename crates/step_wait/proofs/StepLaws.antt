@@ -52,7 +52,7 @@ pub record Going (ms : ℕ) (w w′ : List ℕ) (k mark weight : ℕ) : Type 0 w
   pub within : k ≤ 8
   pub size : length w′ ≡ length w
   pub buffers : anew (λ i b. later ms b) w′ k ≡ anew (λ i b. later ms b) w 0
-  pub left : (j : ℕ) → 10 * k ≤ j → getD w′ j 0 ≡ getD w j 0
+  pub left : (j : ℕ) → 11 * k ≤ j → getD w′ j 0 ≡ getD w j 0
   pub power : weight ≡ 2 ^ k
   pub whole : marking (lands ms w) k mark weight ≡ weigh (map (lands ms w) (upFrom 0 8))
 
@@ -67,7 +67,7 @@ module _ {ms : ℕ} {w w′ : List ℕ} {k mark weight : ℕ} (g : Going ms w w�
     -- a turn: whether buffer k lands goes by the words as they are
     module _ {r : Bool} (e : r ≡ lands ms w′ k) where
       is-mark : r ≡ lands ms w k
-      is-mark = e ∙ ap (λ (b : Buffer). arrives b (later ms b)) (buffer-like w′ w k (λ j l. g .left (10 * k + j) (omega arith)))
+      is-mark = e ∙ ap (λ (b : Buffer). arrives b (later ms b)) (buffer-like w′ w k (λ j l. g .left (11 * k + j) (omega arith)))
 
       pub going-fits : r ≡ true → mark + weight < 256
       going-fits t = marking-fits (lands ms w) k mark weight h (sym is-mark ∙ t) (g .whole)

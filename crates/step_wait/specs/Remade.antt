@@ -11,8 +11,8 @@ use Rattle.layout.specs.StateWords.{bufferIn}
 -- buffer k is b now, and no word but its own ten has changed
 pub record Remade (w w′ : List ℕ) (k : ℕ) (b : Buffer) : Type 0 where
   pub made : bufferIn w′ k ≡ b
-  pub below : (j : ℕ) → j < 10 * k → getD w′ j 0 ≡ getD w j 0
-  pub above : (j : ℕ) → 10 * k + 10 ≤ j → getD w′ j 0 ≡ getD w j 0
+  pub below : (j : ℕ) → j < 11 * k → getD w′ j 0 ≡ getD w j 0
+  pub above : (j : ℕ) → 11 * k + 11 ≤ j → getD w′ j 0 ≡ getD w j 0
 
 -- a buffer that was pending and is visible
 abbrev pub arrives : Buffer → Buffer → Bool

@@ -25,7 +25,7 @@ fn sooner(ms: u16, delay: u16) -> u16
 
 // The smallest delay above 0 in a state, 0 if there is none.
 pub fn soonest(state: &[u16]) -> u16
-    requires { ⌜ 80 ≤ length (now state) ⌝ }
+    requires { ⌜ 88 ≤ length (now state) ⌝ }
     ensures { λ r. ⌜ r ≡ soonest 0 (buffersIn (now (state .entry))) ⌝ }
 {
     let mut ms = 0u16;
@@ -40,7 +40,7 @@ pub fn soonest(state: &[u16]) -> u16
 // Takes some ms from the delay of buffer k, not below 0; whether the buffer went from pending to visible.
 // A buffer that is not pending is not written.
 fn lower(state: &mut [u16], k: usize, ms: u16) -> bool
-    requires { ⌜ (80 ≤ length (now state)) × (k < 8) ⌝ }
+    requires { ⌜ (88 ≤ length (now state)) × (k < 8) ⌝ }
     ensures { λ r. ⌜ Remade (now (state .entry)) (now (state .exit)) k (later ms (bufferIn (now (state .entry)) k))
         × (r ≡ arrives (bufferIn (now (state .entry)) k) (later ms (bufferIn (now (state .entry)) k))) ⌝ }
 {
@@ -59,7 +59,7 @@ fn lower(state: &mut [u16], k: usize, ms: u16) -> bool
 
 // Takes some ms from every delay, not below 0; the mark of the buffers that went from pending to visible.
 pub fn wait(state: &mut [u16], ms: u16) -> u16
-    requires { ⌜ 80 ≤ length (now state) ⌝ }
+    requires { ⌜ 88 ≤ length (now state) ⌝ }
     ensures { λ _. ⌜ ((clock : ℕ) → stateIn (now (state .exit)) (clock + ms) ≡ wait ms (stateIn (now (state .entry)) clock)) ⌝ }
     ensures mark { λ r. ⌜ ((clock clock′ : ℕ) → r ≡ markOf [] (stateIn (now (state .entry)) clock) (stateIn (now (state .exit)) clock′)) ⌝ }
 {

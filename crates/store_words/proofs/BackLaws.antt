@@ -19,12 +19,12 @@ use Rattle.store_words.proofs.StoreLaws.{sets-join, sets-there, places-
 
 -- the chunk of fact `own + i` there
 abbrev pub chunkOn : List ℕ → ℕ → ℕ → Chunk
-chunkOn tape own i = factIn (drop 144 tape) (11 * (own + i)) .chunk
+chunkOn tape own i = factIn (drop 152 tape) (11 * (own + i)) .chunk
 
-pub chunk-there : (tape : List ℕ) (own i : ℕ) → factIn tape (144 + 11 * (own + i)) .chunk ≡ chunkOn tape own i
+pub chunk-there : (tape : List ℕ) (own i : ℕ) → factIn tape (152 + 11 * (own + i)) .chunk ≡ chunkOn tape own i
 chunk-there tape own i =
-    ap (λ (f : Fact). f .chunk) (fact-like tape (drop 144 tape) (144 + 11 * (own + i)) (11 * (own + i))
-    (λ j l. let s : 144 + (11 * (own + i) + j) ≡ 144 + 11 * (own + i) + j = omega arith in rw (getD-drop, s)))
+    ap (λ (f : Fact). f .chunk) (fact-like tape (drop 152 tape) (152 + 11 * (own + i)) (11 * (own + i))
+    (λ j l. let s : 152 + (11 * (own + i) + j) ≡ 152 + 11 * (own + i) + j = omega arith in rw (getD-drop, s)))
 
 -- chunks of eight slots are nine words each
 pub places-length : (f : ℕ → Chunk) → ((k : ℕ) → length (f k .slots) ≡ 8) → (i n : ℕ) → length (placesWords (rowsIn f i n)) ≡ 9 * n
@@ -84,7 +84,7 @@ module _ (p : Plan) (tape : List ℕ) (first : List Fact) (own : ℕ) (e : lengt
   -- after the image's facts, the chunks on the tape are those that were learned
   pub learned-are : (cs : List Chunk) → factsOn p tape ≡ first ++ map learned cs → learnedOn p tape own ≡ cs
   learned-are cs is =
-      let f : (ℕ → Fact) = λ k. factIn (drop 144 tape) (11 * k) in
+      let f : (ℕ → Fact) = λ k. factIn (drop 152 tape) (11 * k) in
       let z : own + 0 ≡ 0 + own = omega arith in
       rows-shift (λ k. f k .chunk) own 0 (p .facts - own) ∙ ap (λ (i : ℕ). rowsIn (λ k. f k .chunk) i (p .facts - own)) z
       ∙ sym (map-chunks f (0 + own) (p .facts - own))
@@ -98,7 +98,7 @@ module _ (p : Plan) (tape : List ℕ) (first : List Fact) (own : ℕ) (e : lengt
         let new : List Chunk = storeIn store ++ more in
         omega (
           arith,
-          rows-length (λ k. factIn (drop 144 tape) (11 * k)) 0 (p .facts),
+          rows-length (λ k. factIn (drop 152 tape) (11 * k)) 0 (p .facts),
           ap length is,
           length-append first (map learned new),
           length-map new learned,

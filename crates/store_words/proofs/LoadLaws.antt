@@ -36,20 +36,20 @@ unfolding rowsIn
 rows-none own tape store = record { as-long = refl; below = refl; above = refl; laid = refl }
 
 -- one row more
-pub rows-next : (own : ℕ) (tape tape′ tape″ store : List ℕ) (i : ℕ) → 144 + 11 * (own + i) + 11 ≤ length tape → RowsLaid own tape tape′ store i
-    → tape″ ≡ sets tape′ (144 + 11 * (own + i)) (rowWords (placeIn store i)) → RowsLaid own tape tape″ store (i + 1)
+pub rows-next : (own : ℕ) (tape tape′ tape″ store : List ℕ) (i : ℕ) → 152 + 11 * (own + i) + 11 ≤ length tape → RowsLaid own tape tape′ store i
+    → tape″ ≡ sets tape′ (152 + 11 * (own + i)) (rowWords (placeIn store i)) → RowsLaid own tape tape″ store (i + 1)
 rows-next own tape tape′ tape″ store i room done e =
     let row : List ℕ = rowWords (placeIn store i) in
-    let q : ℕ = 144 + 11 * (own + i) in
-    let o : ℕ = 144 + 11 * own in
+    let q : ℕ = 152 + 11 * (own + i) in
+    let o : ℕ = 152 + 11 * own in
     let at : q ≡ o + 11 * i = omega arith in
     let z : 0 + i ≡ i = omega arith in
     let long = done .as-long in
     record {
       as-long = ap length e ∙ length-sets tape′ q row ∙ done .as-long;
       below = ap (take o) e ∙ sets-take o tape′ q row (omega arith) ∙ done .below;
-      above = ap (drop (144 + 11 * (own + (i + 1)))) e ∙ sets-drop (144 + 11 * (own + (i + 1))) tape′ q row (omega arith)
-          ∙ drop-alike q (144 + 11 * (own + (i + 1))) tape tape′ (omega arith) (done .above);
+      above = ap (drop (152 + 11 * (own + (i + 1)))) e ∙ sets-drop (152 + 11 * (own + (i + 1))) tape′ q row (omega arith)
+          ∙ drop-alike q (152 + 11 * (own + (i + 1))) tape tape′ (omega arith) (done .above);
       laid =
           ap (λ (w : List ℕ). rowsIn (λ k. factIn w (o + 11 * k)) 0 (i + 1)) (e ∙ ap (λ (k : ℕ). sets tape′ k row) at)
           ∙ in-more factIn fact-like tape′ o i row refl (omega arith)
@@ -59,18 +59,18 @@ rows-next own tape tape′ tape″ store i room done e =
     }
 
 -- while rows are laid, the types stay
-pub types-stay : (own : ℕ) (tape tape′ store : List ℕ) (i n : ℕ) → n ≤ 144 → RowsLaid own tape tape′ store i → take n tape′ ≡ take n tape
-types-stay own tape tape′ store i n h done = begin-alike n (144 + 11 * own) tape tape′ (omega arith) (done .below)
+pub types-stay : (own : ℕ) (tape tape′ store : List ℕ) (i n : ℕ) → n ≤ 152 → RowsLaid own tape tape′ store i → take n tape′ ≡ take n tape
+types-stay own tape tape′ store i n h done = begin-alike n (152 + 11 * own) tape tape′ (omega arith) (done .below)
 
 -- ---- a store that was looked at
 
 -- the facts of the rows, as a plan reads them that knows them
-rows-added : (tape : List ℕ) (own n : ℕ) → factsIn (drop (11 * own) (drop 144 tape)) n ≡ rowsIn (λ i. factIn tape (144 + 11 * own + 11 * i)) 0 n
+rows-added : (tape : List ℕ) (own n : ℕ) → factsIn (drop (11 * own) (drop 152 tape)) n ≡ rowsIn (λ i. factIn tape (152 + 11 * own + 11 * i)) 0 n
 rows-added tape own n =
-    ap (λ (w : List ℕ). factsIn w n) (drop-drop (11 * own) 144 tape)
-    ∙ rows-same (λ k. factIn (drop (144 + 11 * own) tape) (11 * k)) (λ k. factIn (drop (144 + 11 * own) tape) (0 + 11 * k)) 0 n
-    (λ k a b. ap (factIn (drop (144 + 11 * own) tape)) (omega arith))
-    ∙ in-drop factIn fact-like tape (144 + 11 * own) 0 (144 + 11 * own) n (omega arith)
+    ap (λ (w : List ℕ). factsIn w n) (drop-drop (11 * own) 152 tape)
+    ∙ rows-same (λ k. factIn (drop (152 + 11 * own) tape) (11 * k)) (λ k. factIn (drop (152 + 11 * own) tape) (0 + 11 * k)) 0 n
+    (λ k a b. ap (factIn (drop (152 + 11 * own) tape)) (omega arith))
+    ∙ in-drop factIn fact-like tape (152 + 11 * own) 0 (152 + 11 * own) n (omega arith)
 
 module _ (p : Plan) (tape store : List ℕ) where
   pub load-long : (r : Loaded) (tape′ : List ℕ) → r .fits ≡ false → (length store ≡ 2305 → ⊥) → LoadMet r p tape tape′ store
@@ -100,7 +100,7 @@ module _ (p : Plan) (tape store : List ℕ) where
           judged = met .judged ∙ ap (every (holdable (typesOn p tape))) (sym (store-row store)) ∙ rw (eq-eqb (length store) 2305 long, le-leb n 256 few);
           loaded = λ good.
               let laid = met .laid good in
-              let apart = drop-alike (144 + 11 * (p .facts + n)) (p .heads) tape tape′ (omega arith) (laid .above) in
+              let apart = drop-alike (152 + 11 * (p .facts + n)) (p .heads) tape tape′ (omega arith) (laid .above) in
               let is = rows-added tape′ (p .facts) n ∙ laid .laid ∙ ap (map learned) (sym (store-row store)) in
               subst (λ (q : Plan). Extended p tape q tape′ (map learned (storeIn store))) (sym plan)
               (subst (λ (fs : List Fact). Extended p tape (withFacts p (p .facts + n)) tape′ fs) is

@@ -21,4 +21,4 @@ pub record LoadMet (r : Loaded) (p : Plan) (tape tape′ store : List ℕ) : Typ
 
 -- the chunks of the facts from number `own` on
 abbrev pub learnedOn : Plan → List ℕ → ℕ → List Chunk
-learnedOn p tape own = rowsIn (λ i. factIn (drop 144 tape) (11 * (own + i)) .chunk) 0 (p .facts - own)
+learnedOn p tape own = rowsIn (λ i. factIn (drop 152 tape) (11 * (own + i)) .chunk) 0 (p .facts - own)

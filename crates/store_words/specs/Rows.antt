@@ -19,9 +19,9 @@ rowWords c = c .isa ∷ 0 ∷ 50 ∷ c .slots
 -- the first n places of a store stand in rows after the first `own`; what stands below and above them is as it was
 pub record RowsLaid (own : ℕ) (tape tape′ store : List ℕ) (n : ℕ) : Type 0 where
   pub as-long : length tape′ ≡ length tape
-  pub below : take (144 + 11 * own) tape′ ≡ take (144 + 11 * own) tape
-  pub above : drop (144 + 11 * (own + n)) tape′ ≡ drop (144 + 11 * (own + n)) tape
-  pub laid : rowsIn (λ i. factIn tape′ (144 + 11 * own + 11 * i)) 0 n ≡ map learned (rowsIn (placeIn store) 0 n)
+  pub below : take (152 + 11 * own) tape′ ≡ take (152 + 11 * own) tape
+  pub above : drop (152 + 11 * (own + n)) tape′ ≡ drop (152 + 11 * (own + n)) tape
+  pub laid : rowsIn (λ i. factIn tape′ (152 + 11 * own + 11 * i)) 0 n ≡ map learned (rowsIn (placeIn store) 0 n)
 
 -- the first n places were judged, and laid after the plan's facts if the image could hold each
 pub record PlacesMet (r : Bool) (p : Plan) (tape tape′ store : List ℕ) (n : ℕ) : Type 0 where

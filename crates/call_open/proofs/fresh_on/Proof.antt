@@ -51,7 +51,7 @@ fresh-requires : tie.Need-fresh-requires
 fresh-requires c κs =
     let s = start (c .before .before .before) in
     let w = s .args .tape .now in
-    let room : 80 ≤ length (drop 64 w) = omega (arith, length-drop 64 w, sections (s .pre .0) .facts-end) in
+    let room : 88 ≤ length (drop 64 w) = omega (arith, length-drop 64 w, sections (s .pre .0) .facts-end) in
     simp to-end (s .pre .0 .laid, s .pre .1, room)
 
 same-length : tie.Need-same-length

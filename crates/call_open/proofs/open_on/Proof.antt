@@ -34,7 +34,7 @@ planned : (c : tie.After-enum-told) → Planned (start (taken c) .args .begun .p
 planned c = taken c .accept .ensures .planned (c .enum-told .given .1)
 
 -- the opening section stands within it
-opening : (c : tie.After-enum-told) → 144 ≤ length (tape (taken c))
+opening : (c : tie.After-enum-told) → 152 ≤ length (tape (taken c))
 opening c = omega (arith, sections (planned c) .facts-end)
 
 -- ---- what is asked
@@ -77,7 +77,7 @@ read-state-requires : tie.Need-read-state-requires
 read-state-requires c κs =
     let d = told (argued (c .before .before)) in
     let w = tape (taken d) in
-    let room : 80 ≤ length (drop 64 w) = omega (arith, length-drop 64 w, opening d) in
+    let room : 88 ≤ length (drop 64 w) = omega (arith, length-drop 64 w, opening d) in
     simp to-end room
 
 same-length-2 : tie.Need-same-length-2

@@ -46,7 +46,7 @@ words c = c .lay-state .last .1 .0
 declared : (c : tie.Start) → c .args .plan .declared + 1 ≤ length (c .args .tape .now)
 declared c = let d = c .pre .0 .most-declared in omega (arith, sections (c .pre .0) .facts-end)
 
-eighty : (c : tie.After-lay-state) → 80 ≤ length (words c)
+eighty : (c : tie.After-lay-state) → 88 ≤ length (words c)
 eighty c = search needs
 
 -- a place on the tape fits the machine's words, in bytes too

@@ -48,7 +48,7 @@ model c = modelOn (c .args .plan) (c .args .tape .now)
 -- as many facts as the plan says
 own : (c : tie.Start) → length (model c .facts) ≡ c .args .plan .facts
 unfolding modelOn
-own c = rows-length (λ k. factIn (drop 144 (c .args .tape .now)) (11 * k)) 0 (c .args .plan .facts)
+own c = rows-length (λ k. factIn (drop 152 (c .args .tape .now)) (11 * k)) 0 (c .args .plan .facts)
 
 -- the state is well formed, and the store fits
 fits : (c : tie.Else1) → let s = start (admitted (c .before)) in
@@ -97,7 +97,7 @@ slice-aggregate-set-out c = search needs
 set-out-requires : tie.Need-set-out-requires
 set-out-requires c κs =
     let k = c .before .before .before .before in
-    let eighty : 80 ≤ length (words (admitted (k .before))) = search needs in
+    let eighty : 88 ≤ length (words (admitted (k .before))) = search needs in
     (admitted (k .before) .admit .ensures .planned (k .if1 .left), eighty)
 
 give-back-requires : tie.Need-give-back-requires

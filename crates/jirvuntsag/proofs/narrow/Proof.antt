@@ -9,10 +9,10 @@ use Rattle.jirvuntsag.proofs.narrow.Statement.{statement}
 use Rattle.jirvuntsag.proofs.narrow.Tie as tie
 
 abbrev Inv-loop : tie.InvT-loop
-Inv-loop words buffers₀ i₀ buffers i = (i ≤ 80) × (length buffers ≡ 80) × fitsFrom words i × (take i buffers ≡ take i (drop 1 words))
+Inv-loop words buffers₀ i₀ buffers i = (i ≤ 88) × (length buffers ≡ 88) × fitsFrom words i × (take i buffers ≡ take i (drop 1 words))
 
 abbrev μ-loop : tie.MeasureT-loop
-μ-loop words buffers₀ i₀ buffers i = 80 - i
+μ-loop words buffers₀ i₀ buffers i = 88 - i
 
 loop-holds : tie.Need-loop-holds Inv-loop μ-loop
 unfolding fits

@@ -10,10 +10,10 @@ use Rattle.jirvuntsag.proofs.widen.Statement.{statement}
 use Rattle.jirvuntsag.proofs.widen.Tie as tie
 
 abbrev Inv-loop : tie.InvT-loop
-Inv-loop buffers words₀ i₀ words i = (i ≤ 80) × (length words ≡ 81) × (take (1 + i) words ≡ getD words₀ 0 0 ∷ take i buffers)
+Inv-loop buffers words₀ i₀ words i = (i ≤ 88) × (length words ≡ 89) × (take (1 + i) words ≡ getD words₀ 0 0 ∷ take i buffers)
 
 abbrev μ-loop : tie.MeasureT-loop
-μ-loop buffers words₀ i₀ words i = 80 - i
+μ-loop buffers words₀ i₀ words i = 88 - i
 
 loop-holds : tie.Need-loop-holds Inv-loop μ-loop
 loop-holds c = (search needs, search needs, widen-start (c .args .words .now) (c .args .buffers .now) (search needs))

@@ -36,11 +36,11 @@ mul-order c = search needs
 add-order : tie.Need-add-order
 add-order c = search needs
 
-mul-t13 : tie.Need-mul-t13
-mul-t13 c = search needs
+mul-t14 : tie.Need-mul-t14
+mul-t14 c = search needs
 
-add-t14 : tie.Need-add-t14
-add-t14 c = search needs
+add-t15 : tie.Need-add-t15
+add-t15 c = search needs
 
 returns : tie.Need-returns
 returns c = rw (c .places-for .ensures)
@@ -60,6 +60,6 @@ plan-for-spec =
     add-rows
     mul-order
     add-order
-    mul-t13
-    add-t14
+    mul-t14
+    add-t15
     returns)

@@ -31,7 +31,7 @@ slice-write-words c = search needs
 
 loop-holds : tie.Need-loop-holds Inv-loop μ-loop
 loop-holds c =
-    let e : 10 * c .before .args .k + 1 + 0 ≡ 10 * c .before .args .k + 1 = omega arith in
+    let e : 11 * c .before .args .k + 1 + 0 ≡ 11 * c .before .args .k + 1 = omega arith in
     (search needs, search needs, refl, rw e)
 
 mul-words-2 : tie.Need-mul-words-2 Inv-loop μ-loop
@@ -62,7 +62,7 @@ loop-again : tie.Need-loop-again Inv-loop μ-loop
 loop-again c =
     let l = c .before .loop in
     let a = c .before .before .before .args in
-    (search needs, l .inv .1, search needs, sets-step (l .words) (10 * a .k + 1) (l .i) _ (omega (arith, l .inv .1)) ∙ l .inv .3)
+    (search needs, l .inv .1, search needs, sets-step (l .words) (11 * a .k + 1) (l .i) _ (omega (arith, l .inv .1)) ∙ l .inv .3)
 
 add-words-3 : tie.Need-add-words-3 Inv-loop μ-loop
 add-words-3 c = search needs
@@ -80,7 +80,7 @@ returns : tie.Need-returns Inv-loop μ-loop
 returns c =
     let l = c .before .loop in
     let a = c .before .before .before .args in
-    lay-done (a .words .now) (l .words) (a .k) (a .buffer) (l .inv .1) (search needs) (sets-end (l .words) (10 * a .k + 1 + l .i) (l .i) _ (omega (arith, l .inv .1)) ∙ l .inv .3)
+    lay-done (a .words .now) (l .words) (a .k) (a .buffer) (l .inv .1) (search needs) (sets-end (l .words) (11 * a .k + 1 + l .i) (l .i) _ (omega (arith, l .inv .1)) ∙ l .inv .3)
 
 pub lay-buffer-spec : {M : Type 1} → statement M
 lay-buffer-spec =

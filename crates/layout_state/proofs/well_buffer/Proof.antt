@@ -23,7 +23,7 @@ shared-slice-read-isa : tie.Need-shared-slice-read-isa
 shared-slice-read-isa c = search needs
 
 cast-isa : tie.Need-cast-isa
-cast-isa c = omega (arith, c .shared-slice-known3 .given (10 * c .before .before .before .args .k))
+cast-isa c = omega (arith, c .shared-slice-known3 .given (11 * c .before .before .before .args .k))
 
 returns : tie.Need-returns
 returns c =
@@ -53,7 +53,7 @@ shared-slice-read-count c = search needs
 cast-count : tie.Need-cast-count
 cast-count c =
     let a = start (c .before .before) .args in
-    omega (arith, c .shared-slice-known4 .given (getD (a .words .now) (10 * a .k) 0))
+    omega (arith, c .shared-slice-known4 .given (getD (a .words .now) (11 * a .k) 0))
 
 add-at-most-3 : tie.Need-add-at-most-3
 add-at-most-3 c = search needs
@@ -61,7 +61,7 @@ add-at-most-3 c = search needs
 add-at-most-4 : tie.Need-add-at-most-4
 add-at-most-4 c =
     let a = start (c .before .before) .args in
-    omega (arith, c .shared-slice-known4 .given (getD (a .words .now) (10 * a .k) 0))
+    omega (arith, c .shared-slice-known4 .given (getD (a .words .now) (11 * a .k) 0))
 
 add-at-most-5 : tie.Need-add-at-most-5
 add-at-most-5 c = search needs

@@ -12,16 +12,16 @@ use Rattle.match_beds.proofs.wake.Statement.{statement}
 use Rattle.match_beds.proofs.wake.Tie as tie
 
 abbrev Inv-loop : tie.InvT-loop
-Inv-loop sets₀ n state b rest₀ sets rest = Walk (getD sets₀ (40 + b) 0 % 1024) 10 (λ i. Woke n (λ g k. Called state sets₀ b i g) sets₀ sets) rest
+Inv-loop sets₀ n state b rest₀ sets rest = Walk (getD sets₀ (40 + b) 0 % 2048) 11 (λ i. Woke n (λ g k. Called state sets₀ b i g) sets₀ sets) rest
 
 abbrev μ-loop : tie.MeasureT-loop
 μ-loop sets₀ n state b rest₀ sets rest = rest
 
 -- the words of a buffer are ten
-low : (c : tie.After-lowest Inv-loop μ-loop) → c .lowest .result < 10
+low : (c : tie.After-lowest Inv-loop μ-loop) → c .lowest .result < 11
 low c =
     let args = c .before .before .before .before .before .before .before .before .args in
-    bit-below 10 (getD (args .sets .now) (40 + args .b) 0 % 1024) (c .lowest .result) (omega arith)
+    bit-below 11 (getD (args .sets .now) (40 + args .b) 0 % 2048) (c .lowest .result) (omega arith)
     (walk-here (c .before .before .loop .inv) (c .lowest .result) (c .lowest .ensures .1))
 
 mul-if1 : tie.Need-mul-if1 Inv-loop μ-loop
@@ -55,7 +55,7 @@ slice-read-rest c = search needs
 loop-holds : tie.Need-loop-holds Inv-loop μ-loop
 loop-holds c =
     let args = c .before .before .before .before .before .args in
-    walk-begins (getD (args .sets .now) (40 + args .b) 0 % 1024) 10 _ (woke-none (args .n) _ (args .sets .now) (λ g k x. omega (arith, x .below)))
+    walk-begins (getD (args .sets .now) (40 + args .b) 0 % 2048) 11 _ (woke-none (args .n) _ (args .sets .now) (λ g k x. omega (arith, x .below)))
 
 mul-p : tie.Need-mul-p Inv-loop μ-loop
 mul-p c = record {
@@ -103,13 +103,13 @@ loop-again : tie.Need-loop-again Inv-loop μ-loop
 loop-again c =
     let l = c .before .before .before .before .before .before .before .before .before .loop in
     let args = c .before .before .before .before .before .before .before .before .before .before .before .before .before .before .before .args in
-    let x = getD (args .sets .now) (40 + args .b) 0 % 1024 in
+    let x = getD (args .sets .now) (40 + args .b) 0 % 2048 in
     let z = c .before .before .before .before .before .before .before .lowest in
     let none = walk-none (l .inv) (z .result) (z .ensures .2) in
     let woke = c .before .before .before .wake-bed in
     let bed = c .before .before .before .before .bed in
     walk-goes-on (l .inv) (z .result) (z .ensures .1) (z .ensures .2) _ (c .drop-lowest .ensures .0) (low (c .before .before .before .before .before .before .before))
-    (woke-both (args .n) _ (λ g k. g ≡ bedOf (10 * args .b + z .result) (getD (args .state .now) (10 * args .b + z .result) 0)) _ (args .sets .now) (l .sets) (woke .last .0)
+    (woke-both (args .n) _ (λ g k. g ≡ bedOf (11 * args .b + z .result) (getD (args .state .now) (11 * args .b + z .result) 0)) _ (args .sets .now) (l .sets) (woke .last .0)
     (l .inv .so) (woke-as (args .n) _ _ (l .sets) (woke .last .0) (woke .ensures) (λ g k h e. e ∙ sym (bed .ensures)))
     (λ g k d. called-turn (args .state .now) (args .sets .now) (args .b) x (l .inv .at) refl g (z .result) none d))
 
@@ -120,9 +120,9 @@ returns-2 : tie.Need-returns-2 Inv-loop μ-loop
 returns-2 c =
     let l = c .before .loop in
     let args = c .before .before .before .before .before .before .before .args in
-    let x = getD (args .sets .now) (40 + args .b) 0 % 1024 in
+    let x = getD (args .sets .now) (40 + args .b) 0 % 2048 in
     woke-as (args .n) _ _ (args .sets .now) (l .sets) (l .inv .so)
-    (λ g k h d. called-end (args .state .now) (args .sets .now) (args .b) x (l .inv .at) refl g 10 (λ j f e. walk-ends (l .inv) (c .loop-test .left) j f) d)
+    (λ g k h d. called-end (args .state .now) (args .sets .now) (args .b) x (l .inv .at) refl g 11 (λ j f e. walk-ends (l .inv) (c .loop-test .left) j f) d)
 
 pub wake-spec : {M : Type 1} → statement M
 wake-spec =

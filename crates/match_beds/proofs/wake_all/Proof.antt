@@ -47,8 +47,8 @@ loop-again c =
     let none = walk-none (l .inv) (z .result) (z .ensures .2) in
     let woke = c .before .before .before .wake in
     walk-goes-on (l .inv) (z .result) (z .ensures .1) (z .ensures .2) _ (c .drop-lowest .ensures .0) low
-    (woke-both (args .n) _ (λ g k. Called (args .state .now) (args .sets .now) (z .result) 10 g) _ (args .sets .now) (l .sets) (woke .last .0) (l .inv .so)
-    (woke-as (args .n) _ _ (l .sets) (woke .last .0) (woke .ensures) (λ g k h d. called-kept (args .state .now) (args .sets .now) (l .sets) (z .result) 10 g low (l .inv .so .kept) d))
+    (woke-both (args .n) _ (λ g k. Called (args .state .now) (args .sets .now) (z .result) 11 g) _ (args .sets .now) (l .sets) (woke .last .0) (l .inv .so)
+    (woke-as (args .n) _ _ (l .sets) (woke .last .0) (woke .ensures) (λ g k h d. called-kept (args .state .now) (args .sets .now) (l .sets) (z .result) 11 g low (l .inv .so .kept) d))
     (λ g k d. by-turn (args .state .now) (args .sets .now) (args .mark) x (l .inv .at) refl g (z .result) none d))
 
 same-length : tie.Need-same-length Inv-loop μ-loop

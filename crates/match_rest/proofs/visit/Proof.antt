@@ -69,7 +69,7 @@ settle-requires c κs =
     let args = start .args in
     let tried = c .before .before .before .try-into in
     let v = start .pre .0 in
-    (v .few, v .ordered, v .place, v .bed, low-place (tried .result) (args .words .now) (176 * args .k) (getD (args .heads .now) (4 * args .k) 0) (args .state .now) (tried .ensures .because))
+    (v .few, v .ordered, v .place, v .bed, low-place (tried .result) (args .words .now) (185 * args .k) (getD (args .heads .now) (4 * args .k) 0) (args .state .now) (tried .ensures .because))
 
 same-length : tie.Need-same-length
 same-length c = search needs

@@ -329,7 +329,7 @@ returns-4 c =
     let miss = not-true _ (missed .if4 .taken) in
     let because = because-slot w st (a .o) (a .n) (l .i) (l .q) (l .inv .2) (t .tests-test .taken) (m .b) low on
     (λ s e. term-missed _ _ (varsIn (m .bound) (m .nine)) (term .result) (varsIn (term .last .0) (term .last .1 .0)) (term .ensures) miss s e) in (
-      rw (c .why .ensures) (why-stops (10 * (getD w (l .q) 0 % 8) + 1 + m .b) (getD w (l .q + 3 + m .b) 0) (varsIn (term .last .0) (term .last .1 .0))
+      rw (c .why .ensures) (why-stops (11 * (getD w (l .q) 0 % 8) + 1 + m .b) (getD w (l .q + 3 + m .b) 0) (varsIn (term .last .0) (term .last .1 .0))
           ∙ flat-over w st (l .q) (getD w (l .q + 2) 0) (m .b) (varsIn (m .bound) (m .nine)) (after w (a .o) (a .n) st (l .i))
           low on (term .result) (varsIn (term .last .0) (term .last .1 .0)) (term .ensures) miss ∙ m .inv .3),
       rw (c .why .ensures) because,

@@ -282,7 +282,7 @@ module _ (image w : List ℕ) (steps : ℕ) (lent : Option (List ℕ)) (table : 
   told-by a e = by-fits w (λ f. fit-told f a) (λ f. unfit-told f e)
 
   -- a kept run that ends before any step leaves the words
-  ends-told : (n at : ℕ) → placeOf (decode image) ≡ at → length w ≡ 81 → fits w ≡ true → traceLent image (stateOf w) table steps lent ≡ ends n (going (stateOf w) table none)
+  ends-told : (n at : ℕ) → placeOf (decode image) ≡ at → length w ≡ 89 → fits w ≡ true → traceLent image (stateOf w) table steps lent ≡ ends n (going (stateOf w) table none)
       → toldBy image w table steps lent ≡ told (answer n 0 at) w table
   ends-told n at p l f e =
       fit-run image w table steps lent f
@@ -298,7 +298,7 @@ module _ (image w : List ℕ) (steps : ℕ) (lent : Option (List ℕ)) (table : 
     refused-same : SameBy image w table steps lent
     refused-same = told-by (refused-kept image (stateOf w) table steps lent n at d) refused-unfit
 
-    refused-told : length w ≡ 81 → toldBy image w table steps lent ≡ told (answer n 0 at) w table
+    refused-told : length w ≡ 89 → toldBy image w table steps lent ≡ told (answer n 0 at) w table
     refused-told l =
         by-fits w
         (λ f. ends-told n at (ap placeOf d) l f (kept-refuses image (stateOf w) steps lent n at d table))
@@ -314,7 +314,7 @@ module _ (image w : List ℕ) (steps : ℕ) (lent : Option (List ℕ)) (table : 
     taken-same : table ≡ freshTable (m .rules) (stateOf w) → SameBy image w table steps lent
     taken-same e = told-by (taken-kept e) (taken-unfit (ap length e ∙ fresh-length (m .rules) (stateOf w)))
 
-    module _ (l : length w ≡ 81) (ill : (fits w && wellFormed m (stateOf w)) ≡ false) (long : length table ≡ 9 * length (m .rules)) where
+    module _ (l : length w ≡ 89) (ill : (fits w && wellFormed m (stateOf w)) ≡ false) (long : length table ≡ 9 * length (m .rules)) where
       unwell : fits w ≡ true → wellFormed m (stateOf w) ≡ false
       unwell f = rw f at ill
 
@@ -347,12 +347,12 @@ module _ (image w : List ℕ) (steps : ℕ) where
   pub told-alike : (m : Model) (end : ℕ) → decode image ≡ Got m end → SameTold image w (freshTable (m .rules) (stateOf w)) steps
   told-alike m end d = let table : List ℕ = freshTable (m .rules) (stateOf w) in told-of table (taken-same image w steps none table m end d refl)
 
-  pub told-unwell : (m : Model) (end : ℕ) → decode image ≡ Got m end → length w ≡ 81 → (fits w && wellFormed m (stateOf w)) ≡ false
+  pub told-unwell : (m : Model) (end : ℕ) → decode image ≡ Got m end → length w ≡ 89 → (fits w && wellFormed m (stateOf w)) ≡ false
       → (table : List ℕ) → length table ≡ 9 * length (m .rules) → (runIn image w table steps ≡ told (answer ill-formed 0 0) w table) × SameTold image w table steps
   told-unwell m end d l ill table long =
       (run-told image w table steps ∙ unwell-told image w steps none table m end d l ill long, told-of table (unwell-same image w steps none table m end d l ill long))
 
-  pub told-refused : (n at : ℕ) → decode image ≡ Refused n at → length w ≡ 81 → (table : List ℕ) → (runIn image w table steps ≡ told (answer n 0 at) w table) × SameTold image w table steps
+  pub told-refused : (n at : ℕ) → decode image ≡ Refused n at → length w ≡ 89 → (table : List ℕ) → (runIn image w table steps ≡ told (answer n 0 at) w table) × SameTold image w table steps
   told-refused n at d l table =
       (run-told image w table steps ∙ refused-told image w steps none table n at d l, told-of table (refused-same image w steps none table n at d))
 
@@ -412,7 +412,7 @@ module _ (image w : List ℕ) (steps lent : ℕ) (store : List ℕ) where
   pub lent-alike : (m : Model) (end : ℕ) → decode image ≡ Got m end → SameLent image w (freshTable (m .rules) (stateOf w)) steps lent store
   lent-alike m end d = taken-lent (freshTable (m .rules) (stateOf w)) m end d refl
 
-  pub lent-unwell : (m : Model) (end : ℕ) → decode image ≡ Got m end → length w ≡ 81 → (fits w && wellFormed m (stateOf w)) ≡ false
+  pub lent-unwell : (m : Model) (end : ℕ) → decode image ≡ Got m end → length w ≡ 89 → (fits w && wellFormed m (stateOf w)) ≡ false
       → (table : List ℕ) → length table ≡ 9 * length (m .rules)
       → (runLentIn image w table steps lent store ≡ toldWith (told (answer ill-formed 0 0) w table) store) × SameLent image w table steps lent store
   lent-unwell m end d l ill table long =
@@ -422,7 +422,7 @@ module _ (image w : List ℕ) (steps lent : ℕ) (store : List ℕ) where
         lent-of table (unwell-kept image w steps o table m end d l ill long) (unwell-same image w steps o table m end d l ill long),
       )
 
-  pub lent-misfit : (m : Model) (end : ℕ) → decode image ≡ Got m end → length w ≡ 81 → fits w ≡ true → wellFormed m (stateOf w) ≡ true
+  pub lent-misfit : (m : Model) (end : ℕ) → decode image ≡ Got m end → length w ≡ 89 → fits w ≡ true → wellFormed m (stateOf w) ≡ true
       → storeFits (m .types) (lentBy lent store) ≡ false → (table : List ℕ) → length table ≡ 9 * length (m .rules)
       → (runLentIn image w table steps lent store ≡ toldWith (told (answer bad-store 0 0) w table) store) × SameLent image w table steps lent store
   lent-misfit m end d l f well bad table long =
@@ -433,7 +433,7 @@ module _ (image w : List ℕ) (steps lent : ℕ) (store : List ℕ) where
         lent-of table (λ q. a) (fit-told image w steps o table f a),
       )
 
-  pub lent-refused : (n at : ℕ) → decode image ≡ Refused n at → length w ≡ 81 → (table : List ℕ)
+  pub lent-refused : (n at : ℕ) → decode image ≡ Refused n at → length w ≡ 89 → (table : List ℕ)
       → (runLentIn image w table steps lent store ≡ toldWith (told (answer n 0 at) w table) store) × SameLent image w table steps lent store
   lent-refused n at d l table =
       let o : Option (List ℕ) = lentBy lent store in (

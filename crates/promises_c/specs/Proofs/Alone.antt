@@ -112,7 +112,7 @@ module _ (image w : List ℕ) (steps : ℕ) (lent : Option (List ℕ)) where
     fit-refused : fits w ≡ true → run ≡ record { number = run .number; position = run .position; state = stateOf w; made = 0 }
     fit-refused f = call-refused image (stateOf w) lent steps (fit-before f)
 
-    left-by : length w ≡ 81 → FreshLeaves w (freeBy image w steps lent)
+    left-by : length w ≡ 89 → FreshLeaves w (freeBy image w steps lent)
     left-by l =
         by-fits w
         (λ f.
@@ -159,7 +159,7 @@ module _ (image w : List ℕ) (steps : ℕ) where
   pub most : countIn (freshIn image w steps .answered) ≤ steps
   most = rw (free-told image w steps) (most-of image w steps none)
 
-  pub run-leaves : length w ≡ 81 → let a : FreshTold = freshIn image w steps in Beforehand (numberIn (a .answered)) → FreshLeaves w a
+  pub run-leaves : length w ≡ 89 → let a : FreshTold = freshIn image w steps in Beforehand (numberIn (a .answered)) → FreshLeaves w a
   run-leaves l b = let e = free-told image w steps in rw e (left-by image w steps none (rw e at b) l)
 
   pub trace-leaves : (lent : List ℕ) → Beforehand (numberIn (freshIn image w steps .answered)) → layEvents lent (freshEventsIn image w steps) ≡ lent
@@ -205,7 +205,7 @@ module _ (image w : List ℕ) (steps lent : ℕ) (store : List ℕ) where
     behind : Beforehand (numberIn (freeBy image w steps (lentBy lent store) .answered))
     behind = rw (lent-free image w steps lent store) at b
 
-    pub lent-leaves : length w ≡ 81 → FreshLeaves w (freshLentIn image w steps lent store .answer)
+    pub lent-leaves : length w ≡ 89 → FreshLeaves w (freshLentIn image w steps lent store .answer)
     lent-leaves l = rw (lent-free image w steps lent store) (left-by image w steps (lentBy lent store) behind l)
 
     pub store-leaves : freshLentIn image w steps lent store .store ≡ store

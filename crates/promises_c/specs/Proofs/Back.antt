@@ -1,4 +1,4 @@
--- A state and its 81 words stand for each other.
+-- A state and its 89 words stand for each other.
 use mathlib.Core.Path.{_≡_, refl, sym, ap, ap₂, _∙_}
 use mathlib.Core.Bool.{Bool, true, false, _&&_}
 use mathlib.Core.List.{List, [], _∷_, _++_}
@@ -65,29 +65,29 @@ parts b e =
 ten : (b : Buffer) → length (b .slots) ≡ 8 → length (bufferWords b) ≡ 10
 ten b e = ap suc (length-append (b .slots) (b .delay ∷ []) ∙ omega arith)
 
--- word j of buffer k stands at 10 * k + j
-word-at : (bs : List Buffer) → every isBuffer bs ≡ true → (k : ℕ) → k < length bs → (j : ℕ) → j < 10
-    → getD (buffersWords bs) (10 * k + j) 0 ≡ getD (bufferWords (getD bs k nothing)) j 0
+-- word j of buffer k stands at 11 * k + j
+word-at : (bs : List Buffer) → every isBuffer bs ≡ true → (k : ℕ) → k < length bs → (j : ℕ) → j < 11
+    → getD (buffersWords bs) (11 * k + j) 0 ≡ getD (bufferWords (getD bs k nothing)) j 0
 word-at [] h k l j s = absurd (omega arith)
 word-at (b ∷ bs) h zero l j s =
     let n : length (bufferWords b) ≡ 10 = ten b (parts b (and-left (isBuffer b) (every isBuffer bs) h) .eight-slots) in
     ap (λ (i : ℕ). getD (bufferWords b ++ buffersWords bs) i 0) (zero-add j) ∙ List·getD-append (bufferWords b) (buffersWords bs) 0 j (omega arith)
 word-at (b ∷ bs) h (suc k) l j s =
     let n : length (bufferWords b) ≡ 10 = ten b (parts b (and-left (isBuffer b) (every isBuffer bs) h) .eight-slots) in
-    let at : 10 * suc k + j ≡ length (bufferWords b) + (10 * k + j) = omega arith in
-    ap (λ (i : ℕ). getD (bufferWords b ++ buffersWords bs) i 0) at ∙ getD-append-add (bufferWords b) (buffersWords bs) (10 * k + j) 0
+    let at : 11 * suc k + j ≡ length (bufferWords b) + (11 * k + j) = omega arith in
+    ap (λ (i : ℕ). getD (bufferWords b ++ buffersWords bs) i 0) at ∙ getD-append-add (bufferWords b) (buffersWords bs) (11 * k + j) 0
     ∙ word-at bs (and-right (isBuffer b) (every isBuffer bs) h) k (omega arith) j s
 
 -- ten words that are a buffer's hold it
-held : (w : List ℕ) (k : ℕ) (b : Buffer) → length (b .slots) ≡ 8 → ((j : ℕ) → j < 10 → getD w (10 * k + j) 0 ≡ getD (bufferWords b) j 0) → bufferIn w k ≡ b
+held : (w : List ℕ) (k : ℕ) (b : Buffer) → length (b .slots) ≡ 8 → ((j : ℕ) → j < 11 → getD w (11 * k + j) 0 ≡ getD (bufferWords b) j 0) → bufferIn w k ≡ b
 held w k b e h =
-    let first : getD w (10 * k) 0 ≡ b .isa = ap (λ (i : ℕ). getD w i 0) (sym (add-zero (10 * k))) ∙ h 0 (omega arith) in
-    let last : getD w (10 * k + 9) 0 ≡ b .delay =
+    let first : getD w (11 * k) 0 ≡ b .isa = ap (λ (i : ℕ). getD w i 0) (sym (add-zero (11 * k))) ∙ h 0 (omega arith) in
+    let last : getD w (11 * k + 9) 0 ≡ b .delay =
     h 9 (omega arith) ∙ ap (λ (i : ℕ). getD (b .slots ++ (b .delay ∷ [])) i 0) (sym e) ∙ getD-append-seam (b .slots) (b .delay) [] 0 in
-    let slots : rowsIn (λ j. getD w (10 * k + 1 + j) 0) 0 8 ≡ b .slots =
-    ap (rowsIn (λ j. getD w (10 * k + 1 + j) 0) 0) (sym e) ∙ rows-of 0 (λ j. getD w (10 * k + 1 + j) 0) (b .slots) 0 (λ j l.
+    let slots : rowsIn (λ j. getD w (11 * k + 1 + j) 0) 0 8 ≡ b .slots =
+    ap (rowsIn (λ j. getD w (11 * k + 1 + j) 0) 0) (sym e) ∙ rows-of 0 (λ j. getD w (11 * k + 1 + j) 0) (b .slots) 0 (λ j l.
     ap (λ (i : ℕ). getD w i 0) (omega arith) ∙ h (suc j) (omega arith) ∙ List·getD-append (b .slots) (b .delay ∷ []) 0 j l) in
-    ap₂ (λ (x y : ℕ). record { isa = x; slots = rowsIn (λ j. getD w (10 * k + 1 + j) 0) 0 8; delay = y }) first last
+    ap₂ (λ (x y : ℕ). record { isa = x; slots = rowsIn (λ j. getD w (11 * k + 1 + j) 0) 0 8; delay = y }) first last
     ∙ ap (λ (l : List ℕ). record { isa = b .isa; slots = l; delay = b .delay }) slots
 
 at-place : (bs : List Buffer) (k : ℕ) → k < length bs → every isBuffer bs ≡ true → isBuffer (getD bs k nothing) ≡ true
@@ -105,9 +105,9 @@ pub state-back : (s : State) → Machine s → stateOf (wordsOf s) ≡ s
 unfolding wordsOf
 state-back s m = ap (λ (bs : List Buffer). record { buffers = bs; clock = s .clock }) (buffers-back (s .buffers) (m .eight) (m .all-buffers))
 
--- ---- the words are 81, and fit
+-- ---- the words are 89, and fit
 
-words-long : (bs : List Buffer) → every isBuffer bs ≡ true → length (buffersWords bs) ≡ 10 * length bs
+words-long : (bs : List Buffer) → every isBuffer bs ≡ true → length (buffersWords bs) ≡ 11 * length bs
 words-long [] h = refl
 words-long (b ∷ bs) h =
     length-append (bufferWords b) (buffersWords bs)
@@ -122,7 +122,7 @@ words-small (b ∷ bs) h =
     (every-append isWord (b .slots) (b .delay ∷ []) (p .slots-words) (and-true (isWord (b .delay)) true (p .delay-word) refl)))
     (words-small bs (and-right (isBuffer b) (every isBuffer bs) h))
 
-pub eighty-one : (s : State) → Machine s → length (wordsOf s) ≡ 81
+pub eighty-one : (s : State) → Machine s → length (wordsOf s) ≡ 89
 unfolding wordsOf
 eighty-one s m = ap suc (words-long (s .buffers) (m .all-buffers) ∙ omega (arith, m .eight))
 
@@ -130,7 +130,7 @@ pub words-fit : (s : State) → Machine s → fits (wordsOf s) ≡ true
 unfolding wordsOf fits
 words-fit s m = words-small (s .buffers) (m .all-buffers)
 
--- ---- 81 words that fit hold a state of the machine
+-- ---- 89 words that fit hold a state of the machine
 
 word-small : (w : List ℕ) → every isWord w ≡ true → (i : ℕ) → isWord (getD w i 0) ≡ true
 word-small [] h i = refl
@@ -140,9 +140,9 @@ word-small (x ∷ xs) h (suc i) = word-small xs (and-right (isWord x) (every isW
 buffer-in : (w : List ℕ) → every isWord w ≡ true → (k : ℕ) → isBuffer (bufferIn w k) ≡ true
 unfolding rowsIn
 buffer-in w h k =
-    and-true (isWord (getD w (10 * k) 0)) (every isWord (bufferIn w k .slots) && isWord (getD w (10 * k + 9) 0)) (word-small w h (10 * k))
-    (and-true (every isWord (bufferIn w k .slots)) (isWord (getD w (10 * k + 9) 0))
-    (rows-every isWord (λ j. getD w (10 * k + 1 + j) 0) (λ j. word-small w h (10 * k + 1 + j)) 0 8) (word-small w h (10 * k + 9)))
+    and-true (isWord (getD w (11 * k) 0)) (every isWord (bufferIn w k .slots) && isWord (getD w (11 * k + 9) 0)) (word-small w h (11 * k))
+    (and-true (every isWord (bufferIn w k .slots)) (isWord (getD w (11 * k + 9) 0))
+    (rows-every isWord (λ j. getD w (11 * k + 1 + j) 0) (λ j. word-small w h (11 * k + 1 + j)) 0 8) (word-small w h (11 * k + 9)))
 
 pub state-fits : (w : List ℕ) → fits w ≡ true → getD w 0 0 ≤ largest → Machine (stateOf w)
 unfolding fits
@@ -153,13 +153,13 @@ state-fits w h c =
       in-time = c;
     }
 
--- ---- the words of the state that 81 words hold are these words
+-- ---- the words of the state that 89 words hold are these words
 
-words-in : (xs : List ℕ) → length xs ≡ 80 → buffersWords (buffersIn xs) ≡ xs
+words-in : (xs : List ℕ) → length xs ≡ 88 → buffersWords (buffersIn xs) ≡ xs
 unfolding rowsIn
 words-in xs e = sym (ap (rowsIn (λ j. getD xs j 0) 0) e) ∙ rows-of 0 (λ j. getD xs j 0) xs 0 (λ j l. ap (λ (i : ℕ). getD xs i 0) (zero-add j))
 
-pub words-back : (w : List ℕ) → length w ≡ 81 → wordsOf (stateOf w) ≡ w
+pub words-back : (w : List ℕ) → length w ≡ 89 → wordsOf (stateOf w) ≡ w
 unfolding wordsOf
 words-back [] e = absurd (omega arith)
 words-back (x ∷ xs) e = ap (λ (l : List ℕ). x ∷ l) (words-in xs (omega arith))
@@ -179,24 +179,24 @@ rows-at d f i zero b h = absurd (omega arith)
 rows-at d f i (suc n) zero h = ap f (sym (add-zero i))
 rows-at d f i (suc n) (suc b) h = rows-at d f (i + 1) n b (omega arith) ∙ ap f (omega arith)
 
-buffer-cong : (v v′ : List ℕ) (b : ℕ) → ((j : ℕ) → j < 10 → getD v (10 * b + j) 0 ≡ getD v′ (10 * b + j) 0) → bufferIn v b ≡ bufferIn v′ b
+buffer-cong : (v v′ : List ℕ) (b : ℕ) → ((j : ℕ) → j < 11 → getD v (11 * b + j) 0 ≡ getD v′ (11 * b + j) 0) → bufferIn v b ≡ bufferIn v′ b
 buffer-cong v v′ b h =
-    let z : 10 * b + 0 ≡ 10 * b = omega arith in
-    let first : getD v (10 * b) 0 ≡ getD v′ (10 * b) 0 = rw z at (h 0 (omega arith)) in
+    let z : 11 * b + 0 ≡ 11 * b = omega arith in
+    let first : getD v (11 * b) 0 ≡ getD v′ (11 * b) 0 = rw z at (h 0 (omega arith)) in
     let slots : bufferIn v b .slots ≡ bufferIn v′ b .slots =
-    rows-cong (λ j. getD v (10 * b + 1 + j) 0) (λ j. getD v′ (10 * b + 1 + j) 0) 0 8 (λ j l. let e : 10 * b + suc j ≡ 10 * b + 1 + (0 + j) = omega arith in rw e at (h (suc j) (omega arith))) in
+    rows-cong (λ j. getD v (11 * b + 1 + j) 0) (λ j. getD v′ (11 * b + 1 + j) 0) 0 8 (λ j l. let e : 11 * b + suc j ≡ 11 * b + 1 + (0 + j) = omega arith in rw e at (h (suc j) (omega arith))) in
     ap₂ (λ (x y : ℕ). record { isa = x; slots = bufferIn v b .slots; delay = y }) first (h 9 (omega arith))
-    ∙ ap (λ (l : List ℕ). record { isa = getD v′ (10 * b) 0; slots = l; delay = getD v′ (10 * b + 9) 0 }) slots
+    ∙ ap (λ (l : List ℕ). record { isa = getD v′ (11 * b) 0; slots = l; delay = getD v′ (11 * b + 9) 0 }) slots
 
 past : (v : List ℕ) (b : ℕ) → 8 ≤ b → getD (buffersIn v) b nothing ≡ nothing
 past v b h = List·getD-eq-default (buffersIn v) nothing (omega (arith, rows-long (bufferIn v) 0 8))
 
-pub same-buffer : (w w′ : List ℕ) (b : ℕ) → ((j : ℕ) → j < 10 → getD w (1 + (10 * b + j)) 0 ≡ getD w′ (1 + (10 * b + j)) 0) → bufferOf (stateOf w) b ≡ bufferOf (stateOf w′) b
+pub same-buffer : (w w′ : List ℕ) (b : ℕ) → ((j : ℕ) → j < 11 → getD w (1 + (11 * b + j)) 0 ≡ getD w′ (1 + (11 * b + j)) 0) → bufferOf (stateOf w) b ≡ bufferOf (stateOf w′) b
 same-buffer w w′ b h =
     by-lt b 8
     (λ l.
     rows-at nothing (bufferIn (drop 1 w)) 0 8 b l
     ∙ ap (bufferIn (drop 1 w)) (zero-add b)
-    ∙ buffer-cong (drop 1 w) (drop 1 w′) b (λ j s. getD-drop 1 w (10 * b + j) 0 ∙ h j s ∙ sym (getD-drop 1 w′ (10 * b + j) 0))
+    ∙ buffer-cong (drop 1 w) (drop 1 w′) b (λ j s. getD-drop 1 w (11 * b + j) 0 ∙ h j s ∙ sym (getD-drop 1 w′ (11 * b + j) 0))
     ∙ sym (rows-at nothing (bufferIn (drop 1 w′)) 0 8 b l ∙ ap (bufferIn (drop 1 w′)) (zero-add b)))
     (λ l. past (drop 1 w) b l ∙ sym (past (drop 1 w′) b l))

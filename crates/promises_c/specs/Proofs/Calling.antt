@@ -197,7 +197,7 @@ module _ (image w table : List ℕ) where
         ap (λ (x : Told). numberIn (x .answered)) (fit-run image w table steps lent f) ∙ number-of (r .number) (r .made) (r .position) (lent-small image table (stateOf w) lent steps)
 
     module _ (b : Beforehand (numberIn (toldBy image w table steps lent .answered))) where
-      fit-left : fits w ≡ true → length w ≡ 81 → Leaves w table (toldRun (ranLent image (stateOf w) table steps lent))
+      fit-left : fits w ≡ true → length w ≡ 89 → Leaves w table (toldRun (ranLent image (stateOf w) table steps lent))
       fit-left f l =
           let r : Ran = ranLent image (stateOf w) table steps lent in
           let left = run-refused image table (stateOf w) lent steps (rw (number-by f) at b) in
@@ -207,7 +207,7 @@ module _ (image w table : List ℕ) where
             none-counted = none-of (r .number) (r .made) (r .position) (lent-small image table (stateOf w) lent steps) (ap (λ (x : Ran). x .made) left);
           }
 
-      leaves-by : length w ≡ 81 → Leaves w table (toldBy image w table steps lent)
+      leaves-by : length w ≡ 89 → Leaves w table (toldBy image w table steps lent)
       leaves-by l = by-fits w (λ f. rw (fit-run image w table steps lent f) (fit-left f l)) (λ f. rw (unfit-run image w table steps lent f) unfit-left)
 
       untold-by : eventsBy image w table steps lent ≡ []
@@ -216,7 +216,7 @@ module _ (image w table : List ℕ) where
           (λ f. fit-events image w table steps lent f ∙ ap (λ (r : Run Going). r .events) (left-refused image table (stateOf w) lent steps (rw (number-by f) at b)))
           (λ f. unfit-events image w table steps lent f)
 
-  pub run-leaves : (steps : ℕ) → length w ≡ 81 → let a : Told = runIn image w table steps in Beforehand (numberIn (a .answered)) → Leaves w table a
+  pub run-leaves : (steps : ℕ) → length w ≡ 89 → let a : Told = runIn image w table steps in Beforehand (numberIn (a .answered)) → Leaves w table a
   run-leaves steps l b = let e = run-told image w table steps in rw e (leaves-by steps none (rw e at b) l)
 
   pub trace-leaves : (noted : List ℕ) (steps : ℕ) → Beforehand (numberIn (runIn image w table steps .answered)) → layEvents noted (eventsIn image w table steps) ≡ noted
@@ -226,7 +226,7 @@ module _ (image w table : List ℕ) where
     behind : Beforehand (numberIn (toldBy image w table steps (lentBy lent store) .answered))
     behind = rw (lent-told image w table steps lent store) at b
 
-    pub lent-leaves : length w ≡ 81 → Leaves w table (runLentIn image w table steps lent store .answer)
+    pub lent-leaves : length w ≡ 89 → Leaves w table (runLentIn image w table steps lent store .answer)
     lent-leaves l = rw (lent-told image w table steps lent store) (leaves-by steps (lentBy lent store) behind l)
 
     -- "the store unaltered"
@@ -259,11 +259,11 @@ open-number : (image table : List ℕ) → numberIn (openIn image table .answere
 unfolding openIn
 open-number image table = let o = openOf image table in number-of (o .number) 0 (o .position) (below (open-small image table))
 
-zeros : wordsOf zeroState ≡ replicate 81 0
+zeros : wordsOf zeroState ≡ replicate 89 0
 unfolding wordsOf
 zeros = refl
 
-pub open-leaves : (image table : List ℕ) → (numberIn (openIn image table .answered) ≡ 0 → ⊥) → Leaves (replicate 81 0) table (openIn image table)
+pub open-leaves : (image table : List ℕ) → (numberIn (openIn image table .answered) ≡ 0 → ⊥) → Leaves (replicate 89 0) table (openIn image table)
 unfolding openIn
 open-leaves image table h =
     let o = openOf image table in
@@ -278,7 +278,7 @@ open-leaves image table h =
 
 -- what a caller in C holds is what a chain of calls over states has reached
 pub record Stands (image w table : List ℕ) : Type 0 where
-  pub many : length w ≡ 81
+  pub many : length w ≡ 89
   pub fit : fits w ≡ true
   pub reached : Reached image (stateOf w) table
 
@@ -303,7 +303,7 @@ module _ (image : List ℕ) (m : Model) (end : ℕ) (d : decode image ≡ Got m 
   refreshed-stands w table h mark =
       rw (fit-refresh image w table mark (h .fit)) (record { many = h .many; fit = h .fit; reached = words.refreshed (h .reached) mark })
 
-  changed-stands : (w table : List ℕ) → Stands image w table → (w′ : List ℕ) (mark : ℕ) → length w′ ≡ 81 → getD w′ 0 0 ≤ largest → ((b : ℕ) → bit mark b ≡ false → SameBuffer w w′ b)
+  changed-stands : (w table : List ℕ) → Stands image w table → (w′ : List ℕ) (mark : ℕ) → length w′ ≡ 89 → getD w′ 0 0 ≤ largest → ((b : ℕ) → bit mark b ≡ false → SameBuffer w w′ b)
       → numberIn (refreshIn image w′ mark table .answered) ≡ 0 → Stands image w′ (refreshIn image w′ mark table .table)
   changed-stands w table h w′ mark l c same e =
       by-fits w′

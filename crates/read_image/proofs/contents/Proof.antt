@@ -43,7 +43,7 @@ ruled c = c .before .before .before .before .before
 -- ---- where the plan's sections begin and end
 
 ends : (c : tie.Start)
-    → let p = c .args .plan in (144 + 11 * p .facts ≤ p .heads) × (p .heads ≤ 9424) × (p .rows ≡ p .heads + 4 * p .rules) × (p .rows + 176 * p .rules ≤ length (c .args .tape .now))
+    → let p = c .args .plan in (152 + 11 * p .facts ≤ p .heads) × (p .heads ≤ 9424) × (p .rows ≡ p .heads + 4 * p .rules) × (p .rows + 185 * p .rules ≤ length (c .args .tape .now))
 ends c =
     let e = c .pre .4 .starts in
     let heads = ap (λ (p : Plan). p .heads) e in
@@ -58,10 +58,10 @@ abbrev facts-own : tie.After-facts → List ℕ
 facts-own c = c .facts .last .1 .1 .1 .1 .0
 
 abbrev with-facts : tie.After-facts → List ℕ
-with-facts c = let w = begun c .args .tape .now in take 144 w ++ (facts-own c ++ drop (length w - 144) (drop 144 w))
+with-facts c = let w = begun c .args .tape .now in take 152 w ++ (facts-own c ++ drop (length w - 152) (drop 152 w))
 
 facts-long : (c : tie.After-facts) → length (with-facts c) ≡ length (begun c .args .tape .now)
-facts-long c = let w = begun c .args .tape .now in same-len-mid 144 (length w - 144) w (facts-own c) (c .facts .kept .1 .1 .1 .1 .0)
+facts-long c = let w = begun c .args .tape .now in same-len-mid 152 (length w - 152) w (facts-own c) (c .facts .kept .1 .1 .1 .1 .0)
 
 abbrev rules-own : tie.After-rules → List ℕ
 rules-own c = c .rules .last .1 .1 .1 .1 .1 .0
@@ -76,8 +76,8 @@ with-rules c = let w = with-facts (found (first c)) in let o = heads-at c in tak
 facts-here : (c : tie.After-facts) → factsOn (begun c .args .plan) (with-facts c) ≡ factsIn (facts-own c) (begun c .args .plan .facts)
 facts-here c =
     let w = begun c .args .tape .now in
-    let h : 144 ≤ length w = omega (arith, ends (begun c)) in
-    ap (λ (l : List ℕ). factsIn l (begun c .args .plan .facts)) (ap (drop 144) (part-put 144 w (facts-own c)) ∙ part-own 144 w (facts-own c) h)
+    let h : 152 ≤ length w = omega (arith, ends (begun c)) in
+    ap (λ (l : List ℕ). factsIn l (begun c .args .plan .facts)) (ap (drop 152) (part-put 152 w (facts-own c)) ∙ part-own 152 w (facts-own c) h)
 
 read-facts : (c : tie.After-known-told)
     → let a = begun (found c) .args in Got (factsOn (a .plan) (with-facts (found c))) (c .before .after-facts .given .0 .0) ≡ times (a .plan .facts) (fact finer (a .types .now)) (a .image .now) (a .p)
@@ -114,15 +114,15 @@ module _ (c : tie.After-rules) where
   below = ap (take (heads-at c)) put ∙ part-below (heads-at c) (with-facts f) (rules-own c) inside
 
   facts-still : factsOn p (with-rules c) ≡ factsOn p (with-facts f)
-  facts-still = facts-kept p (with-facts f) (with-rules c) (begin-alike (144 + 11 * p .facts) (heads-at c) (with-facts f) (with-rules c) (ends (begun f) .0) below)
+  facts-still = facts-kept p (with-facts f) (with-rules c) (begin-alike (152 + 11 * p .facts) (heads-at c) (with-facts f) (with-rules c) (ends (begun f) .0) below)
 
-  still : take 144 (with-rules c) ≡ take 144 (begun f .args .tape .now)
+  still : take 152 (with-rules c) ≡ take 152 (begun f .args .tape .now)
   still =
       let w = begun f .args .tape .now in
-      let h : 144 ≤ heads-at c = omega (arith, ends (begun f)) in
-      let l : 144 ≤ length w = omega (arith, ends (begun f)) in
-      sym (take-take 144 (heads-at c) (with-rules c) h) ∙ ap (take 144) below ∙ take-take 144 (heads-at c) (with-facts f) h
-      ∙ ap (take 144) (part-put 144 w (facts-own f)) ∙ part-below 144 w (facts-own f) l
+      let h : 152 ≤ heads-at c = omega (arith, ends (begun f)) in
+      let l : 152 ≤ length w = omega (arith, ends (begun f)) in
+      sym (take-take 152 (heads-at c) (with-rules c) h) ∙ ap (take 152) below ∙ take-take 152 (heads-at c) (with-facts f) h
+      ∙ ap (take 152) (part-put 152 w (facts-own f)) ∙ part-below 152 w (facts-own f) l
 
 -- ---- what is asked
 
@@ -143,7 +143,7 @@ facts-requires c κs =
     let s = start (c .before) in
     let pre = s .pre in
     let w = s .args .tape .now in
-    let room : 11 * s .args .plan .facts ≤ length (drop 144 w) = omega (arith, length-drop 144 w, ends s) in
+    let room : 11 * s .args .plan .facts ≤ length (drop 152 w) = omega (arith, length-drop 152 w, ends s) in
     (pre .0, pre .1, pre .2, pre .3, rw to-end room)
 
 enum-known-after-facts : tie.Need-enum-known-after-facts
@@ -160,10 +160,10 @@ returns c =
     let f = c .before .before .before .before .before in
     let a = begun f .args in
     let w = a .tape .now in
-    let l : 144 ≤ length w = omega (arith, ends (begun f)) in
+    let l : 152 ≤ length w = omega (arith, ends (begun f)) in
     let bad = sym (answer-bad _ (factsIn (facts-own f) (a .plan .facts)) _ _ (c .before .after-facts2 .given .1)) ∙ f .facts .ensures .0 in (
       contents-first (sizes (a .plan .buffers) (a .types .now)) (a .plan .facts) (a .plan .rules) (a .image .now) (a .p) _ _ bad,
-      (ap (take 144) (part-put 144 w (facts-own f)) ∙ part-below 144 w (facts-own f) l, bad-never _ _ _ refl),
+      (ap (take 152) (part-put 152 w (facts-own f)) ∙ part-below 152 w (facts-own f) l, bad-never _ _ _ refl),
     )
 
 cast-m : tie.Need-cast-m
@@ -193,7 +193,7 @@ rules-requires c κs =
     let b = pre .4 .bounds in
     let w = with-facts f in
     let o = s .args .plan .heads in
-    let room : 4 * s .args .plan .rules + 176 * s .args .plan .rules ≤ length (drop o w) = omega (arith, length-drop o w, facts-long f, ends s) in
+    let room : 4 * s .args .plan .rules + 185 * s .args .plan .rules ≤ length (drop o w) = omega (arith, length-drop o w, facts-long f, ends s) in
     (pre .0, f .facts .ensures .1 _ (k .before .after-facts .given .1), b .most-buffers, pre .3, b .most-rules, omega arith, rw to-end room)
 
 enum-known-after-rules : tie.Need-enum-known-after-rules

@@ -75,7 +75,7 @@ own c = c .lay-state .last .1 .0
 abbrev tape : tie.After-lay-state → List ℕ
 tape c = let w = typed (copied c) in take 64 w ++ (own c ++ drop (length w - 64) (drop 64 w))
 
-room : (c : tie.After-copy-into) → 144 ≤ length (typed c)
+room : (c : tie.After-copy-into) → 152 ≤ length (typed c)
 room c = omega (arith, c .copy-into .kept .0, start (counted (shared (opened c))) .pre .4)
 
 -- the opening section is the state that was read
@@ -152,7 +152,7 @@ part-lay-state-end c = search needs
 lay-state-requires : tie.Need-lay-state-requires
 lay-state-requires c κs =
     let w = typed (c .before .before .before) in
-    let h : 80 ≤ length (drop 64 w) = omega (arith, length-drop 64 w, room (c .before .before .before)) in
+    let h : 88 ≤ length (drop 64 w) = omega (arith, length-drop 64 w, room (c .before .before .before)) in
     rw to-end h
 
 same-length : tie.Need-same-length

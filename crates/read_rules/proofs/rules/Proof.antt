@@ -51,7 +51,7 @@ own c = c .rule .last .1 .1 .1 .1 .0
 
 -- where the rule's own words begin, and all words once they are back
 abbrev place : tie.In-loop Inv-loop μ-loop → ℕ
-place c = start (c .before) .args .rows + 176 * c .before .loop .k
+place c = start (c .before) .args .rows + 185 * c .before .loop .k
 
 abbrev after : tie.After-rule Inv-loop μ-loop → List ℕ
 after c = let w = turn c .before .loop .words in let o = place (turn c) in take o w ++ (own c ++ drop (length w - o) (drop o w))
@@ -95,8 +95,8 @@ rule-requires c κs =
     let a = start at-loop .args in
     let pre = start at-loop .pre in
     let l = at-loop .loop in
-    let o = a .rows + 176 * l .k in
-    let room : 176 ≤ length (drop o (l .words)) = omega (arith, length-drop o (l .words), pre .6, l .inv .2, c .before .loop-test .taken) in
+    let o = a .rows + 185 * l .k in
+    let room : 185 ≤ length (drop o (l .words)) = omega (arith, length-drop o (l .words), pre .6, l .inv .2, c .before .loop-test .taken) in
     (pre .0, l .inv .1, pre .2, pre .3, rw to-end room)
 
 enum-known-walk : tie.Need-enum-known-walk Inv-loop μ-loop
@@ -152,7 +152,7 @@ loop-again c =
     let next = known copied .before .walk .given .1 in
     let long = four-long (copied .before .before .before) in
     let put = part-put (place (turn r)) (l .words) (own r) in
-    let room : a .rows + 176 * a .n ≤ length (l .words) = omega (arith, pre .6, l .inv .2) in
+    let room : a .rows + 185 * a .n ≤ length (l .words) = omega (arith, pre .6, l .inv .2) in
     let laid = tape-laid (l .words) (after r) _ four (own r) (a .rows) (l .k) (a .n) (l .inv .3) below (pre .5) room long put (as-long r) (copied .copy-into .ensures) in
     let more = tape-more (l .words) (after r) _ four (own r) (a .rows) (l .k) (a .n) (l .inv .3) below (pre .5) room long put (as-long r) (copied .copy-into .ensures) in
     let rules = rulesIn (l .words) (drop (a .rows) (l .words)) (l .k) in

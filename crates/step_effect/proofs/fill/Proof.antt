@@ -82,7 +82,7 @@ mul-state-7 : tie.Need-mul-state-7 Inv-loop μ-loop
 mul-state-7 c = search needs
 
 slice-write-state-3 : tie.Need-slice-write-state-3 Inv-loop μ-loop
-slice-write-state-3 c = let a = start (c .before) .args in omega (arith, length-set (c .before .loop .state) (10 * a .k) (a .isa))
+slice-write-state-3 c = let a = start (c .before) .args in omega (arith, length-set (c .before .loop .state) (11 * a .k) (a .isa))
 
 same-length : tie.Need-same-length Inv-loop μ-loop
 same-length c = search needs

@@ -33,7 +33,7 @@ abbrev nilled : tie.After-slice-known3 → tie.After-nil
 nilled c = c .before .before
 
 -- the fact that is found is one of the plan's, so its row stands on the tape
-found : (c : tie.After-known-told) → 144 + 11 * c .before .i .given .0 .0 + 11 ≤ length (begun (answered (c .before) .before) .args .tape .now)
+found : (c : tie.After-known-told) → 152 + 11 * c .before .i .given .0 .0 + 11 ≤ length (begun (answered (c .before) .before) .args .tape .now)
 found c =
     let i = c .before in
     let answer = answered i in
@@ -125,7 +125,7 @@ returns c =
     let i = fills (f .before) .before in
     let answer = answered i in
     let a = begun (answer .before) .args in
-    fact-made (drop 144 (a .tape .now)) (a .plan .failure) (simp to-end at (answer .retrieve .ensures .0)) _ (i .i .given .1) (simp to-end at (f .fill .ensures))
+    fact-made (drop 152 (a .tape .now)) (a .plan .failure) (simp to-end at (answer .retrieve .ensures .0)) _ (i .i .given .1) (simp to-end at (f .fill .ensures))
 
 same-length-2 : tie.Need-same-length-2
 same-length-2 c = search needs
@@ -136,7 +136,7 @@ returns-2 c =
     let t = nils (n .before) in
     let answer = t .before .before in
     let a = begun (answer .before) .args in
-    none-made (drop 144 (a .tape .now)) (a .plan .failure) (simp to-end at (answer .retrieve .ensures .0)) (t .enum-told .given .1) (n .nil .ensures)
+    none-made (drop 152 (a .tape .now)) (a .plan .failure) (simp to-end at (answer .retrieve .ensures .0)) (t .enum-told .given .1) (n .nil .ensures)
 
 pub request-spec : {M : Type 1} → statement M
 request-spec =

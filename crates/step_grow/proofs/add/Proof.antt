@@ -31,7 +31,7 @@ room c = let s = begun c in omega (arith, sections (s .pre .0) .heads-end, follo
 
 -- the link that was found is one of them
 within : (c : tie.After-copy-into-arg2) → sought c .last-link .result < 64 + begun c .args .plan .facts
-within c = let found = sought c .last-link in link-within (drop 144 (begun c .args .tape .now)) (begun c .args .plan .facts) _ (found .result) (found .ensures .link)
+within c = let found = sought c .last-link in link-within (drop 152 (begun c .args .tape .now)) (begun c .args .plan .facts) _ (found .result) (found .ensures .link)
 
 -- ---- what is asked
 

@@ -11,7 +11,7 @@ use Rattle.step_grow.proofs.last_link.Statement.{statement}
 use Rattle.step_grow.proofs.last_link.Tie as tie
 
 abbrev Inv-loop : tie.InvT-loop
-Inv-loop tape chains h n at₀ next₀ at next = Link (drop 144 tape) n h at × (next ≡ getD (drop chains tape) at 0)
+Inv-loop tape chains h n at₀ next₀ at next = Link (drop 152 tape) n h at × (next ≡ getD (drop chains tape) at 0)
 
 abbrev μ-loop : tie.MeasureT-loop
 μ-loop tape chains h n at₀ next₀ at next = n - next
@@ -25,12 +25,12 @@ abbrev turned : tie.After-shared-slice-known2 Inv-loop μ-loop → tie.At-loop I
 turned c = c .before .before
 
 -- the fact that is named is of the chain, and so its word is a link
-onward : (c : tie.After-shared-slice-known2 Inv-loop μ-loop) → let k = turned c in let a = start k .args in Link (drop 144 (a .tape .now)) (a .n) (a .h) (64 + k .loop .next)
+onward : (c : tie.After-shared-slice-known2 Inv-loop μ-loop) → let k = turned c in let a = start k .args in Link (drop 152 (a .tape .now)) (a .n) (a .h) (64 + k .loop .next)
 onward c =
     let k = turned c in
     let a = start k .args in
     let l = k .loop in
-    link-next (drop (a .chains) (a .tape .now)) (drop 144 (a .tape .now)) (a .n) (start k .pre .0) (a .h) (l .at) (l .next) (start k .pre .2) (l .inv .0) (l .inv .1) (omega arith)
+    link-next (drop (a .chains) (a .tape .now)) (drop 152 (a .tape .now)) (a .n) (start k .pre .0) (a .h) (l .at) (l .next) (start k .pre .2) (l .inv .0) (l .inv .1) (omega arith)
 
 -- ---- what is asked
 
@@ -49,7 +49,7 @@ cast-next c = omega (arith, c .shared-slice-known .given (c .before .args .chain
 loop-holds : tie.Need-loop-holds Inv-loop μ-loop
 loop-holds c =
     let a = c .before .args in
-    (link-start (drop 144 (a .tape .now)) (a .n) (a .h) (c .before .pre .2), sym (getD-drop (a .chains) (a .tape .now) (a .h) 0))
+    (link-start (drop 152 (a .tape .now)) (a .n) (a .h) (c .before .pre .2), sym (getD-drop (a .chains) (a .tape .now) (a .h) 0))
 
 add-at : tie.Need-add-at Inv-loop μ-loop
 add-at c = search needs
@@ -71,7 +71,7 @@ loop-less c =
     let k = turned c in
     let a = start k .args in
     let at = 64 + k .loop .next in
-    let leap = link-leap (drop (a .chains) (a .tape .now)) (drop 144 (a .tape .now)) (a .n) (start k .pre .0) (a .h) at (start k .pre .2) (onward c) in
+    let leap = link-leap (drop (a .chains) (a .tape .now)) (drop 152 (a .tape .now)) (a .n) (start k .pre .0) (a .h) at (start k .pre .2) (onward c) in
     omega (arith, leap .forth, getD-drop (a .chains) (a .tape .now) at 0)
 
 loop-again : tie.Need-loop-again Inv-loop μ-loop

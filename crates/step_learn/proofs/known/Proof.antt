@@ -13,7 +13,7 @@ use Rattle.step_learn.proofs.known.Statement.{statement}
 use Rattle.step_learn.proofs.known.Tie as tie
 
 abbrev Inv-loop : tie.InvT-loop
-Inv-loop state b tape n chains h k₀ k = (k < n → chainOf (drop 144 tape) k ≡ h) × (amongFrom state b (drop 144 tape) n k ≡ amongFrom state b (drop 144 tape) n 0)
+Inv-loop state b tape n chains h k₀ k = (k < n → chainOf (drop 152 tape) k ≡ h) × (amongFrom state b (drop 152 tape) n k ≡ amongFrom state b (drop 152 tape) n 0)
 
 abbrev μ-loop : tie.MeasureT-loop
 μ-loop state b tape n chains h k₀ k = n - k
@@ -38,14 +38,14 @@ inside : (c : tie.In-loop Inv-loop μ-loop) → c .before .loop .k < begun (c .b
 inside c = c .loop-test .taken
 
 here : (c : tie.After-same-chunk Inv-loop μ-loop) (t : Bool) → let k = turned c .before in let a = begun k .args in
-    c .same-chunk .result ≡ t → sameChunk (a .state .now) (a .b) (drop 144 (a .tape .now)) (11 * k .loop .k) ≡ t
+    c .same-chunk .result ≡ t → sameChunk (a .state .now) (a .b) (drop 152 (a .tape .now)) (11 * k .loop .k) ≡ t
 here c t e =
     let k = turned c .before in
     let a = begun k .args in
-    sym (chunk-drop (a .state .now) (a .b) 144 (a .tape .now) (11 * k .loop .k)) ∙ sym (c .same-chunk .ensures) ∙ e
+    sym (chunk-drop (a .state .now) (a .b) 152 (a .tape .now) (11 * k .loop .k)) ∙ sym (c .same-chunk .ensures) ∙ e
 
 leap : (c : tie.In-loop Inv-loop μ-loop) → let k = c .before .loop .k in let a = begun (c .before) .args in
-    Leap (drop 144 (a .tape .now)) (a .plan .facts) (getD (a .state .now) (10 * a .b + 1) 0 % 64) (k + 1) (getD (a .tape .now) (a .plan .chains + 64 + k) 0)
+    Leap (drop 152 (a .tape .now)) (a .plan .facts) (getD (a .state .now) (11 * a .b + 1) 0 % 64) (k + 1) (getD (a .tape .now) (a .plan .chains + 64 + k) 0)
 leap c =
     let s = begun (c .before) in
     rw (c .before .loop .inv .0 (inside c)) at (chain-goes-on (s .args .plan) (s .args .tape .now) (s .pre .3) (c .before .loop .k) (inside c))
@@ -80,14 +80,14 @@ shared-slice-read-k : tie.Need-shared-slice-read-k Inv-loop μ-loop
 shared-slice-read-k c = let o = sections (looks c .pre .2) in search needs
 
 cast-k : tie.Need-cast-k Inv-loop μ-loop
-cast-k c = let a = looks c .args in omega (arith, c .shared-slice-known4 .given (a .plan .chains + getD (a .state .now) (10 * a .b + 1) 0 % 64))
+cast-k c = let a = looks c .args in omega (arith, c .shared-slice-known4 .given (a .plan .chains + getD (a .state .now) (11 * a .b + 1) 0 % 64))
 
 loop-holds : tie.Need-loop-holds Inv-loop μ-loop
 loop-holds c =
     let s = looks c in
     let a = s .args in
-    let on = chain-starts (a .plan) (a .tape .now) (s .pre .3) (getD (a .state .now) (10 * a .b + 1) 0 % 64) (omega arith) in
-    (on .lands, among-leap (a .state .now) (a .b) (drop 144 (a .tape .now)) (a .plan .facts) 0 _ (omega arith) on)
+    let on = chain-starts (a .plan) (a .tape .now) (s .pre .3) (getD (a .state .now) (11 * a .b + 1) 0 % 64) (omega arith) in
+    (on .lands, among-leap (a .state .now) (a .b) (drop 152 (a .tape .now)) (a .plan .facts) 0 _ (omega arith) on)
 
 mul-same-chunk : tie.Need-mul-same-chunk Inv-loop μ-loop
 mul-same-chunk c = search needs
@@ -103,7 +103,7 @@ returns c =
     let t = turned (c .before) in
     let a = begun (t .before) .args in
     let l = t .before .loop in
-    let facts = drop 144 (a .tape .now) in
+    let facts = drop 152 (a .tape .now) in
     sym (among-here (a .state .now) (a .b) facts (a .plan .facts) (l .k) (inside t) (here (c .before) _ (c .if1 .taken)))
     ∙ l .inv .1 ∙ among-start (a .state .now) (a .b) facts (a .plan .facts)
 
@@ -131,7 +131,7 @@ loop-again c =
     let t = turned seen in
     let a = begun (t .before) .args in
     let l = t .before .loop in
-    let facts = drop 144 (a .tape .now) in
+    let facts = drop 152 (a .tape .now) in
     let on = leap t in (
       on .lands,
       among-leap (a .state .now) (a .b) facts (a .plan .facts) (l .k + 1) _ (omega (arith, inside t)) on
@@ -142,7 +142,7 @@ returns-2 : tie.Need-returns-2 Inv-loop μ-loop
 returns-2 c =
     let a = begun (c .before) .args in
     let l = c .before .loop in
-    let facts = drop 144 (a .tape .now) in
+    let facts = drop 152 (a .tape .now) in
     sym (among-end (a .state .now) (a .b) facts (a .plan .facts) (l .k) (c .loop-test .left)) ∙ l .inv .1 ∙ among-start (a .state .now) (a .b) facts (a .plan .facts)
 
 pub known-spec : {M : Type 1} → statement M

@@ -82,7 +82,7 @@ copy-into-requires : tie.Need-copy-into-requires
 copy-into-requires c κs =
     let s = start c in
     let a = s .args in
-    rw (length-set, length-set, length-set, part-long (10 * a .b + 1) 8 (a .state .now) (omega (arith, s .pre .1, s .pre .2))) (omega (arith, s .pre .0))
+    rw (length-set, length-set, length-set, part-long (11 * a .b + 1) 8 (a .state .now) (omega (arith, s .pre .1, s .pre .2))) (omega (arith, s .pre .0))
 
 same-length : tie.Need-same-length
 same-length c =
@@ -96,10 +96,10 @@ returns c =
     let a = s .args in
     let news = a .news .now in
     let state = a .state .now in
-    let slots = part (10 * a .b + 1) 8 state in
-    let whole : 10 * a .b + 1 + 8 ≤ length state = omega (arith, s .pre .1, s .pre .2) in
-    ap (λ (l : List ℕ). factsIn l (a .n + 1)) (k .copy-into .ensures ∙ row-written news (11 * a .n) (getD state (10 * a .b) 0) 0 50 slots)
-    ∙ row-more news (a .n) state (a .b) slots (part-long (10 * a .b + 1) 8 state whole) (s .pre .0) (part-get (10 * a .b + 1) 8 state)
+    let slots = part (11 * a .b + 1) 8 state in
+    let whole : 11 * a .b + 1 + 8 ≤ length state = omega (arith, s .pre .1, s .pre .2) in
+    ap (λ (l : List ℕ). factsIn l (a .n + 1)) (k .copy-into .ensures ∙ row-written news (11 * a .n) (getD state (11 * a .b) 0) 0 50 slots)
+    ∙ row-more news (a .n) state (a .b) slots (part-long (11 * a .b + 1) 8 state whole) (s .pre .0) (part-get (11 * a .b + 1) 8 state)
 
 pub write-row-spec : {M : Type 1} → statement M
 write-row-spec =

@@ -109,7 +109,7 @@ returns-2 c clock =
     let s = compared (c .before) in
     let a = s .args in
     let rule = ruleOn (a .plan) (a .tape .now) (a .k) in
-    let held = c .is-fresh .ensures rule clock (simp to-end (ap (testsIn (rowsOn (a .plan) (a .tape .now)) (176 * a .k)) (tests-at s))) in
+    let held = c .is-fresh .ensures rule clock (simp to-end (ap (testsIn (rowsOn (a .plan) (a .tape .now)) (185 * a .k)) (tests-at s))) in
     held ∙ ap (λ nine. same nine (entryOf rule (stateIn (a .state .now) clock))) (part-is (a .k) (a .table .now))
 
 pub chosen-fresh-spec : {M : Type 1} → statement M

@@ -32,7 +32,7 @@ abbrev start : tie.At-loop Inv-loop μ-loop → tie.Start Inv-loop μ-loop
 start c = c .before .before .before .before .before
 
 -- the tape has room for a row in each place of the store
-room : (c : tie.At-loop Inv-loop μ-loop) → 144 + 11 * (start c .args .plan .facts + 256) ≤ length (start c .args .tape .now)
+room : (c : tie.At-loop Inv-loop μ-loop) → 152 + 11 * (start c .args .plan .facts + 256) ≤ length (start c .args .tape .now)
 room c = let pre = start c .pre in omega (arith, follows (pre .0), sections (pre .0), pre .1)
 
 -- the types stand at the start of the tape, as long as rows are laid
@@ -44,7 +44,7 @@ like : (c : tie.At-loop Inv-loop μ-loop)
     holdable (typesOn (a .plan) (a .tape .now)) place ≡ holdable (typesOn (a .plan) (c .loop .tape)) place
 like c =
     let a = start c .args in
-    let few : a .plan .declared + 1 ≤ 144 = omega (arith, start c .pre .0 .most-declared) in
+    let few : a .plan .declared + 1 ≤ 152 = omega (arith, start c .pre .0 .most-declared) in
     ap (λ (ts : List ℕ). holdable ts (placeIn (a .store .now) (c .loop .i)))
     (sym (types-stay (a .plan .facts) (a .tape .now) (c .loop .tape) (a .store .now) (c .loop .i) (a .plan .declared + 1) few (c .loop .inv .1)))
 
