@@ -11,11 +11,11 @@ ghost use Rattle.layout.specs.StateWords.{buffersIn, stateIn};
 ghost use Rattle.layout.specs.Plans.{factsOn, headsOn, rowsOn, modelOn, Planned};
 ghost use Rattle.step_retrieve.specs.Chains.{ChainsOn};
 ghost use Rattle.fresh_step.specs.Moves.{MoveMet, placedMove, Added, Unfired};
+use layout::ACTIONS_AT;
 use layout::ENTRY_WORDS;
 use layout::HEAD_WORDS;
 use layout::Plan;
 use layout::RULE_WORDS;
-use layout::SIDE_WORDS;
 use match_best::Chosen;
 use meaning::numbers::CLOCK_FULL;
 use meaning::numbers::HALTED;
@@ -68,7 +68,7 @@ fn fire(
     }
     let heads = plan.heads;
     let actions = tape[heads + HEAD_WORDS * k + 1] as usize;
-    let o = RULE_WORDS * k + SIDE_WORDS;
+    let o = RULE_WORDS * k + ACTIONS_AT;
     step_fire::fire(state, plan, tape, o, actions, nine);
     Moved {
         kind: 0,

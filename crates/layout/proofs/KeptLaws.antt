@@ -82,21 +82,21 @@ module _ (heads heads′ words words′ : List ℕ) (n : ℕ) (laid : Laid heads
       ap (testsIn words′ (185 * j)) (same-heads (4 * j) (omega arith))
       ∙ in-same testIn test-like words′ words (185 * j) (getD heads (4 * j) 0) (λ i l. same-words i (omega (arith, laid .tests-few j h)))
 
-  actions-kept : (j : ℕ) → j < n → actionsIn words′ (185 * j + 88) (getD heads′ (4 * j + 1) 0) ≡ actionsIn words (185 * j + 88) (getD heads (4 * j + 1) 0)
+  actions-kept : (j : ℕ) → j < n → actionsIn words′ (185 * j + 97) (getD heads′ (4 * j + 1) 0) ≡ actionsIn words (185 * j + 97) (getD heads (4 * j + 1) 0)
   actions-kept j h =
-      ap (actionsIn words′ (185 * j + 88)) (same-heads (4 * j + 1) (omega arith))
-      ∙ in-same actionIn action-like words′ words (185 * j + 88) (getD heads (4 * j + 1) 0) (λ i l. same-words i (omega (arith, laid .actions-few j h)))
+      ap (actionsIn words′ (185 * j + 97)) (same-heads (4 * j + 1) (omega arith))
+      ∙ in-same actionIn action-like words′ words (185 * j + 97) (getD heads (4 * j + 1) 0) (λ i l. same-words i (omega (arith, laid .actions-few j h)))
 
   queries-kept : (j : ℕ) → j < n → queriesAt words′ (185 * j) ≡ queriesAt words (185 * j)
   queries-kept j h =
-      rw (same-words (185 * j + 176) (omega arith))
-      (rows-same (λ k. queryBy (getD words′ (185 * j + 177 + k) 0)) (λ k. queryBy (getD words (185 * j + 177 + k) 0)) 0 (getD words (185 * j + 176) 0)
-      (λ k a b. ap queryBy (same-words (185 * j + 177 + k) (omega (arith, laid .queries-few j h)))))
+      rw (same-words (185 * j + 88) (omega arith))
+      (rows-same (λ k. queryBy (getD words′ (185 * j + 89 + k) 0)) (λ k. queryBy (getD words (185 * j + 89 + k) 0)) 0 (getD words (185 * j + 88) 0)
+      (λ k a b. ap queryBy (same-words (185 * j + 89 + k) (omega (arith, laid .queries-few j h)))))
 
   pub rule-kept : (j : ℕ) → j < n → ruleIn heads′ words′ j ≡ ruleIn heads words j
   rule-kept j h =
       ap₂ (λ (u : ℕ) (qs : List Query).
-      record { utility = utilityOf u; tests = testsIn words′ (185 * j) (getD heads′ (4 * j) 0); queries = qs; actions = actionsIn words′ (185 * j + 88) (getD heads′ (4 * j + 1) 0) })
+      record { utility = utilityOf u; tests = testsIn words′ (185 * j) (getD heads′ (4 * j) 0); queries = qs; actions = actionsIn words′ (185 * j + 97) (getD heads′ (4 * j + 1) 0) })
       (same-heads (4 * j + 2) (omega arith)) (queries-kept j h)
       ∙ ap₂ (λ (ts : List Test) (as′ : List Action). record { utility = utilityOf (getD heads (4 * j + 2) 0); tests = ts; queries = queriesAt words (185 * j); actions = as′ })
       (tests-kept j h) (actions-kept j h)
@@ -111,7 +111,7 @@ module _ (heads heads′ words words′ : List ℕ) (n : ℕ) (laid : Laid heads
         heads-room = heads-fit;
         words-room = words-fit;
         tests-few = λ j h. omega (arith, same-heads (4 * j) (omega arith), laid .tests-few j h);
-        queries-few = λ j h. omega (arith, same-words (185 * j + 176) (omega arith), laid .queries-few j h);
+        queries-few = λ j h. omega (arith, same-words (185 * j + 88) (omega arith), laid .queries-few j h);
         actions-few = λ j h. omega (arith, same-heads (4 * j + 1) (omega arith), laid .actions-few j h);
         masks = λ j h b. ap (λ (mask : ℕ). bit mask b) (same-heads (4 * j + 3) (omega arith)) ∙ laid .masks j h b ∙ ap (λ (r : Rule). looksAt r b) (sym (rule-kept j h));
       }

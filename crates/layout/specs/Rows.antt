@@ -73,11 +73,11 @@ abbrev pub queriesIn : List ℕ → ℕ → ℕ → List Query
 queriesIn w o n = rowsIn (λ k. queryBy (getD w (o + k) 0)) 0 n
 
 -- ---- rules: a head of four words (tests, actions, utility, mask of the buffers that are tested or queried),
--- and 185 words (eight tests, eight actions, how many queries, eight queries)
+-- and 185 words (eight tests, how many queries, eight queries, eight actions)
 
 -- the queries of the rule whose words start at o
 abbrev pub queriesAt : List ℕ → ℕ → List Query
-queriesAt w o = queriesIn w (o + 177) (getD w (o + 176) 0)
+queriesAt w o = queriesIn w (o + 89) (getD w (o + 88) 0)
 
 abbrev pub ruleIn : List ℕ → List ℕ → ℕ → Rule
 ruleIn heads words k =
@@ -85,7 +85,7 @@ ruleIn heads words k =
       utility = utilityOf (getD heads (4 * k + 2) 0);
       tests = testsIn words (185 * k) (getD heads (4 * k) 0);
       queries = queriesAt words (185 * k);
-      actions = actionsIn words (185 * k + 88) (getD heads (4 * k + 1) 0);
+      actions = actionsIn words (185 * k + 97) (getD heads (4 * k + 1) 0);
     }
 
 abbrev pub rulesIn : List ℕ → List ℕ → ℕ → List Rule
@@ -97,6 +97,6 @@ pub record Laid (heads words : List ℕ) (n : ℕ) : Type 0 where
   pub heads-room : 4 * n ≤ length heads
   pub words-room : 185 * n ≤ length words
   pub tests-few : (k : ℕ) → k < n → getD heads (4 * k) 0 ≤ 8
-  pub queries-few : (k : ℕ) → k < n → getD words (185 * k + 176) 0 ≤ 8
+  pub queries-few : (k : ℕ) → k < n → getD words (185 * k + 88) 0 ≤ 8
   pub actions-few : (k : ℕ) → k < n → getD heads (4 * k + 1) 0 ≤ 8
   pub masks : (k : ℕ) → k < n → MaskOf (ruleIn heads words k) (getD heads (4 * k + 3) 0)

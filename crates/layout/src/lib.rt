@@ -10,22 +10,21 @@ ghost use lib.ListN.{length};
 ghost use lib.Seq.{sets};
 ghost use Rattle.layout.specs.Plans.{placesFor, planOf};
 
-// How many words stand for one thing: a row; one side of a rule, its tests or its actions, eight rows; both sides, and the rule's queries after their number;
-// a rule's head; an entry of the table.
+// How many words stand for one thing: a row; a rule, which has eight tests, how many queries, eight queries and eight actions; a rule's head; an entry of the table.
 pub const ROW_WORDS: usize = 11;
 
-pub const SIDE_WORDS: usize = 88;
-
 pub const RULE_WORDS: usize = 185;
-
-// Where in a rule's words the number of its queries stands, and the queries after it.
-pub const ASKED_AT: usize = 176;
-
-pub const QUERIES_AT: usize = 177;
 
 pub const HEAD_WORDS: usize = 4;
 
 pub const ENTRY_WORDS: usize = 9;
+
+// Where in a rule's words the number of its queries stands, the queries, and the actions; the tests stand from 0 on.
+pub const ASKED_AT: usize = 88;
+
+pub const QUERIES_AT: usize = 89;
+
+pub const ACTIONS_AT: usize = 97;
 
 // The words of a buffer, and of the eight of a state.
 pub const BUFFER_WORDS: usize = 11;

@@ -80,24 +80,24 @@ module _ (z : Sizes) (variables : ℕ) (ts : List Test) (least : ℕ) (s : List 
 
 -- ---- the loop: the n tests stand below the actions, and stay
 
-tests-kept : (w w′ : List ℕ) (o n : ℕ) → n ≤ 8 → take (o + 88) w′ ≡ take (o + 88) w → testsIn w′ o n ≡ testsIn w o n
-tests-kept w w′ o n h e = in-same testIn test-like w′ w o n (λ j l. below-get (o + 88) w w′ e j (omega arith))
+tests-kept : (w w′ : List ℕ) (o n : ℕ) → n ≤ 8 → take (o + 97) w′ ≡ take (o + 97) w → testsIn w′ o n ≡ testsIn w o n
+tests-kept w w′ o n h e = in-same testIn test-like w′ w o n (λ j l. below-get (o + 97) w w′ e j (omega arith))
 
 module _ (z : Sizes) (variables : ℕ) (s w₀ : List ℕ) (o n m : ℕ) where
   -- the actions that stand in w, and then those that are left from here
   unfoldable pub acting : List ℕ → ℕ → ℕ → ℕ → Read (List Action)
-  acting w i least at = onward (action finer z variables (testsIn w₀ o n)) (λ a. a .buffer) s m (actionsIn w (o + 88) i) i least at
+  acting w i least at = onward (action finer z variables (testsIn w₀ o n)) (λ a. a .buffer) s m (actionsIn w (o + 97) i) i least at
 
   pub acting-start : (at : ℕ) → acting w₀ 0 0 at ≡ actions finer z variables (testsIn w₀ o n) m s at
   unfolding acting rowsIn
   acting-start at = onward-start (action finer z variables (testsIn w₀ o n)) (λ a. a .buffer) s m 0 at
 
-  pub acting-end : (w : List ℕ) (i least at : ℕ) → i ≡ m → Got (actionsIn w (o + 88) m) at ≡ acting w i least at
+  pub acting-end : (w : List ℕ) (i least at : ℕ) → i ≡ m → Got (actionsIn w (o + 97) m) at ≡ acting w i least at
   unfolding acting
   acting-end w i least at e =
-      ap (λ (k : ℕ). Got (actionsIn w (o + 88) k) at) (sym e) ∙ onward-end (action finer z variables (testsIn w₀ o n)) (λ a. a .buffer) s m (actionsIn w (o + 88) i) i least at (omega arith)
+      ap (λ (k : ℕ). Got (actionsIn w (o + 97) k) at) (sym e) ∙ onward-end (action finer z variables (testsIn w₀ o n)) (λ a. a .buffer) s m (actionsIn w (o + 97) i) i least at (omega arith)
 
-  module _ (w : List ℕ) (i least at : ℕ) (h : i < m) (l : n ≤ 8) (kept : take (o + 88) w ≡ take (o + 88) w₀) (v : Walk) (a : Action)
+  module _ (w : List ℕ) (i least at : ℕ) (h : i < m) (l : n ≤ 8) (kept : take (o + 97) w ≡ take (o + 97) w₀) (v : Walk) (a : Action)
       (e : answer v a ≡ action finer z variables (testsIn w o n) least s at) where
     by-first : answer v a ≡ action finer z variables (testsIn w₀ o n) least s at
     by-first = e ∙ ap (λ (ts : List Test). action finer z variables ts least s at) (tests-kept w₀ w o n l kept)
@@ -105,14 +105,14 @@ module _ (z : Sizes) (variables : ℕ) (s w₀ : List ℕ) (o n m : ℕ) where
     pub acting-bad : (x y : ℕ) → v ≡ Bad x y → Refused x y ≡ acting w i least at
     unfolding acting
     acting-bad x y g =
-        onward-bad (action finer z variables (testsIn w₀ o n)) (λ a. a .buffer) s m (actionsIn w (o + 88) i) i least at h x y
+        onward-bad (action finer z variables (testsIn w₀ o n)) (λ a. a .buffer) s m (actionsIn w (o + 97) i) i least at h x y
         (sym (answer-bad v a x y g) ∙ by-first)
 
     -- the action stands in the next row, and what is below the row stays
-    pub acting-turn : (w′ : List ℕ) (q : ℕ) → v ≡ Next q → a ≡ actionIn w′ (o + 88 + 11 * i) → take (o + 88 + 11 * i) w′ ≡ take (o + 88 + 11 * i) w
-        → acting w′ (i + 1) (getD w′ (o + 88 + 11 * i) 0 % 8 + 1) q ≡ acting w i least at
+    pub acting-turn : (w′ : List ℕ) (q : ℕ) → v ≡ Next q → a ≡ actionIn w′ (o + 97 + 11 * i) → take (o + 97 + 11 * i) w′ ≡ take (o + 97 + 11 * i) w
+        → acting w′ (i + 1) (getD w′ (o + 97 + 11 * i) 0 % 8 + 1) q ≡ acting w i least at
     unfolding acting
     acting-turn w′ q g stands below =
-        rw (in-next actionIn action-like w w′ (o + 88) i below)
-        (onward-turn (action finer z variables (testsIn w₀ o n)) (λ a. a .buffer) s m (actionsIn w (o + 88) i) i least at h (actionIn w′ (o + 88 + 11 * i)) q
+        rw (in-next actionIn action-like w w′ (o + 97) i below)
+        (onward-turn (action finer z variables (testsIn w₀ o n)) (λ a. a .buffer) s m (actionsIn w (o + 97) i) i least at h (actionIn w′ (o + 97 + 11 * i)) q
         (ap (λ (x : Action). Got x q) (sym stands) ∙ sym (answer-next v a q g) ∙ by-first))

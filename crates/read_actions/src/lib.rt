@@ -6,8 +6,8 @@ ghost use Rattle.meaning.specs.Numbers.{finer};
 ghost use Rattle.meaning.specs.Image.{action, actions};
 ghost use Rattle.layout.specs.Walks.{answer, Within};
 ghost use Rattle.layout.specs.Rows.{sizes, actionIn, testsIn, actionsIn};
+use layout::ACTIONS_AT;
 use layout::ROW_WORDS;
-use layout::SIDE_WORDS;
 use layout::Walk;
 use meaning::numbers::BAD_BUFFER;
 
@@ -68,15 +68,15 @@ pub fn actions(
 ) -> Walk
     requires { ⌜ (length (now image) ≤ 65536) × (p ≤ 8 * length (now image)) × (buffers ≤ 8) × (variables ≤ 8) × (0 < length (now types))
         × (n ≤ 8) × (185 ≤ length (now rule)) × (m ≤ 8) ⌝ }
-    ensures { λ r. ⌜ answer r (actionsIn (now (rule .exit)) 88 m) ≡ actions finer (sizes buffers (now (types .entry))) variables (testsIn (now (rule .entry)) 0 n) m (now (image .entry)) p ⌝ }
+    ensures { λ r. ⌜ answer r (actionsIn (now (rule .exit)) 97 m) ≡ actions finer (sizes buffers (now (types .entry))) variables (testsIn (now (rule .entry)) 0 n) m (now (image .entry)) p ⌝ }
     ensures within { λ r. ⌜ Within r (8 * length (now (image .entry))) ⌝ }
-    ensures kept { λ r. ⌜ take 88 (now (rule .exit)) ≡ take 88 (now (rule .entry)) ⌝ }
+    ensures kept { λ r. ⌜ take 97 (now (rule .exit)) ≡ take 97 (now (rule .entry)) ⌝ }
 {
     let mut at = p;
     let mut least = 0;
     let mut i = 0;
     while i < m {
-        let o = SIDE_WORDS + ROW_WORDS * i;
+        let o = ACTIONS_AT + ROW_WORDS * i;
         let among = Allowed {
             least: least,
             buffers: buffers,

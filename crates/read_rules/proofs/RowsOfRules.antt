@@ -25,8 +25,8 @@ module _ (heads heads′ words words′ four own : List ℕ) (k : ℕ) (laid : L
   new-tests : (n : ℕ) → testsIn words′ (185 * k) n ≡ testsIn own 0 n
   new-tests n = let e : 185 * k + 0 ≡ 185 * k = omega arith in sym (in-drop testIn test-like words′ (185 * k) 0 (185 * k) n e) ∙ ap (λ (l : List ℕ). testsIn l 0 n) is-own
 
-  new-actions : (n : ℕ) → actionsIn words′ (185 * k + 88) n ≡ actionsIn own 88 n
-  new-actions n = sym (in-drop actionIn action-like words′ (185 * k) 88 (185 * k + 88) n refl) ∙ ap (λ (l : List ℕ). actionsIn l 88 n) is-own
+  new-actions : (n : ℕ) → actionsIn words′ (185 * k + 97) n ≡ actionsIn own 97 n
+  new-actions n = sym (in-drop actionIn action-like words′ (185 * k) 97 (185 * k + 97) n refl) ∙ ap (λ (l : List ℕ). actionsIn l 97 n) is-own
 
   new-rule : ruleIn heads′ words′ k ≡ ruleBy four own
   new-rule =

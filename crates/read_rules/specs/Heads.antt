@@ -18,7 +18,7 @@ headIn r = record { utility = r .utility; tests = r .tests; actions = r .actions
 
 -- a rule by its four words and the rows of its own
 abbrev pub ruleBy : List ℕ → List ℕ → Rule
-ruleBy four own = record { utility = utilityOf (getD four 2 0); tests = testsIn own 0 (getD four 0 0); actions = actionsIn own 88 (getD four 1 0) }
+ruleBy four own = record { utility = utilityOf (getD four 2 0); tests = testsIn own 0 (getD four 0 0); actions = actionsIn own 97 (getD four 1 0) }
 
 -- what holds of the four words of a rule that was read
 pub record RuleFits (four own : List ℕ) : Type 0 where

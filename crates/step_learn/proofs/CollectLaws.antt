@@ -69,6 +69,6 @@ module _ (p : Plan) (tape state : List ℕ) (k : ℕ) (news : List ℕ) where
   collected-none e = rw e (record { few = omega arith; rows = refl })
 
   pub collected-so : (n : ℕ) → p .learns ≡ true
-      → Collected news n (joining (chunksOf (factsOn p tape)) (cleared (actionsIn (rowsOn p tape) (185 * k + 88) (getD tape (p .heads + 4 * k + 1) 0)) 0 (buffersIn state)))
+      → Collected news n (joining (chunksOf (factsOn p tape)) (cleared (actionsIn (rowsOn p tape) (185 * k + 97) (getD tape (p .heads + 4 * k + 1) 0)) 0 (buffersIn state)))
       → Collected news n (joinsOn p tape state k)
   collected-so n e c = rw (e, actions-count p tape k) c

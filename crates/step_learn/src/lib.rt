@@ -12,13 +12,13 @@ ghost use Rattle.layout.specs.Plans.{factsOn, Planned};
 ghost use Rattle.step_retrieve.specs.Chains.{ChainsOn};
 ghost use Rattle.step_learn.specs.Joins.{joinsOn, Collected};
 ghost use Rattle.step_learn.specs.Clears.{ClearMask, gives, given};
+use layout::ACTIONS_AT;
 use layout::BUFFER_WORDS;
 use layout::FACTS_AT;
 use layout::HEAD_WORDS;
 use layout::Plan;
 use layout::ROW_WORDS;
 use layout::RULE_WORDS;
-use layout::SIDE_WORDS;
 
 // The words that what a step adds is collected in: eight rows.
 pub const NEWS_WORDS: usize = 88;
@@ -170,7 +170,7 @@ pub fn collect(news: &mut [u16], state: &[u16], plan: Plan, tape: &[u16], k: usi
     let rows = plan.rows;
     let at = plan.heads + HEAD_WORDS * k + 1;
     let m = tape[at] as usize;
-    let mask = clear_mask(&tape[rows..], RULE_WORDS * k + SIDE_WORDS, m);
+    let mask = clear_mask(&tape[rows..], RULE_WORDS * k + ACTIONS_AT, m);
     let mut n = 0;
     let mut rest = mask as u64;
     while rest != 0 {

@@ -15,11 +15,11 @@ ghost use Rattle.step_retrieve.specs.Chains.{ChainsOn};
 ghost use Rattle.step_once.specs.Done.{placed, StepMet, Joins, Unfired};
 ghost use Rattle.step_once.specs.Choosing.{ruleOn, RankedOn, HittingOn, SureOn};
 ghost use Rattle.match_rest.specs.Rest.{entryAt};
+use layout::ACTIONS_AT;
 use layout::ENTRY_WORDS;
 use layout::HEAD_WORDS;
 use layout::Plan;
 use layout::RULE_WORDS;
-use layout::SIDE_WORDS;
 use match_beds::SURE_AT;
 use match_best::Chosen;
 use meaning::numbers::CLOCK_FULL;
@@ -100,7 +100,7 @@ fn fire_step(
     }
     let heads = plan.heads;
     let actions = tape[heads + HEAD_WORDS * k + 1] as usize;
-    let o = RULE_WORDS * k + SIDE_WORDS;
+    let o = RULE_WORDS * k + ACTIONS_AT;
     let first = ENTRY_WORDS * k;
     let end = first + ENTRY_WORDS;
     let mark = step_fire::fire(state, plan, tape, o, actions, &table[first..end]);

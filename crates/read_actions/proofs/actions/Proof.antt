@@ -17,7 +17,7 @@ use Rattle.read_actions.proofs.actions.Tie as tie
 
 abbrev Inv-loop : tie.InvT-loop
 Inv-loop image p m buffers types variables rule₀ n at₀ least₀ i₀ rule at least i =
-    (i ≤ m) × (at ≤ 8 * length image) × (length rule ≡ length rule₀) × (take 88 rule ≡ take 88 rule₀)
+    (i ≤ m) × (at ≤ 8 * length image) × (length rule ≡ length rule₀) × (take 97 rule ≡ take 97 rule₀)
     × (acting (sizes buffers types) variables image rule₀ 0 n m rule i least at ≡ actions finer (sizes buffers types) variables (testsIn rule₀ 0 n) m image p)
 
 abbrev μ-loop : tie.MeasureT-loop
@@ -42,7 +42,7 @@ read c = back (known c .before .before)
 
 -- the place of the action's row, the rule's words as they came back, and the action that stands in them
 abbrev place : tie.After-action Inv-loop μ-loop → ℕ
-place c = 88 + 11 * turn c .before .loop .i
+place c = 97 + 11 * turn c .before .loop .i
 
 abbrev laid : tie.After-action Inv-loop μ-loop → List ℕ
 laid c = c .action .last .1 .1 .1 .1 .1 .0
@@ -51,8 +51,8 @@ abbrev acted : tie.After-action Inv-loop μ-loop → Action
 acted c = actionIn (laid c) (place c)
 
 -- the tests stay, whatever the action is
-tests-stay : (c : tie.After-action Inv-loop μ-loop) → take 88 (laid c) ≡ take 88 (start (turn c .before) .args .rule .now)
-tests-stay c = let l = turn c .before .loop in begin-alike 88 (place c) (l .rule) (laid c) (omega arith) (c .action .ensures .1 .1) ∙ l .inv .3
+tests-stay : (c : tie.After-action Inv-loop μ-loop) → take 97 (laid c) ≡ take 97 (start (turn c .before) .args .rule .now)
+tests-stay c = let l = turn c .before .loop in begin-alike 97 (place c) (l .rule) (laid c) (omega arith) (c .action .ensures .1 .1) ∙ l .inv .3
 
 -- ---- what is asked
 

@@ -205,7 +205,7 @@ returns-4 c =
     let same : testsIn own 0 (h .tests) ≡ own-tests t = tests-kept (tests-words t) own 0 (h .tests) few (done .actions .ensures .1 .1) in
     let on = rule-on (a .buffers) (a .types .now) (a .image .now) (a .p) _ _ (read-head d) _ _ (read-tests s) (sym (passed .before .stood .ensures) ∙ not-false _ (passed .if1 .left)) in
     record {
-      reads = ap (λ (ts : List Test). answer (done .actions .result) (aRule (h .utility) ts (actionsIn own 88 (h .actions)))) same ∙ on (done .actions .result) _ (done .actions .ensures .0);
+      reads = ap (λ (ts : List Test). answer (done .actions .result) (aRule (h .utility) ts (actionsIn own 97 (h .actions)))) same ∙ on (done .actions .result) _ (done .actions .ensures .0);
       within = done .actions .ensures .1 .0;
       fits = λ q g. record { tests-few = few; actions-few = omega (arith, f .actions-few, pre .2); mask-is = marked .tested .ensures ∙ ap testedMask (sym same) };
     }

@@ -21,7 +21,7 @@ use Rattle.step_learn.proofs.collect.Tie as tie
 
 abbrev Inv-loop : tie.InvT-loop
 Inv-loop news₀ state plan tape k rows at m mask n₀ rest₀ news n rest =
-    (length news ≡ length news₀) × Walk mask 8 (Held (chunksOf (factsOn plan tape)) (actionsIn (rowsOn plan tape) (185 * k + 88) m) state news n) rest
+    (length news ≡ length news₀) × Walk mask 8 (Held (chunksOf (factsOn plan tape)) (actionsIn (rowsOn plan tape) (185 * k + 97) m) state news n) rest
 
 abbrev μ-loop : tie.MeasureT-loop
 μ-loop news₀ state plan tape k rows at m mask n₀ rest₀ news n rest = rest
@@ -54,7 +54,7 @@ abbrev facts : tie.After-clear-mask Inv-loop μ-loop → List Chunk
 facts c = let a = begun c .args in chunksOf (factsOn (a .plan) (a .tape .now))
 
 abbrev actions : tie.After-clear-mask Inv-loop μ-loop → List Action
-actions c = let a = begun c .args in actionsIn (rowsOn (a .plan) (a .tape .now)) (185 * a .k + 88) (getD (a .tape .now) (a .plan .heads + 4 * a .k + 1) 0)
+actions c = let a = begun c .args in actionsIn (rowsOn (a .plan) (a .tape .now)) (185 * a .k + 97) (getD (a .tape .now) (a .plan .heads + 4 * a .k + 1) 0)
 
 -- ---- the mask; the buffer of a turn is cleared, so it is one of eight
 
@@ -66,7 +66,7 @@ one-of-eight c =
     let k = turned c in
     let a = begun (k .before) .args in
     let z = c .lowest .result in
-    clear-low (rowsOn (a .plan) (a .tape .now)) (185 * a .k + 88) 0 (getD (a .tape .now) (a .plan .heads + 4 * a .k + 1) 0) z
+    clear-low (rowsOn (a .plan) (a .tape .now)) (185 * a .k + 97) 0 (getD (a .tape .now) (a .plan .heads + 4 * a .k + 1) 0) z
     (sym (masked (k .before) z) ∙ walk-here (k .loop .inv .1) z (c .lowest .ensures .1))
 
 few : (c : tie.After-shared-slice-known3 Inv-loop μ-loop) → let a = looks c .args in getD (a .tape .now) (a .plan .heads + 4 * a .k + 1) 0 ≤ 8
