@@ -1,11 +1,13 @@
--- Laws of a buffer laid into its ten words.
+-- Laws of a buffer laid into its eleven words.
 use Prim.Native.Nat.{ℕ, suc, _+_, _*_, _≤_, _<_}
-use mathlib.Core.Path.{_≡_, sym, ap, ap₂, _∙_}
-use mathlib.Core.List.{List, [], _∷_, _++_, map}
+use mathlib.Core.Path.{_≡_, refl, sym, ap, ap₂, _∙_}
+use mathlib.Core.Bool.{Bool, true, false}
+use mathlib.Core.List.{List, [], _∷_, _++_, append-assoc, map}
 use native.Mathlib.Omega.{arith}
 use native.Mathlib.Numerals.{add-one}
+use lib.Dec.{eqb}
 use lib.ListN.{length, getD, set, take, length-append, length-map, List·getD-append}
-use lib.Seq.{sets, take-suc, ext-getD, getD-at, take-all}
+use lib.Seq.{sets, take-suc, ext-getD, getD-at, getD-append-add, take-all}
 use Rattle.meaning.specs.declared.Buffer.{Buffer}
 use Rattle.meaning.specs.State.{nothing}
 use Rattle.layout.specs.Rows.{rowsIn}
@@ -13,6 +15,7 @@ use Rattle.layout.specs.StateWords.{bufferIn, buffersIn}
 use Rattle.layout.proofs.WordLaws.{sets-at, sets-take, below-get}
 use Rattle.layout.proofs.RowLaws.{rows-more, rows-same, rows-get, rows-length}
 use Rattle.layout.proofs.StateLaws.{buffer-like}
+use Rattle.layout_state.specs.Words.{flagWord}
 
 -- one word more after others
 pub sets-last : (w : List ℕ) (q : ℕ) (xs : List ℕ) (y : ℕ) → set (sets w q xs) (q + length xs) y ≡ sets w q (xs ++ (y ∷ []))
@@ -27,15 +30,20 @@ rows-list n l e =
     let z : 0 + i ≡ i = omega arith in
     rows-get (λ j. getD l j 0) 0 n i 0 (omega arith) ∙ ap (λ (j : ℕ). getD l j 0) z)
 
--- type, eight slots, delay
+-- type, eight slots, delay, flag
 abbrev pub bufferWords : Buffer → List ℕ
-bufferWords b = b .isa ∷ b .slots ++ (b .delay ∷ [])
+bufferWords b = b .isa ∷ b .slots ++ (b .delay ∷ flagWord (b .error) ∷ [])
+
+-- the word of a flag is 1 exactly if it is set
+flag-back : (t : Bool) → eqb (flagWord t) 1 ≡ t
+flag-back true = refl
+flag-back false = refl
 
 -- what was laid is read back
 module _ (w : List ℕ) (k : ℕ) (b : Buffer) (e : length (b .slots) ≡ 8) (h : 11 * k + 11 ≤ length w) where
   word-laid : (j : ℕ) → j < 11 → getD (sets w (11 * k) (bufferWords b)) (11 * k + j) 0 ≡ getD (bufferWords b) j 0
   word-laid j l =
-      let ten : length (b .slots ++ (b .delay ∷ [])) ≡ 9 = omega (arith, length-append (b .slots) (b .delay ∷ [])) in
+      let ten : length (b .slots ++ (b .delay ∷ flagWord (b .error) ∷ [])) ≡ 10 = omega (arith, length-append (b .slots) (b .delay ∷ flagWord (b .error) ∷ [])) in
       sets-at w (11 * k) (bufferWords b) j (omega arith) (omega arith)
 
   slots-laid : bufferIn (sets w (11 * k) (bufferWords b)) k .slots ≡ b .slots
@@ -43,27 +51,37 @@ module _ (w : List ℕ) (k : ℕ) (b : Buffer) (e : length (b .slots) ≡ 8) (h 
       let w′ : List ℕ = sets w (11 * k) (bufferWords b) in
       rows-same (λ j. getD w′ (11 * k + 1 + j) 0) (λ j. getD (b .slots) j 0) 0 8 (λ j x y.
       let g : 11 * k + 1 + j ≡ 11 * k + suc j = omega arith in
-      ap (λ (n : ℕ). getD w′ n 0) g ∙ word-laid (suc j) (omega arith) ∙ List·getD-append (b .slots) (b .delay ∷ []) 0 j (omega arith))
+      ap (λ (n : ℕ). getD w′ n 0) g ∙ word-laid (suc j) (omega arith) ∙ List·getD-append (b .slots) (b .delay ∷ flagWord (b .error) ∷ []) 0 j (omega arith))
       ∙ rows-list 8 (b .slots) e
 
   pub buffer-laid : bufferIn (sets w (11 * k) (bufferWords b)) k ≡ b
   buffer-laid =
       let w′ : List ℕ = sets w (11 * k) (bufferWords b) in
       let z : 11 * k ≡ 11 * k + 0 = omega arith in
+      let tail : List ℕ = b .delay ∷ flagWord (b .error) ∷ [] in
+      let nine : 9 ≡ length (b .slots) + 1 = omega arith in
+      let after-slots : getD (b .slots ++ tail) 9 0 ≡ flagWord (b .error) = ap (λ (n : ℕ). getD (b .slots ++ tail) n 0) nine ∙ getD-append-add (b .slots) tail 1 0 in
       let first : getD w′ (11 * k) 0 ≡ b .isa = ap (λ (n : ℕ). getD w′ n 0) z ∙ word-laid 0 (omega arith) in
-      let last : getD w′ (11 * k + 9) 0 ≡ b .delay = word-laid 9 (omega arith) ∙ getD-at (b .slots) (b .delay) [] 0 8 e in
-      ap₂ (λ (x y : ℕ). record { isa = x; slots = bufferIn w′ k .slots; delay = y }) first last
-      ∙ ap (λ (l : List ℕ). record { isa = b .isa; slots = l; delay = b .delay }) slots-laid
+      let last : getD w′ (11 * k + 9) 0 ≡ b .delay = word-laid 9 (omega arith) ∙ getD-at (b .slots) (b .delay) (flagWord (b .error) ∷ []) 0 8 e in
+      let flag : getD w′ (11 * k + 10) 0 ≡ flagWord (b .error) = word-laid 10 (omega arith) ∙ after-slots in
+      ap₂ (λ (x y : ℕ). record { isa = x; slots = bufferIn w′ k .slots; delay = y; error = eqb (getD w′ (11 * k + 10) 0) 1 }) first last
+      ∙ ap₂ (λ (l : List ℕ) (t : Bool). record { isa = b .isa; slots = l; delay = b .delay; error = t }) slots-laid (ap (λ (n : ℕ). eqb n 1) flag ∙ flag-back (b .error))
 
--- the type first, then the slots, then the delay
-pub lay-done : (w w′ : List ℕ) (k : ℕ) (b : Buffer) → length (b .slots) ≡ 8 → 11 * k + 11 ≤ length w → w′ ≡ sets (set w (11 * k) (b .isa)) (11 * k + 1) (b .slots)
-    → (bufferIn (set w′ (11 * k + 9) (b .delay)) k ≡ b) × (take (11 * k) (set w′ (11 * k + 9) (b .delay)) ≡ take (11 * k) w)
-lay-done w w′ k b e h laid =
+-- the type first, then the slots, then the delay, then the flag
+pub lay-done : (w w′ : List ℕ) (k : ℕ) (b : Buffer) (flag : ℕ) → flag ≡ flagWord (b .error) → length (b .slots) ≡ 8 → 11 * k + 11 ≤ length w
+    → w′ ≡ sets (set w (11 * k) (b .isa)) (11 * k + 1) (b .slots)
+    → let w″ = set (set w′ (11 * k + 9) (b .delay)) (11 * k + 10) flag in (bufferIn w″ k ≡ b) × (take (11 * k) w″ ≡ take (11 * k) w)
+lay-done w w′ k b flag f e h laid =
+    let typed : List ℕ = set w (11 * k) (b .isa) in
     let n : 11 * k + 9 ≡ 11 * k + 1 + length (b .slots) = omega arith in
-    let whole : set w′ (11 * k + 9) (b .delay) ≡ sets w (11 * k) (bufferWords b) =
-    ap₂ (λ (l : List ℕ) (j : ℕ). set l j (b .delay)) laid n
-    ∙ sets-last (set w (11 * k) (b .isa)) (11 * k + 1) (b .slots) (b .delay)
-    ∙ ap (λ (j : ℕ). sets (set w (11 * k) (b .isa)) j (b .slots ++ (b .delay ∷ []))) (add-one (11 * k)) in
+    let n′ : 11 * k + 10 ≡ 11 * k + 1 + length (b .slots ++ (b .delay ∷ [])) = omega (arith, length-append (b .slots) (b .delay ∷ [])) in
+    let delayed : set w′ (11 * k + 9) (b .delay) ≡ sets typed (11 * k + 1) (b .slots ++ (b .delay ∷ [])) =
+    ap₂ (λ (l : List ℕ) (j : ℕ). set l j (b .delay)) laid n ∙ sets-last typed (11 * k + 1) (b .slots) (b .delay) in
+    let whole : set (set w′ (11 * k + 9) (b .delay)) (11 * k + 10) flag ≡ sets w (11 * k) (bufferWords b) =
+    ap₂ (λ (l : List ℕ) (j : ℕ). set l j flag) delayed n′
+    ∙ sets-last typed (11 * k + 1) (b .slots ++ (b .delay ∷ [])) flag
+    ∙ ap₂ (λ (j x : ℕ). sets typed j ((b .slots ++ (b .delay ∷ [])) ++ (x ∷ []))) (add-one (11 * k)) f
+    ∙ ap (sets typed (suc (11 * k))) (append-assoc (b .slots) (b .delay ∷ []) (flagWord (b .error) ∷ [])) in
     (ap (λ (l : List ℕ). bufferIn l k) whole ∙ buffer-laid w k b e h, ap (take (11 * k)) whole ∙ sets-take (11 * k) w (11 * k) (bufferWords b) (omega arith))
 
 -- the length of an array of structs is known of what its structs are mapped to

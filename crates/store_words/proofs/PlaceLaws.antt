@@ -1,7 +1,7 @@
 -- Laws of a place of a store: its words on their way to a row and back, and what it is judged by.
 use Prim.Native.Nat.{ℕ, zero, suc, _+_, _-_, _*_, _≤_, _<_}
 use mathlib.Core.Path.{_≡_, refl, sym, ap, ap₂, _∙_}
-use mathlib.Core.Bool.{true, false}
+use mathlib.Core.Bool.{and-true, true, false}
 use mathlib.Core.List.{List, _∷_, map}
 use native.Mathlib.Omega.{arith}
 use lib.Dec.{leb, eqb}
@@ -90,4 +90,4 @@ module _ (w : List ℕ) (i : ℕ) where
             → every (λ v. leb v 0) (stretch w (9 * i + 1 + 1 + slotCount types (getD w (9 * i + 1) 0)) (9 * i + 1 + 9)) ≡ holdable types (placeIn w i)
         holds-past e =
             rw (lt-ltb 0 (getD w (9 * i + 1) 0) some-type, lt-ltb (getD w (9 * i + 1) 0) (length types) h, sym (ap (every (λ v. leb v 4095)) slots-all) ∙ e)
-            (simp most-zero (ap (every (λ v. eqb v 0)) (slots-from (slotCount types (getD w (9 * i + 1) 0)))))
+            (simp most-zero (ap (every (λ v. eqb v 0)) (slots-from (slotCount types (getD w (9 * i + 1) 0))) ∙ sym (and-true _)))

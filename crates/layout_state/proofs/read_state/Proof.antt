@@ -1,4 +1,4 @@
--- `layout_state::read_state` meets its contract: each buffer is read from its ten words.
+-- `layout_state::read_state` meets its contract: each buffer is read from its eleven words.
 use Rattle.layout.specs.Rows.{rowsIn}
 use borrow.Author.Needs.{needs}
 use Rattle.layout_state.proofs.read_state.Statement.{statement}

@@ -1,10 +1,10 @@
--- `layout_state::well_buffer` meets its contract: the type, the values and the slots past the count are judged in the order of the definition.
+-- `layout_state::well_buffer` meets its contract: the type, the values, the slots past the count and the flag are judged in the order of the definition.
 use Prim.Native.Nat.{_*_}
 use mathlib.Core.Path.{sym, _∙_}
 use native.Mathlib.Omega.{arith}
 use lib.ListN.{getD}
 use borrow.Author.Tests.{not-true, not-false}
-use Rattle.layout_state.proofs.WellLaws.{well-type, well-values, well-past}
+use Rattle.layout_state.proofs.WellLaws.{well-type, well-values, well-past, well-flag}
 use borrow.Author.Needs.{needs}
 use Rattle.layout_state.proofs.well_buffer.Statement.{statement}
 use Rattle.layout_state.proofs.well_buffer.Tie as tie
@@ -71,9 +71,21 @@ at-most-requires-2 c κs = search needs
 
 returns-3 : tie.Need-returns-3
 returns-3 c =
-    let v = c .before .before .before in
+    let v = c .before .before .before .before in
     let a = start v .args in
-    c .at-most2 .ensures ∙ well-past (a .words .now) (a .k) (a .types .now) (search needs) (sym (v .at-most .ensures) ∙ not-false _ (c .before .before .if2 .left))
+    well-past (a .words .now) (a .k) (a .types .now) (search needs) (sym (v .at-most .ensures) ∙ not-false _ (c .before .before .before .if2 .left))
+    (sym (c .before .at-most2 .ensures) ∙ not-true _ (c .if3 .taken))
+
+flag-fits-requires : tie.Need-flag-fits-requires
+flag-fits-requires c κs = search needs
+
+returns-4 : tie.Need-returns-4
+returns-4 c =
+    let v = c .before .before .before .before .before in
+    let a = start v .args in
+    c .flag-fits .ensures
+    ∙ well-flag (a .words .now) (a .k) (a .types .now) (search needs) (sym (v .at-most .ensures) ∙ not-false _ (c .before .before .before .before .if2 .left))
+    (sym (c .before .before .at-most2 .ensures) ∙ not-false _ (c .before .if3 .left))
 
 pub well-buffer-spec : {M : Type 1} → statement M
 well-buffer-spec =
@@ -95,4 +107,6 @@ well-buffer-spec =
     add-at-most-4
     add-at-most-5
     at-most-requires-2
-    returns-3)
+    returns-3
+    flag-fits-requires
+    returns-4)

@@ -1,77 +1,21 @@
--- `layout_state::well_formed` meets its contract: the buffers that are left, judged from here on, give what all give; those past the count are nil where their words are 0.
-use Prim.Native.Nat.{_≤_, _-_}
-use mathlib.Core.Path.{_≡_, refl, sym, _∙_}
+-- `layout_state::well_formed` meets its contract: each buffer is judged, and then those past the count.
+use mathlib.Core.Path.{sym, _∙_}
 use borrow.Author.Needs.{needs}
 use borrow.Author.Tests.{not-true, not-false}
-use Rattle.meaning.specs.Base.{every}
-use Rattle.meaning.specs.State.{wellBuffer}
-use Rattle.layout.specs.Rows.{rowsIn}
-use Rattle.layout.specs.StateWords.{bufferIn, buffersIn}
-use Rattle.layout_state.proofs.AllLaws.{all-kept, all-broken, all-done}
-use Rattle.layout_state.proofs.WellLaws.{well-broken, well-rest}
 use Rattle.layout_state.proofs.well_formed.Statement.{statement}
 use Rattle.layout_state.proofs.well_formed.Tie as tie
 
-abbrev Inv-loop : tie.InvT-loop
-Inv-loop words types buffers k₀ k = (k ≤ 8) × (every (wellBuffer types) (rowsIn (bufferIn words) k (8 - k)) ≡ every (wellBuffer types) (buffersIn words))
+all-well-requires : tie.Need-all-well-requires
+all-well-requires c κs = search needs
 
-abbrev μ-loop : tie.MeasureT-loop
-μ-loop words types buffers k₀ k = 8 - k
+returns : tie.Need-returns
+returns c = rw (sym (c .before .all-well .ensures) ∙ not-true _ (c .if1 .taken))
 
--- where the code begins, from the loop on
-abbrev start : tie.At-loop Inv-loop μ-loop → tie.Start Inv-loop μ-loop
-start c = c .before .before .before
+rest-unused-requires : tie.Need-rest-unused-requires
+rest-unused-requires c κs = search needs
 
-loop-holds : tie.Need-loop-holds Inv-loop μ-loop
-loop-holds c = (search needs, refl)
-
-well-buffer-requires : tie.Need-well-buffer-requires Inv-loop μ-loop
-well-buffer-requires c κs = search needs
-
-returns : tie.Need-returns Inv-loop μ-loop
-returns c =
-    let l = c .before .before .before .loop in
-    let a = start (c .before .before .before) .args in
-    let no = sym (c .before .well-buffer .ensures) ∙ not-true _ (c .if1 .taken) in
-    well-broken (a .words .now) (a .types .now) (a .buffers) (all-broken (wellBuffer (a .types .now)) (bufferIn (a .words .now)) (l .k) 8 (search needs) no ∙ l .inv .1)
-
-add-k : tie.Need-add-k Inv-loop μ-loop
-add-k c = search needs
-
-loop-less : tie.Need-loop-less Inv-loop μ-loop
-loop-less c = search needs
-
-loop-again : tie.Need-loop-again Inv-loop μ-loop
-loop-again c =
-    let l = c .before .before .before .loop in
-    let a = start (c .before .before .before) .args in
-    let yes = sym (c .before .well-buffer .ensures) ∙ not-false _ (c .if1 .left) in
-    (search needs, all-kept (wellBuffer (a .types .now)) (bufferIn (a .words .now)) (l .k) 8 (search needs) yes ∙ l .inv .1)
-
-mul-at-most : tie.Need-mul-at-most Inv-loop μ-loop
-mul-at-most c = search needs
-
-at-most-requires : tie.Need-at-most-requires Inv-loop μ-loop
-at-most-requires c κs = search needs
-
-returns-2 : tie.Need-returns-2 Inv-loop μ-loop
-returns-2 c =
-    let l = c .before .before .loop in
-    let a = start (c .before .before) .args in
-    c .at-most .ensures ∙ well-rest (a .words .now) (a .types .now) (a .buffers) (all-done (wellBuffer (a .types .now)) (bufferIn (a .words .now)) (l .k) 8 (search needs) ∙ l .inv .1)
+returns-2 : tie.Need-returns-2
+returns-2 c = rw (sym (c .before .before .all-well .ensures) ∙ not-false _ (c .before .if1 .left)) (c .rest-unused .ensures)
 
 pub well-formed-spec : {M : Type 1} → statement M
-well-formed-spec =
-    tie.close
-    (tie.spec
-    Inv-loop
-    μ-loop
-    loop-holds
-    well-buffer-requires
-    returns
-    add-k
-    loop-less
-    loop-again
-    mul-at-most
-    at-most-requires
-    returns-2)
+well-formed-spec = tie.close (tie.spec all-well-requires returns rest-unused-requires returns-2)
