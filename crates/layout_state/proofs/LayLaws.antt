@@ -7,15 +7,16 @@ use native.Mathlib.Omega.{arith}
 use native.Mathlib.Numerals.{add-one}
 use lib.Dec.{eqb}
 use lib.ListN.{length, getD, set, take, length-append, length-map, List·getD-append}
-use lib.Seq.{sets, take-suc, ext-getD, getD-at, getD-append-add, take-all}
+use lib.Seq.{sets, getD-set-same, take-suc, ext-getD, getD-at, getD-append-add, take-all}
 use Rattle.meaning.specs.declared.Buffer.{Buffer}
 use Rattle.meaning.specs.State.{nothing}
 use Rattle.layout.specs.Rows.{rowsIn}
 use Rattle.layout.specs.StateWords.{bufferIn, buffersIn}
+use Rattle.laws.specs.BaseLaws.{by-lt}
 use Rattle.layout.proofs.WordLaws.{sets-at, sets-take, below-get}
 use Rattle.layout.proofs.RowLaws.{rows-more, rows-same, rows-get, rows-length}
 use Rattle.layout.proofs.StateLaws.{buffer-like}
-use Rattle.layout_state.specs.Words.{flagWord}
+use Rattle.layout_state.specs.Words.{flagWord, Flags}
 
 -- one word more after others
 pub sets-last : (w : List ℕ) (q : ℕ) (xs : List ℕ) (y : ℕ) → set (sets w q xs) (q + length xs) y ≡ sets w q (xs ++ (y ∷ []))
@@ -84,6 +85,10 @@ lay-done w w′ k b flag f e h laid =
     ∙ ap (sets typed (suc (11 * k))) (append-assoc (b .slots) (b .delay ∷ []) (flagWord (b .error) ∷ [])) in
     (ap (λ (l : List ℕ). bufferIn l k) whole ∙ buffer-laid w k b e h, ap (take (11 * k)) whole ∙ sets-take (11 * k) w (11 * k) (bufferWords b) (omega arith))
 
+-- the last word written is the flag's
+pub flag-laid : (w : List ℕ) (k flag : ℕ) (error : Bool) → flag ≡ flagWord error → 11 * k + 11 ≤ length w → getD (set w (11 * k + 10) flag) (11 * k + 10) 0 ≤ 1
+flag-laid w k flag error e h = rw (getD-set-same w (11 * k + 10) flag 0 (omega arith), e) (elim error as (λ t. flagWord t ≤ 1) [ true ↦ omega arith | false ↦ omega arith ])
+
 -- the length of an array of structs is known of what its structs are mapped to
 pub length-mapped : (A B : Type 0) (f : A → B) (l : List A) (n : ℕ) → length (map f l) ≡ n → length l ≡ n
 length-mapped A B f l n e = sym (length-map l f) ∙ e
@@ -99,6 +104,11 @@ lay-more w w′ k bs h before made kept =
     (ap (bufferIn w′) z ∙ made)
     ∙ sym (take-suc bs k nothing h)
     ∙ ap (λ (n : ℕ). take n bs) (sym (add-one k))
+
+-- and its flag
+pub flags-more : (w w′ : List ℕ) (k : ℕ) → Flags w k → getD w′ (11 * k + 10) 0 ≤ 1 → take (11 * k) w′ ≡ take (11 * k) w → Flags w′ (k + 1)
+flags-more w w′ k before flag kept j h =
+    by-lt j k (λ l. rw (below-get (11 * k) w w′ kept (11 * j + 10) (omega arith)) (before j l)) (λ l. let e : j ≡ k = omega arith in rw e flag)
 
 -- the buffers of a state are eight
 pub lay-end : (w : List ℕ) (k : ℕ) (bs : List Buffer) → k ≡ 8 → length bs ≡ 8 → rowsIn (bufferIn w) 0 k ≡ take k bs → buffersIn w ≡ bs

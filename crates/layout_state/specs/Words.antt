@@ -1,5 +1,5 @@
 -- A buffer and a stretch of words, and whether the state in words is well formed.
-use Prim.Native.Nat.{ℕ, _+_, _-_}
+use Prim.Native.Nat.{ℕ, _+_, _-_, _*_, _≤_, _<_}
 use mathlib.Core.Path.{_≡_, refl}
 use mathlib.Core.Bool.{Bool, _&&_}
 use mathlib.Core.List.{List, map}
@@ -15,6 +15,10 @@ use Rattle.layout.specs.StateWords.{buffersIn, stateIn}
 -- the word of a flag: 1 if it is set
 abbrev pub flagWord : Bool → ℕ
 flagWord error = if error then 1 else 0
+
+-- the words of the first n flags are 0 or 1
+abbrev pub Flags : List ℕ → ℕ → Type 0
+Flags w n = (k : ℕ) → k < n → getD w (11 * k + 10) 0 ≤ 1
 
 -- the buffer that eleven words from o on hold: type, eight slots, delay, flag
 abbrev pub bufferAt : List ℕ → ℕ → Buffer

@@ -2,11 +2,11 @@
 ghost use mathlib.Core.Path.{_≡_};
 ghost use Prim.Native.Nat.{_+_, _*_, _≤_};
 ghost use lib.Dec.{leb};
-ghost use lib.ListN.{length, take};
+ghost use lib.ListN.{length, getD, take};
 ghost use Rattle.meaning.specs.Base.{every};
 ghost use Rattle.meaning.specs.State.{isNil, flagFits, wellBuffer, isUnused};
 ghost use Rattle.layout.specs.StateWords.{bufferIn, buffersIn, stateIn};
-ghost use Rattle.layout_state.specs.Words.{flagWord, bufferAt, stretch, allWell, restUnused, wellIn};
+ghost use Rattle.layout_state.specs.Words.{flagWord, Flags, bufferAt, stretch, allWell, restUnused, wellIn};
 use layout::BUFFER_WORDS;
 use meaning::Buffer;
 use meaning::State;
@@ -22,6 +22,7 @@ fn flag_word(error: bool) -> u16
 fn lay_buffer(buffer: Buffer, words: &mut [u16], k: usize)
     requires { ⌜ 11 * k + 11 ≤ length (now words) ⌝ }
     ensures { λ _. ⌜ (bufferIn (now (words .exit)) k ≡ buffer) × (take (11 * k) (now (words .exit)) ≡ take (11 * k) (now (words .entry))) ⌝ }
+    ensures flag { λ _. ⌜ getD (now (words .exit)) (11 * k + 10) 0 ≤ 1 ⌝ }
 {
     let o = BUFFER_WORDS * k;
     let slots = buffer.slots;
@@ -39,6 +40,7 @@ fn lay_buffer(buffer: Buffer, words: &mut [u16], k: usize)
 pub fn lay_state(state: State, words: &mut [u16])
     requires { ⌜ 88 ≤ length (now words) ⌝ }
     ensures { λ _. ⌜ buffersIn (now (words .exit)) ≡ state .buffers ⌝ }
+    ensures flags { λ _. ⌜ Flags (now (words .exit)) 8 ⌝ }
 {
     let mut k = 0;
     while k < 8 {

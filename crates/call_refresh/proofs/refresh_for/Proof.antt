@@ -89,7 +89,7 @@ returns c =
     let l = laid (argued j) in
     let a = start l .args in
     refresh-ill (a .state) (a .mark) (a .table .now) (modelOn (a .plan) (a .tape .now)) _ (a .plan .buffers) (words l) (j .well-formed .result) (j .well-formed .ensures)
-    (l .lay-state .ensures) refl refl
+    (l .lay-state .ensures .0) refl refl
     (not-true _ (c .before .if1 .taken)) (c .no-refresh .result) (c .no-refresh .ensures)
 
 mark-allowed-requires : tie.Need-mark-allowed-requires
@@ -106,7 +106,7 @@ returns-2 c =
     let l = laid (argued j) in
     let a = start l .args in
     refresh-mark (a .state) (a .mark) (a .table .now) (modelOn (a .plan) (a .tape .now)) _ (a .plan .buffers) (words l) (j .well-formed .result)
-    (j .well-formed .ensures) (l .lay-state .ensures) refl refl
+    (j .well-formed .ensures) (l .lay-state .ensures .0) refl refl
     (not-false _ (m .before .if1 .left)) (m .mark-allowed .result) (m .mark-allowed .ensures) (not-true _ (c .before .if2 .taken)) (c .no-refresh2 .result) (c .no-refresh2 .ensures)
 
 cast-n : tie.Need-cast-n
@@ -157,7 +157,7 @@ returns-3 c =
     let l = laid (argued j) in
     let a = start l .args in
     refresh-done (a .state) (a .mark) (a .table .now) (modelOn (a .plan) (a .tape .now)) _ (a .plan .buffers) (words l) (j .well-formed .result)
-    (j .well-formed .ensures) (l .lay-state .ensures) refl refl
+    (j .well-formed .ensures) (l .lay-state .ensures .0) refl refl
     (not-false _ (m .before .if1 .left)) (m .mark-allowed .result) (m .mark-allowed .ensures) (not-false _ (g .before .before .if2 .left))
     (rulesOn (a .plan) (a .tape .now)) refl (r .refresh .result) (r .refresh .last .0) (λ clock. simp to-end at (r .refresh .ensures .0 clock)) (simp to-end at (r .refresh .ensures .1))
 

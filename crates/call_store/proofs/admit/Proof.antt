@@ -68,7 +68,7 @@ returns c =
     let j = c .before in
     let l = laid (argued j) in
     let a = start l .args in
-    not-formed (a .plan) (a .tape .now) (a .state) _ (j .well-formed .result) (j .well-formed .ensures) (l .lay-state .ensures) (a .store .now) (not-true _ (c .if1 .taken))
+    not-formed (a .plan) (a .tape .now) (a .state) _ (j .well-formed .result) (j .well-formed .ensures) (l .lay-state .ensures .0) (a .store .now) (not-true _ (c .if1 .taken))
 
 take-in-requires : tie.Need-take-in-requires
 take-in-requires c κs = search needs
@@ -86,7 +86,7 @@ returns-2 c =
     let j = e .before in
     let l = laid (argued j) in
     let a = start l .args in
-    not-taken (a .plan) (a .tape .now) (a .state) _ (j .well-formed .result) (j .well-formed .ensures) (l .lay-state .ensures) (a .store .now) (not-false _ (e .if1 .left)) (t .take-in .result) _
+    not-taken (a .plan) (a .tape .now) (a .state) _ (j .well-formed .result) (j .well-formed .ensures) (l .lay-state .ensures .0) (a .store .now) (not-false _ (e .if1 .left)) (t .take-in .result) _
     (t .take-in .ensures) (not-true _ (c .if2 .taken))
 
 same-length-5 : tie.Need-same-length-5
@@ -102,7 +102,7 @@ returns-3 c =
     let j = e .before in
     let l = laid (argued j) in
     let a = start l .args in
-    both-taken (a .plan) (a .tape .now) (a .state) _ (j .well-formed .result) (j .well-formed .ensures) (l .lay-state .ensures) (a .store .now) (not-false _ (e .if1 .left)) (t .take-in .result) _
+    both-taken (a .plan) (a .tape .now) (a .state) _ (j .well-formed .result) (j .well-formed .ensures) (l .lay-state .ensures .0) (a .store .now) (not-false _ (e .if1 .left)) (t .take-in .result) _
     (t .take-in .ensures) (not-false _ (c .before .if2 .left))
 
 pub admit-spec : {M : Type 1} → statement M

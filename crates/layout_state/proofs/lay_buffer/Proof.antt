@@ -3,10 +3,10 @@ use Prim.Native.Nat.{_≤_, _-_, _*_, _+_}
 use mathlib.Core.Path.{_≡_, refl, _∙_}
 use borrow.Author.Needs.{needs}
 use native.Mathlib.Omega.{arith}
-use lib.ListN.{length, drop, length-set}
+use lib.ListN.{length, drop, set, length-set}
 use lib.Seq.{sets}
 use Rattle.layout.proofs.WordLaws.{sets-step, sets-end}
-use Rattle.layout_state.proofs.LayLaws.{lay-done}
+use Rattle.layout_state.proofs.LayLaws.{lay-done, flag-laid}
 use Rattle.layout_state.proofs.lay_buffer.Statement.{statement}
 use Rattle.layout_state.proofs.lay_buffer.Tie as tie
 
@@ -95,9 +95,12 @@ same-length c = simp length-set (long (c .before .before))
 returns : tie.Need-returns Inv-loop μ-loop
 returns c =
     let l = c .before .before .loop in
-    let a = start (c .before .before) .args in
-    lay-done (a .words .now) (l .words) (a .k) (a .buffer) _ (c .flag-word .ensures) (l .inv .1) (search needs)
-    (sets-end (l .words) (11 * a .k + 1 + l .i) (l .i) _ (omega (arith, l .inv .1)) ∙ l .inv .3)
+    let a = start (c .before .before) .args in (
+      lay-done (a .words .now) (l .words) (a .k) (a .buffer) _ (c .flag-word .ensures) (l .inv .1) (search needs)
+          (sets-end (l .words) (11 * a .k + 1 + l .i) (l .i) _ (omega (arith, l .inv .1)) ∙ l .inv .3),
+      flag-laid (set (l .words) (11 * a .k + 9) (a .buffer .delay)) (a .k) _ (a .buffer .error) (c .flag-word .ensures)
+          (omega (arith, length-set (l .words) (11 * a .k + 9) (a .buffer .delay), long (c .before .before))),
+    )
 
 pub lay-buffer-spec : {M : Type 1} → statement M
 lay-buffer-spec =
