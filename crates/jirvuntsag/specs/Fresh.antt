@@ -13,7 +13,7 @@ use Rattle.meaning.specs.Fresh.{FreshRan, freshTraceOf, freshOf}
 use Rattle.step_note.specs.Events.{inscribed}
 use Rattle.jirvuntsag.specs.Words.{stateOf, wordsOf, fits}
 use Rattle.jirvuntsag.specs.Told.{answer, unfitAnswer}
-use Rattle.jirvuntsag.specs.Back.{unfit}
+use Rattle.jirvuntsag.specs.Back.{TooLarge, unfit}
 
 -- the answer and the state's words, as a call leaves them
 pub record FreshTold : Type 0 where
@@ -45,9 +45,9 @@ pub fresh-events-once : (image state : List ℕ) (steps : ℕ) (events noted not
     → noted ≡ inscribed events 0 (freshEventsIn image state steps) → noted′ ≡ inscribed events 0 (freshEventsIn image state steps) → noted ≡ noted′
 fresh-events-once image state steps events noted noted′ p q = p ∙ sym q
 
--- ---- where the image is accepted, a word over 65,535 after the clock makes the call answer 6, count 0 and position 0, with the words as they were handed in, and no event
+-- ---- where the image is accepted, a word too large for its field makes the call answer 6, count 0 and position 0, with the words as they were handed in, and no event
 
-pub fresh-words-back : (image w : List ℕ) (m : Model) (at : ℕ) → decode image ≡ Got m at → (k : ℕ) → 65535 < getD (drop 1 w) k 0 → (steps : ℕ)
+pub fresh-words-back : (image w : List ℕ) (m : Model) (at : ℕ) → decode image ≡ Got m at → TooLarge w → (steps : ℕ)
     → (freshIn image w steps ≡ freshTold (answer ill-formed 0 0) w) × (freshEventsIn image w steps ≡ [])
 unfolding freshIn freshEventsIn
-fresh-words-back image w m at e k h steps = (rw (unfit w k h, e), rw (unfit w k h))
+fresh-words-back image w m at e h steps = (rw (unfit w h, e), rw (unfit w h))

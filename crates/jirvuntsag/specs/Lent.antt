@@ -15,7 +15,7 @@ use Rattle.meaning.specs.Fresh.{freshTraceLent, freshLent}
 use Rattle.step_note.specs.Events.{inscribed}
 use Rattle.jirvuntsag.specs.Words.{stateOf, fits}
 use Rattle.jirvuntsag.specs.Told.{answer, unfitAnswer, Told, told, toldRun}
-use Rattle.jirvuntsag.specs.Back.{unfit}
+use Rattle.jirvuntsag.specs.Back.{TooLarge, unfit}
 use Rattle.jirvuntsag.specs.Fresh.{FreshTold, freshTold, toldFresh}
 
 -- what a call leaves, and the words of the store beside it
@@ -71,15 +71,15 @@ pub fresh-lent-events-once : (image state : List ℕ) (steps lent : ℕ) (store 
     → noted′ ≡ inscribed events 0 (freshLentEventsIn image state steps lent store) → noted ≡ noted′
 fresh-lent-events-once image state steps lent store events noted noted′ p q = p ∙ sym q
 
--- ---- where the image is accepted, a word over 65,535 after the clock makes the calls answer 6, count 0 and position 0, with all words as they were handed in, and no event
+-- ---- where the image is accepted, a word too large for its field makes the calls answer 6, count 0 and position 0, with all words as they were handed in, and no event
 
-module _ (image w : List ℕ) (m : Model) (at k : ℕ) (h : 65535 < getD (drop 1 w) k 0) (steps lent : ℕ) (store : List ℕ) where
+module _ (image w : List ℕ) (m : Model) (at : ℕ) (h : TooLarge w) (steps lent : ℕ) (store : List ℕ) where
   pub lent-words-back : (table : List ℕ) → accepted image table ≡ Got m at
       → (runLentIn image w table steps lent store ≡ toldWith (told (answer ill-formed 0 0) w table) store) × (lentEventsIn image w table steps lent store ≡ [])
   unfolding runLentIn lentEventsIn
-  lent-words-back table e = (rw (unfit w k h, e), rw (unfit w k h))
+  lent-words-back table e = (rw (unfit w h, e), rw (unfit w h))
 
   pub fresh-lent-words-back : decode image ≡ Got m at
       → (freshLentIn image w steps lent store ≡ toldWith (freshTold (answer ill-formed 0 0) w) store) × (freshLentEventsIn image w steps lent store ≡ [])
   unfolding freshLentIn freshLentEventsIn
-  fresh-lent-words-back e = (rw (unfit w k h, e), rw (unfit w k h))
+  fresh-lent-words-back e = (rw (unfit w h, e), rw (unfit w h))

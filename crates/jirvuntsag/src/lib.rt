@@ -1,17 +1,18 @@
 // The library for C: open, run, trace and refresh, and the runs without a table, over plain words (include/jirvuntsag.h).
 // Each takes whatever it is handed, and none has a `requires`.
 ghost use mathlib.Core.Path.{_≡_};
-ghost use mathlib.Core.Bool.{true};
+ghost use mathlib.Core.Bool.{true, false};
 ghost use mathlib.Core.List.{_∷_};
 ghost use Prim.Native.Nat.{_≤_};
 ghost use lib.ListN.{length, getD, drop};
 ghost use Rattle.meaning.specs.Base.{if_then_else_};
 ghost use Rattle.step_note.specs.Events.{inscribed};
-ghost use Rattle.jirvuntsag.specs.Words.{wordsOf, fits, unfitState, givenBy};
+ghost use Rattle.jirvuntsag.specs.Words.{wordsOf, narrows, flagsFit, fits, unfitState, givenBy};
 ghost use Rattle.jirvuntsag.specs.Told.{told, lengthIn, openIn, runIn, refreshIn, eventsIn};
 ghost use Rattle.jirvuntsag.specs.Told.{answer as Told·answer};
 ghost use Rattle.jirvuntsag.specs.Fresh.{freshTold, freshIn, freshEventsIn};
 ghost use Rattle.jirvuntsag.specs.Lent.{toldWith, runLentIn, lentEventsIn, freshLentIn, freshLentEventsIn};
+use layout::BUFFER_WORDS;
 use layout::STATE_WORDS;
 use meaning::Buffer;
 use meaning::State;
@@ -38,6 +39,7 @@ fn unfit_state() -> State
         isa: 0,
         slots: [65535; 8],
         delay: 0,
+        error: false,
     };
     State {
         buffers: [buffer; 8],
@@ -45,10 +47,21 @@ fn unfit_state() -> State
     }
 }
 
+// A state that was not taken, with the unfit one in its place.
+fn unfit() -> Handed
+    ensures { λ r. ⌜ (r .fitting ≡ false) × (r .state ≡ unfitState) ⌝ }
+{
+    let state = unfit_state();
+    Handed {
+        fitting: false,
+        state: state,
+    }
+}
+
 // The words past the clock in 16 bits, and whether each has room there.
 fn narrow(words: &[u32], buffers: &mut [u16]) -> bool
     requires { ⌜ (length (now words) ≡ 89) × (length (now buffers) ≡ 88) ⌝ }
-    ensures { λ r. ⌜ (r ≡ fits (now (words .entry))) × (r ≡ true → now (buffers .exit) ≡ drop 1 (now (words .entry))) ⌝ }
+    ensures { λ r. ⌜ (r ≡ narrows (now (words .entry))) × (r ≡ true → now (buffers .exit) ≡ drop 1 (now (words .entry))) ⌝ }
 {
     let mut i = 0;
     while i < 88 {
@@ -62,7 +75,22 @@ fn narrow(words: &[u32], buffers: &mut [u16]) -> bool
     true
 }
 
-// Eighty words of 16 bits, after the clock.
+// Whether each error flag is 0 or 1.
+fn flags_fit(words: &[u32]) -> bool
+    requires { ⌜ length (now words) ≡ 89 ⌝ }
+    ensures { λ r. ⌜ r ≡ flagsFit (now (words .entry)) ⌝ }
+{
+    let mut b = 0;
+    while b < 8 {
+        if 1 < words[BUFFER_WORDS * b + 11] {
+            return false;
+        }
+        b += 1;
+    }
+    true
+}
+
+// 88 words of 16 bits, after the clock.
 fn widen(buffers: &[u16], words: &mut [u32])
     requires { ⌜ (length (now buffers) ≡ 88) × (length (now words) ≡ 89) ⌝ }
     ensures { λ _. ⌜ now (words .exit) ≡ getD (now (words .entry)) 0 0 ∷ now (buffers .entry) ⌝ }
@@ -81,11 +109,10 @@ fn given(words: &[u32]) -> Handed
 {
     let mut buffers = [0u16; STATE_WORDS];
     if !narrow(words, &mut buffers) {
-        let unfit = unfit_state();
-        return Handed {
-            fitting: false,
-            state: unfit,
-        };
+        return unfit();
+    }
+    if !flags_fit(words) {
+        return unfit();
     }
     let state = layout_state::read_state(&buffers, words[0]);
     Handed {

@@ -1,4 +1,4 @@
--- `jirvuntsag::lay` meets its contract: the clock stands before the buffers' eighty words.
+-- `jirvuntsag::lay` meets its contract: the clock stands before the buffers' 88 words.
 use Rattle.jirvuntsag.proofs.WordLaws.{lay-done}
 use borrow.Author.Needs.{needs}
 use Rattle.jirvuntsag.proofs.lay.Statement.{statement}
@@ -27,7 +27,7 @@ returns c =
     let w = c .before .before in
     let l = w .before .before .before .before in
     let a = l .before .before .before .args in
-    lay-done (a .state) (a .words .now) (w .widen .last .1 .0) (l .lay-state .last .1 .0) (search needs) (l .lay-state .ensures) (w .widen .ensures)
+    lay-done (a .state) (a .words .now) (w .widen .last .1 .0) (l .lay-state .last .1 .0) (search needs) (l .lay-state .ensures .1) (l .lay-state .ensures .0) (w .widen .ensures)
 
 pub lay-spec : {M : Type 1} → statement M
 lay-spec =

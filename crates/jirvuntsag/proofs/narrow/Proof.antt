@@ -2,7 +2,7 @@
 use Prim.Native.Nat.{_≤_, _-_}
 use mathlib.Core.Path.{_≡_, refl}
 use lib.ListN.{length, take, drop}
-use Rattle.jirvuntsag.specs.Words.{fits}
+use Rattle.jirvuntsag.specs.Words.{narrows}
 use Rattle.jirvuntsag.proofs.WordLaws.{fitsFrom, fits-on, fits-not, fits-end, narrow-on, narrow-end}
 use borrow.Author.Needs.{needs}
 use Rattle.jirvuntsag.proofs.narrow.Statement.{statement}
@@ -15,7 +15,7 @@ abbrev μ-loop : tie.MeasureT-loop
 μ-loop words buffers₀ i₀ buffers i = 88 - i
 
 loop-holds : tie.Need-loop-holds Inv-loop μ-loop
-unfolding fits
+unfolding narrows
 loop-holds c = (search needs, search needs, refl, refl)
 
 add-word : tie.Need-add-word Inv-loop μ-loop
