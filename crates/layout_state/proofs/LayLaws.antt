@@ -36,7 +36,7 @@ abbrev pub bufferWords : Buffer → List ℕ
 bufferWords b = b .isa ∷ b .slots ++ (b .delay ∷ flagWord (b .error) ∷ [])
 
 -- the word of a flag is 1 exactly if it is set
-flag-back : (t : Bool) → eqb (flagWord t) 1 ≡ t
+pub flag-back : (t : Bool) → eqb (flagWord t) 1 ≡ t
 flag-back true = refl
 flag-back false = refl
 

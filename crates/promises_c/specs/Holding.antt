@@ -29,11 +29,11 @@ use Rattle.promises_c.specs.Proofs.Lent as lending
 
 -- The words of a state of the machine are 89, each fits its field, and they hold that state.
 pub words-of-state : (s : State) → Machine s → (length (wordsOf s) ≡ 89) × (fits (wordsOf s) ≡ true) × (stateOf (wordsOf s) ≡ s)
-words-of-state s m = (back.eighty-one s m, back.words-fit s m, back.state-back s m)
+words-of-state s m = (back.all-words s m, back.words-fit s m, back.state-back s m)
 
--- 89 words are the words of the state that they hold, and if each fits its field that is a state of the machine.
-pub state-of-words : (w : List ℕ) → length w ≡ 89 → wordsOf (stateOf w) ≡ w
-state-of-words w l = back.words-back w l
+-- 89 words of which each fits its field are the words of the state that they hold, and that is a state of the machine.
+pub state-of-words : (w : List ℕ) → length w ≡ 89 → fits w ≡ true → wordsOf (stateOf w) ≡ w
+state-of-words w l f = back.words-back w l f
 
 pub fitting-state : (w : List ℕ) → fits w ≡ true → getD w 0 0 ≤ largest → Machine (stateOf w)
 fitting-state w f c = back.state-fits w f c

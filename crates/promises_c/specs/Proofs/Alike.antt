@@ -287,7 +287,7 @@ module _ (image w : List ℕ) (steps : ℕ) (lent : Option (List ℕ)) (table : 
   ends-told n at p l f e =
       fit-run image w table steps lent f
       ∙ ap₂ (λ (at : ℕ) (x : Run Going). toldRun (ranBy at x)) (same-place image table ∙ p) e
-      ∙ ap (λ (x : List ℕ). told (answer n 0 at) x table) (words-back w l)
+      ∙ ap (λ (x : List ℕ). told (answer n 0 at) x table) (words-back w l f)
 
   -- ---- by what the image is
 

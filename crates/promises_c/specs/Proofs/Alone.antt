@@ -117,7 +117,7 @@ module _ (image w : List ℕ) (steps : ℕ) (lent : Option (List ℕ)) where
         by-fits w
         (λ f.
         record {
-          words-stay = ap (λ (x : FreshTold). x .words) (fit-fresh image w steps lent f) ∙ ap (λ (x : FreshRan). wordsOf (x .state)) (fit-refused f) ∙ words-back w l;
+          words-stay = ap (λ (x : FreshTold). x .words) (fit-fresh image w steps lent f) ∙ ap (λ (x : FreshRan). wordsOf (x .state)) (fit-refused f) ∙ words-back w l f;
           none-counted =
               ap (λ (x : FreshTold). countIn (x .answered)) (fit-fresh image w steps lent f)
               ∙ none-of (run .number) (run .made) (run .position) (small image (stateOf w) steps lent) (ap (λ (x : FreshRan). x .made) (fit-refused f));

@@ -5,8 +5,8 @@ use mathlib.Core.List.{List, [], _∷_, _++_}
 use Prim.Native.Nat.{ℕ, zero, suc, _+_, _*_, _≤_, _<_}
 use native.Mathlib.Nat.{zero-add, add-zero}
 use native.Mathlib.Omega.{arith}
-use borrow.Author.Tests.{eqb-true}
-use lib.Dec.{eqb}
+use borrow.Author.Tests.{eqb-true, leb-true}
+use lib.Dec.{eqb, leb}
 use lib.ListN.{length, getD, drop, length-append, List·getD-append, List·getD-eq-default}
 use lib.Seq.{getD-drop, getD-append-add, getD-append-seam}
 use Rattle.meaning.specs.declared.Buffer.{Buffer}
@@ -17,7 +17,10 @@ use Rattle.meaning.specs.Step.{largest}
 use Rattle.laws.specs.BaseLaws.{and-left, and-right, every-append, by-lt}
 use Rattle.layout.specs.Rows.{rowsIn}
 use Rattle.layout.specs.StateWords.{bufferIn, buffersIn}
-use Rattle.jirvuntsag.specs.Words.{stateOf, bufferWords, buffersWords, wordsOf, fits}
+use Rattle.layout_state.specs.Words.{flagWord, Flags}
+use Rattle.layout_state.proofs.LayLaws.{flag-back}
+use Rattle.jirvuntsag.specs.Words.{stateOf, bufferWords, buffersWords, wordsOf, narrows, flagAt, flagsFit, fits}
+use Rattle.jirvuntsag.proofs.WordLaws.{words-in}
 use Rattle.promises.specs.Words.{isWord, isBuffer, Machine}
 
 and-true : (a b : Bool) → a ≡ true → b ≡ true → (a && b) ≡ true
@@ -37,6 +40,23 @@ rows-every : {A : Type 0} (p : A → Bool) (f : ℕ → A) → ((k : ℕ) → p 
 unfolding rowsIn
 rows-every p f h i zero = refl
 rows-every p f h i (suc n) = and-true (p (f i)) (every p (rowsIn f (i + 1) n)) (h i) (rows-every p f h (i + 1) n)
+
+-- of rows that are so many
+rows-each : {A : Type 0} (p : A → Bool) (f : ℕ → A) (i n : ℕ) → ((k : ℕ) → k < n → p (f (i + k)) ≡ true) → every p (rowsIn f i n) ≡ true
+unfolding rowsIn
+rows-each p f i zero h = refl
+rows-each p f i (suc n) h =
+    let z : i + 0 ≡ i = omega arith in
+    and-true (p (f i)) (every p (rowsIn f (i + 1) n)) (rw z at (h 0 (omega arith)))
+    (rows-each p f (i + 1) n (λ k l. let e : i + suc k ≡ i + 1 + k = omega arith in rw e at (h (suc k) (omega arith))))
+
+each-row : {A : Type 0} (p : A → Bool) (f : ℕ → A) (i n : ℕ) → every p (rowsIn f i n) ≡ true → (k : ℕ) → k < n → p (f (i + k)) ≡ true
+unfolding rowsIn
+each-row p f i zero e k l = absurd (omega arith)
+each-row p f i (suc n) e zero l = let z : i + 0 ≡ i = omega arith in rw z (and-left (p (f i)) (every p (rowsIn f (i + 1) n)) e)
+each-row p f i (suc n) e (suc k) l =
+    let z : i + suc k ≡ i + 1 + k = omega arith in
+    rw z (each-row p f (i + 1) n (and-right (p (f i)) (every p (rowsIn f (i + 1) n)) e) k (omega arith))
 
 rows-long : {A : Type 0} (f : ℕ → A) (i n : ℕ) → length (rowsIn f i n) ≡ n
 unfolding rowsIn
@@ -62,33 +82,36 @@ parts b e =
       delay-word = and-right (every isWord (b .slots)) (isWord (b .delay)) q;
     }
 
-ten : (b : Buffer) → length (b .slots) ≡ 8 → length (bufferWords b) ≡ 10
-ten b e = ap suc (length-append (b .slots) (b .delay ∷ []) ∙ omega arith)
+eleven : (b : Buffer) → length (b .slots) ≡ 8 → length (bufferWords b) ≡ 11
+eleven b e = ap suc (length-append (b .slots) (b .delay ∷ flagWord (b .error) ∷ []) ∙ omega arith)
 
 -- word j of buffer k stands at 11 * k + j
 word-at : (bs : List Buffer) → every isBuffer bs ≡ true → (k : ℕ) → k < length bs → (j : ℕ) → j < 11
     → getD (buffersWords bs) (11 * k + j) 0 ≡ getD (bufferWords (getD bs k nothing)) j 0
 word-at [] h k l j s = absurd (omega arith)
 word-at (b ∷ bs) h zero l j s =
-    let n : length (bufferWords b) ≡ 10 = ten b (parts b (and-left (isBuffer b) (every isBuffer bs) h) .eight-slots) in
+    let n : length (bufferWords b) ≡ 11 = eleven b (parts b (and-left (isBuffer b) (every isBuffer bs) h) .eight-slots) in
     ap (λ (i : ℕ). getD (bufferWords b ++ buffersWords bs) i 0) (zero-add j) ∙ List·getD-append (bufferWords b) (buffersWords bs) 0 j (omega arith)
 word-at (b ∷ bs) h (suc k) l j s =
-    let n : length (bufferWords b) ≡ 10 = ten b (parts b (and-left (isBuffer b) (every isBuffer bs) h) .eight-slots) in
+    let n : length (bufferWords b) ≡ 11 = eleven b (parts b (and-left (isBuffer b) (every isBuffer bs) h) .eight-slots) in
     let at : 11 * suc k + j ≡ length (bufferWords b) + (11 * k + j) = omega arith in
     ap (λ (i : ℕ). getD (bufferWords b ++ buffersWords bs) i 0) at ∙ getD-append-add (bufferWords b) (buffersWords bs) (11 * k + j) 0
     ∙ word-at bs (and-right (isBuffer b) (every isBuffer bs) h) k (omega arith) j s
 
--- ten words that are a buffer's hold it
+-- eleven words that are a buffer's hold it
 held : (w : List ℕ) (k : ℕ) (b : Buffer) → length (b .slots) ≡ 8 → ((j : ℕ) → j < 11 → getD w (11 * k + j) 0 ≡ getD (bufferWords b) j 0) → bufferIn w k ≡ b
 held w k b e h =
+    let tail : List ℕ = b .delay ∷ flagWord (b .error) ∷ [] in
     let first : getD w (11 * k) 0 ≡ b .isa = ap (λ (i : ℕ). getD w i 0) (sym (add-zero (11 * k))) ∙ h 0 (omega arith) in
     let last : getD w (11 * k + 9) 0 ≡ b .delay =
-    h 9 (omega arith) ∙ ap (λ (i : ℕ). getD (b .slots ++ (b .delay ∷ [])) i 0) (sym e) ∙ getD-append-seam (b .slots) (b .delay) [] 0 in
+    h 9 (omega arith) ∙ ap (λ (i : ℕ). getD (b .slots ++ tail) i 0) (sym e) ∙ getD-append-seam (b .slots) (b .delay) (flagWord (b .error) ∷ []) 0 in
+    let nine : 9 ≡ length (b .slots) + 1 = omega arith in
+    let flag : getD w (11 * k + 10) 0 ≡ flagWord (b .error) = h 10 (omega arith) ∙ ap (λ (i : ℕ). getD (b .slots ++ tail) i 0) nine ∙ getD-append-add (b .slots) tail 1 0 in
     let slots : rowsIn (λ j. getD w (11 * k + 1 + j) 0) 0 8 ≡ b .slots =
     ap (rowsIn (λ j. getD w (11 * k + 1 + j) 0) 0) (sym e) ∙ rows-of 0 (λ j. getD w (11 * k + 1 + j) 0) (b .slots) 0 (λ j l.
-    ap (λ (i : ℕ). getD w i 0) (omega arith) ∙ h (suc j) (omega arith) ∙ List·getD-append (b .slots) (b .delay ∷ []) 0 j l) in
-    ap₂ (λ (x y : ℕ). record { isa = x; slots = rowsIn (λ j. getD w (11 * k + 1 + j) 0) 0 8; delay = y }) first last
-    ∙ ap (λ (l : List ℕ). record { isa = b .isa; slots = l; delay = b .delay }) slots
+    ap (λ (i : ℕ). getD w i 0) (omega arith) ∙ h (suc j) (omega arith) ∙ List·getD-append (b .slots) tail 0 j l) in
+    ap₂ (λ (x y : ℕ). record { isa = x; slots = rowsIn (λ j. getD w (11 * k + 1 + j) 0) 0 8; delay = y; error = eqb (getD w (11 * k + 10) 0) 1 }) first last
+    ∙ ap₂ (λ (l : List ℕ) (t : Bool). record { isa = b .isa; slots = l; delay = b .delay; error = t }) slots (ap (λ (n : ℕ). eqb n 1) flag ∙ flag-back (b .error))
 
 at-place : (bs : List Buffer) (k : ℕ) → k < length bs → every isBuffer bs ≡ true → isBuffer (getD bs k nothing) ≡ true
 at-place [] k l e = absurd (omega arith)
@@ -111,24 +134,49 @@ words-long : (bs : List Buffer) → every isBuffer bs ≡ true → length (buffe
 words-long [] h = refl
 words-long (b ∷ bs) h =
     length-append (bufferWords b) (buffersWords bs)
-    ∙ omega (arith, ten b (parts b (and-left (isBuffer b) (every isBuffer bs) h) .eight-slots), words-long bs (and-right (isBuffer b) (every isBuffer bs) h))
+    ∙ omega (arith, eleven b (parts b (and-left (isBuffer b) (every isBuffer bs) h) .eight-slots), words-long bs (and-right (isBuffer b) (every isBuffer bs) h))
+
+flag-word : (t : Bool) → (isWord (flagWord t) && true) ≡ true
+flag-word true = refl
+flag-word false = refl
 
 words-small : (bs : List Buffer) → every isBuffer bs ≡ true → every isWord (buffersWords bs) ≡ true
 words-small [] h = refl
 words-small (b ∷ bs) h =
     let p : Parts b = parts b (and-left (isBuffer b) (every isBuffer bs) h) in
     every-append isWord (bufferWords b) (buffersWords bs)
-    (and-true (isWord (b .isa)) (every isWord (b .slots ++ (b .delay ∷ []))) (p .isa-word)
-    (every-append isWord (b .slots) (b .delay ∷ []) (p .slots-words) (and-true (isWord (b .delay)) true (p .delay-word) refl)))
+    (and-true (isWord (b .isa)) (every isWord (b .slots ++ (b .delay ∷ flagWord (b .error) ∷ []))) (p .isa-word)
+    (every-append isWord (b .slots) (b .delay ∷ flagWord (b .error) ∷ []) (p .slots-words)
+    (and-true (isWord (b .delay)) (isWord (flagWord (b .error)) && true) (p .delay-word) (flag-word (b .error)))))
     (words-small bs (and-right (isBuffer b) (every isBuffer bs) h))
 
-pub eighty-one : (s : State) → Machine s → length (wordsOf s) ≡ 89
+pub all-words : (s : State) → Machine s → length (wordsOf s) ≡ 89
 unfolding wordsOf
-eighty-one s m = ap suc (words-long (s .buffers) (m .all-buffers) ∙ omega (arith, m .eight))
+all-words s m = ap suc (words-long (s .buffers) (m .all-buffers) ∙ omega (arith, m .eight))
+
+flag-fits : (t : Bool) → leb (flagWord t) 1 ≡ true
+flag-fits true = refl
+flag-fits false = refl
+
+-- the flag of buffer k is the last of its words
+flags-fit : (s : State) → Machine s → flagsFit (wordsOf s) ≡ true
+unfolding wordsOf flagsFit
+flags-fit s m =
+    rows-each (λ v. leb v 1) (flagAt (wordsOf s)) 0 8 (λ k l.
+    let b : Buffer = getD (s .buffers) k nothing in
+    let low : k < length (s .buffers) = omega (arith, m .eight) in
+    let own : isBuffer b ≡ true = at-place (s .buffers) k low (m .all-buffers) in
+    let tail : List ℕ = b .delay ∷ flagWord (b .error) ∷ [] in
+    let nine : 9 ≡ length (b .slots) + 1 = omega (arith, parts b own .eight-slots) in
+    let at : 11 * (0 + k) + 11 ≡ suc (11 * k + 10) = omega arith in
+    let last : getD (b .slots ++ tail) 9 0 ≡ flagWord (b .error) = ap (λ (i : ℕ). getD (b .slots ++ tail) i 0) nine ∙ getD-append-add (b .slots) tail 1 0 in
+    let is : flagAt (wordsOf s) (0 + k) ≡ flagWord (b .error) =
+    ap (λ (i : ℕ). getD (s .clock ∷ buffersWords (s .buffers)) i 0) at ∙ word-at (s .buffers) (m .all-buffers) k low 10 (omega arith) ∙ last in
+    rw is (flag-fits (b .error)))
 
 pub words-fit : (s : State) → Machine s → fits (wordsOf s) ≡ true
-unfolding wordsOf fits
-words-fit s m = words-small (s .buffers) (m .all-buffers)
+unfolding wordsOf narrows
+words-fit s m = and-true (narrows (wordsOf s)) (flagsFit (wordsOf s)) (words-small (s .buffers) (m .all-buffers)) (flags-fit s m)
 
 -- ---- 89 words that fit hold a state of the machine
 
@@ -145,24 +193,26 @@ buffer-in w h k =
     (rows-every isWord (λ j. getD w (11 * k + 1 + j) 0) (λ j. word-small w h (11 * k + 1 + j)) 0 8) (word-small w h (11 * k + 9)))
 
 pub state-fits : (w : List ℕ) → fits w ≡ true → getD w 0 0 ≤ largest → Machine (stateOf w)
-unfolding fits
+unfolding narrows
 state-fits w h c =
     record {
       eight = rows-long (bufferIn (drop 1 w)) 0 8;
-      all-buffers = rows-every isBuffer (bufferIn (drop 1 w)) (buffer-in (drop 1 w) h) 0 8;
+      all-buffers = rows-every isBuffer (bufferIn (drop 1 w)) (buffer-in (drop 1 w) (and-left (narrows w) (flagsFit w) h)) 0 8;
       in-time = c;
     }
 
--- ---- the words of the state that 89 words hold are these words
+-- ---- the words of the state that 89 words hold are these words, if each flag is 0 or 1
 
-words-in : (xs : List ℕ) → length xs ≡ 88 → buffersWords (buffersIn xs) ≡ xs
-unfolding rowsIn
-words-in xs e = sym (ap (rowsIn (λ j. getD xs j 0) 0) e) ∙ rows-of 0 (λ j. getD xs j 0) xs 0 (λ j l. ap (λ (i : ℕ). getD xs i 0) (zero-add j))
+flags-of : (w : List ℕ) → flagsFit w ≡ true → Flags (drop 1 w) 8
+unfolding flagsFit
+flags-of w e k l =
+    let at : 1 + (11 * k + 10) ≡ 11 * (0 + k) + 11 = omega arith in
+    rw (getD-drop 1 w (11 * k + 10) 0, at) (leb-true (flagAt w (0 + k)) 1 (each-row (λ v. leb v 1) (flagAt w) 0 8 e k l))
 
-pub words-back : (w : List ℕ) → length w ≡ 89 → wordsOf (stateOf w) ≡ w
+pub words-back : (w : List ℕ) → length w ≡ 89 → fits w ≡ true → wordsOf (stateOf w) ≡ w
 unfolding wordsOf
-words-back [] e = absurd (omega arith)
-words-back (x ∷ xs) e = ap (λ (l : List ℕ). x ∷ l) (words-in xs (omega arith))
+words-back [] e f = absurd (omega arith)
+words-back (x ∷ xs) e f = ap (λ (l : List ℕ). x ∷ l) (words-in xs (omega arith) (flags-of (x ∷ xs) (and-right (narrows (x ∷ xs)) (flagsFit (x ∷ xs)) f)))
 
 -- ---- the same words hold the same buffer
 
@@ -185,8 +235,8 @@ buffer-cong v v′ b h =
     let first : getD v (11 * b) 0 ≡ getD v′ (11 * b) 0 = rw z at (h 0 (omega arith)) in
     let slots : bufferIn v b .slots ≡ bufferIn v′ b .slots =
     rows-cong (λ j. getD v (11 * b + 1 + j) 0) (λ j. getD v′ (11 * b + 1 + j) 0) 0 8 (λ j l. let e : 11 * b + suc j ≡ 11 * b + 1 + (0 + j) = omega arith in rw e at (h (suc j) (omega arith))) in
-    ap₂ (λ (x y : ℕ). record { isa = x; slots = bufferIn v b .slots; delay = y }) first (h 9 (omega arith))
-    ∙ ap (λ (l : List ℕ). record { isa = getD v′ (11 * b) 0; slots = l; delay = getD v′ (11 * b + 9) 0 }) slots
+    ap₂ (λ (x y : ℕ). record { isa = x; slots = bufferIn v b .slots; delay = y; error = eqb (getD v (11 * b + 10) 0) 1 }) first (h 9 (omega arith))
+    ∙ ap₂ (λ (l : List ℕ) (n : ℕ). record { isa = getD v′ (11 * b) 0; slots = l; delay = getD v′ (11 * b + 9) 0; error = eqb n 1 }) slots (h 10 (omega arith))
 
 past : (v : List ℕ) (b : ℕ) → 8 ≤ b → getD (buffersIn v) b nothing ≡ nothing
 past v b h = List·getD-eq-default (buffersIn v) nothing (omega (arith, rows-long (bufferIn v) 0 8))

@@ -34,7 +34,7 @@ use Rattle.promises.specs.Numbers.{accepted-taken, open-refused, lent-refused, 
 use Rattle.promises.specs.Keeping.{reached-fresh, reached-machine}
 use Rattle.promises.specs.Proofs.Numbers.{taken-accepted, open-small, refresh-small, run-refused, left-refused, lent-small}
 use Rattle.promises_c.specs.Handing.{numberIn, countIn, Reads, ranIn, SameBuffer, Leaves, Held, opened, ran, refreshed, changed, layEvents}
-use Rattle.promises_c.specs.Proofs.Back.{state-back, same-buffer, words-back, eighty-one, words-fit, state-fits}
+use Rattle.promises_c.specs.Proofs.Back.{state-back, same-buffer, words-back, all-words, words-fit, state-fits}
 
 -- ---- an answer taken apart
 
@@ -202,7 +202,7 @@ module _ (image w table : List ℕ) where
           let r : Ran = ranLent image (stateOf w) table steps lent in
           let left = run-refused image table (stateOf w) lent steps (rw (number-by f) at b) in
           record {
-            words-stay = ap (λ (x : Ran). wordsOf (x .state)) left ∙ words-back w l;
+            words-stay = ap (λ (x : Ran). wordsOf (x .state)) left ∙ words-back w l f;
             table-stays = ap (λ (x : Ran). x .table) left;
             none-counted = none-of (r .number) (r .made) (r .position) (lent-small image table (stateOf w) lent steps) (ap (λ (x : Ran). x .made) left);
           }
@@ -286,7 +286,7 @@ module _ (image : List ℕ) (m : Model) (end : ℕ) (d : decode image ≡ Got m 
   laid : (s : State) (table : List ℕ) → Reached image s table → Stands image (wordsOf s) table
   laid s table r =
       let k : Machine s = reached-machine image m end d r in
-      record { many = eighty-one s k; fit = words-fit s k; reached = subst (λ (x : State). Reached image x table) (sym (state-back s k)) r }
+      record { many = all-words s k; fit = words-fit s k; reached = subst (λ (x : State). Reached image x table) (sym (state-back s k)) r }
 
   open-stands : (table : List ℕ) → numberIn (openIn image table .answered) ≡ 0 → Stands image (openIn image table .words) (openIn image table .table)
   unfolding openIn
