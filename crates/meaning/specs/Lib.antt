@@ -27,3 +27,4 @@ pub mod EmptySlots
 pub mod Afresh
 pub mod BadImages
 pub mod Clearing
+pub mod Asking

@@ -39,7 +39,7 @@ two t u = record { slot = 0; term = t } ∷ record { slot = 1; term = u } ∷ []
 abbrev pub tests1 : ℕ → List Named → Test
 tests1 b ns = record { buffer = b; isa = 1; named = ns }
 
-abbrev testsNil : ℕ → Test
+abbrev pub testsNil : ℕ → Test
 testsNil b = record { buffer = b; isa = 0; named = [] }
 
 abbrev pub act : ℕ → Deed → Action
