@@ -11,13 +11,13 @@ use lib.ListN.{length, getD}
 use Rattle.meaning.specs.declared.State.{State}
 use Rattle.meaning.specs.Base.{every}
 use Rattle.meaning.specs.Model.{Model, Rule, Modify, Request, Named, Variable, Fact}
-use Rattle.meaning.specs.State.{nilAfter, bufferOf}
+use Rattle.meaning.specs.State.{bufferOf}
 use Rattle.meaning.specs.Read.{Got}
 use Rattle.meaning.specs.Image.{standsIn, decode}
 use Rattle.meaning.specs.Match.{Place, termIn, agreed, freshTable}
 use Rattle.meaning.specs.Fire.{deedOn}
 use Rattle.meaning.specs.Step.{Fired, Made, step}
-use Rattle.promises.specs.Words.{At, entryAt, FilledAt}
+use Rattle.promises.specs.Words.{At, entryAt, FilledAt, nilWith}
 use Rattle.promises.specs.Published.{Matches, valuesIn}
 use Rattle.promises.specs.Proofs.Decoded.{decoded}
 use Rattle.promises.specs.Proofs.Entries.{fresh-entered}
@@ -44,7 +44,7 @@ module _ (image : List ℕ) (m : Model) (at : ℕ) (accepted : decode image ≡ 
       → (w : ℕ) → n .term ≡ Variable w → getD (bufferOf s′ b .slots) (n .slot) 0 ≡ 0 → ⊥
   modify-fills = modified-filled m (decoded image m at accepted) memory us s table k s′ mark made r numbered b there
 
-  -- What its request brings is the nil of a failure, or has every slot filled that the request names by a variable.
-  pub request-fills : (isa : ℕ) (ns : List Named) → deedOn (r .actions) b ≡ some (Request isa ns) → (bufferOf s′ b ≡ nilAfter (m .failure))
+  -- What its request brings is the nil of a failure, with its flag set, or has every slot filled that the request names by a variable.
+  pub request-fills : (isa : ℕ) (ns : List Named) → deedOn (r .actions) b ≡ some (Request isa ns) → (bufferOf s′ b ≡ nilWith (m .failure) true)
       ⊎ ((n : Named) → List·Memᴰ n ns → (w : ℕ) → n .term ≡ Variable w → getD (bufferOf s′ b .slots) (n .slot) 0 ≡ 0 → ⊥)
   request-fills = requested-filled m (decoded image m at accepted) memory us s table k s′ mark made r numbered b there

@@ -72,11 +72,12 @@ pub record FieldAtBit (image : List ℕ) (n at : ℕ) : Type 1 where
 -- "For a variable in no test it is that of the bit after the last test": reading comes to a rule after its head, its tests end at this bit, and some variable of the
 -- rule stands in none of them. So reading stops here by 12, whatever follows.
 pub record TestsEndAt (image : List ℕ) (at : ℕ) : Type 1 where
+  pub version : ℕ
   pub sizes : Sizes
   pub head : Head
   pub tests-at : ℕ
   pub ts : List Test
-  pub comes : ComesTo image Rule (body finer sizes head) tests-at
+  pub comes : ComesTo image Rule (body finer version sizes head) tests-at
   pub tests-read : tests finer sizes (head .variables) (head .tests) image tests-at ≡ Got ts at
   pub in-none : every (standsIn ts) (upFrom 0 (head .variables)) ≡ false
   pub stays : WhateverFollows image at λ image′. decode image′ ≡ Refused bad-variable at

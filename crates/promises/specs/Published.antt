@@ -1,5 +1,5 @@
 -- The published semantics as relations, close to its own text (D. Gall, T. Frühwirth, A Refined Operational Semantics for ACT-R), with the points
--- that document 01 and change requests 2026-01 and 2026-05 decide. No step, match or choice is computed here, nor what joins a store (but which deed
+-- that document 01 and change requests 2026-01, 2026-05 and 2026-06 decide. No step, match or choice is computed here, nor what joins a store (but which deed
 -- stands on a buffer, and what nil is); that steps of `meaning` are these
 -- transitions says Semantics, and that its stores are these Remembering.
 use mathlib.Core.Path.{_≡_}
@@ -12,8 +12,8 @@ use lib.ListN.{length, getD, replicate}
 use lib.Signed.{ltZ}
 use Rattle.meaning.specs.declared.Buffer.{Buffer}
 use Rattle.meaning.specs.declared.State.{State}
-use Rattle.meaning.specs.Model.{Model, Rule, Test, Action, Deed, Modify, Request, Clear, Named, Term, Symbol, Variable, Chunk, Fact}
-use Rattle.meaning.specs.State.{nilAfter, bufferOf}
+use Rattle.meaning.specs.Model.{Model, Rule, Test, Query, Ask, Busy, Free, Error, Action, Deed, Modify, Request, Clear, Named, Term, Symbol, Variable, Chunk, Fact}
+use Rattle.meaning.specs.State.{bufferOf}
 use Rattle.meaning.specs.Image.{standsIn}
 use Rattle.meaning.specs.Step.{Event, Fired, Waited, largest}
 use Rattle.meaning.specs.Match.{freshTable}
@@ -22,7 +22,7 @@ use Rattle.meaning.specs.Run.{Timed}
 use Rattle.meaning.specs.Learning.{knowing}
 use Rattle.meaning.specs.Calls.{Ran}
 use Rattle.meaning.specs.Fresh.{Moving, moving}
-use Rattle.promises.specs.Words.{At, entryAt, ClearedBy, Stands}
+use Rattle.promises.specs.Words.{At, entryAt, nilWith, ClearedBy, Stands}
 
 -- ---- matching (definition 11)
 
@@ -38,9 +38,16 @@ pub record Holds (v : ℕ → ℕ) (s : State) (t : Test) : Type 0 where
   pub valued : (n : Named) → List·Memᴰ n (t .named) → getD (bufferOf s (t .buffer) .slots) (n .slot) 0 ≡ standsFor v (n .term)
   pub filled : (n : Named) → List·Memᴰ n (t .named) → (w : ℕ) → n .term ≡ Variable w → getD (bufferOf s (t .buffer) .slots) (n .slot) 0 ≡ 0 → ⊥
 
--- a binding under which all tests of a rule hold
-abbrev pub Binds : Rule → State → (ℕ → ℕ) → Type 0
-Binds r s v = (t : Test) → List·Memᴰ t (r .tests) → Holds v s t
+-- what a query finds of its buffer: "0 busy (delay above 0), 1 free (delay 0), 2 error (visible, flag set)"
+abbrev pub Finds : Ask → Buffer → Type 0
+Finds Busy b = 0 < b .delay
+Finds Free b = b .delay ≡ 0
+Finds Error b = (b .delay ≡ 0) × (b .error ≡ true)
+
+-- a binding under which all tests of a rule hold, where its queries hold too
+pub record Binds (r : Rule) (s : State) (v : ℕ → ℕ) : Type 0 where
+  pub tests-hold : (t : Test) → List·Memᴰ t (r .tests) → Holds v s t
+  pub queries-hold : (q : Query) → List·Memᴰ q (r .queries) → Finds (q .asks) (bufferOf s (q .buffer))
 
 -- r ⊑ σ: the rule matches if there is one
 pub record Matches (r : Rule) (s : State) : Type 0 where
@@ -91,13 +98,14 @@ NoneSelected m s = (k : ℕ) (r : Rule) → At r k (m .rules) → Matches r s �
 
 -- ---- effects of actions (definition 7, I_ref of section 5.1): what an action makes of its buffer, `old` before and `new` after
 
--- modification: the type stays, delay 0, val(s) is v where the action names s, and old(s) otherwise
+-- modification: the type stays, delay 0, val(s) is v where the action names s, and old(s) otherwise; the flag is clear
 pub record Modified (v : ℕ → ℕ) (ns : List Named) (old new : Buffer) : Type 0 where
   pub same-type : new .isa ≡ old .isa
   pub at-once : new .delay ≡ 0
   pub as-many : length (new .slots) ≡ length (old .slots)
   pub named : (n : Named) → List·Memᴰ n ns → n .slot < length (old .slots) → getD (new .slots) (n .slot) 0 ≡ standsFor v (n .term)
   pub unnamed : (i : ℕ) → ((n : Named) → List·Memᴰ n ns → n .slot ≡ i → ⊥) → getD (new .slots) i 0 ≡ getD (old .slots) i 0
+  pub unflagged : new .error ≡ false
 
 -- request_b: a fact of the type asked for, whose named slots have the values asked for
 pub record Fits (v : ℕ → ℕ) (isa : ℕ) (ns : List Named) (f : Fact) : Type 0 where
@@ -111,22 +119,24 @@ pub record Retrieved (facts : List Fact) (v : ℕ → ℕ) (isa : ℕ) (ns : Lis
   pub none-higher : (j : ℕ) (g : Fact) → At g j facts → Fits v isa ns g → g .activation ≤ f .activation
   pub first-of-equals : (j : ℕ) (g : Fact) → At g j facts → Fits v isa ns g → g .activation ≡ f .activation → k ≤ j
 
+-- The error flag "is set when a request finds no fact, and any other action on that buffer clears it"
 pub data Effect (m : Model) (v : ℕ → ℕ) (old : Buffer) : Deed → Buffer → Type 0 where
   modify : {ns : List Named} {new : Buffer} → Modified v ns old new → Effect m v old (Modify ns) new
   -- the fact comes after its latency
   request : {isa : ℕ} {ns : List Named} {k : ℕ} {f : Fact} → Retrieved (m .facts) v isa ns k f
-      → Effect m v old (Request isa ns) (record { isa = f .chunk .isa; slots = f .chunk .slots; delay = f .latency })
-  -- nil comes after the failure latency, if no fact fits
-  fail : {isa : ℕ} {ns : List Named} → ((k : ℕ) (f : Fact) → At f k (m .facts) → Fits v isa ns f → ⊥) → Effect m v old (Request isa ns) (nilAfter (m .failure))
-  clear : Effect m v old Clear (nilAfter 0)
+      → Effect m v old (Request isa ns) (record { isa = f .chunk .isa; slots = f .chunk .slots; delay = f .latency; error = false })
+  -- nil comes after the failure latency, if no fact fits, and the flag is set
+  fail : {isa : ℕ} {ns : List Named} → ((k : ℕ) (f : Fact) → At f k (m .facts) → Fits v isa ns f → ⊥) → Effect m v old (Request isa ns) (nilWith (m .failure) true)
+  clear : Effect m v old Clear (nilWith 0 false)
 
 -- ---- transitions (definition 10, with the parameters of section 5.1)
 
--- (c, d ⊖ δ): the chunk stays, the delay is lowered, not below 0 (`-` on ℕ is ⊖)
+-- (c, d ⊖ δ): the chunk stays, the delay is lowered, not below 0 (`-` on ℕ is ⊖), and the flag stays
 pub record Aged (ms : ℕ) (old new : Buffer) : Type 0 where
   pub same-type : new .isa ≡ old .isa
   pub same-slots : new .slots ≡ old .slots
   pub sooner : new .delay ≡ old .delay - ms
+  pub same-flag : new .error ≡ old .error
 
 -- Apply: each action has its effect, every other buffer ages by δ = 50 ms, and so does the clock
 pub record Applied (m : Model) (r : Rule) (v : ℕ → ℕ) (s s′ : State) : Type 0 where

@@ -1,4 +1,4 @@
--- The words in which the promises about tables, chains of calls, runs that are alike and stores are stated.
+-- The words in which the promises about tables, chains of calls, runs that are alike, stores and error flags are stated.
 use mathlib.Core.Path.{_≡_}
 use mathlib.Core.Bool.{Bool, true, false, _&&_}
 use mathlib.Core.Logic.{_⊎_}
@@ -6,16 +6,16 @@ use mathlib.Core.List.{List, _∷_, _++_, List·Memᴰ}
 use mathlib.Core.Option.{Option, none, some}
 use Prim.Native.Nat.{ℕ, zero, suc, _+_, _*_, _≤_, _<_}
 use lib.Dec.{leb, eqb}
-use lib.ListN.{length, getD, take, drop}
+use lib.ListN.{length, getD, take, drop, replicate}
 use Rattle.meaning.specs.declared.Buffer.{Buffer}
 use Rattle.meaning.specs.declared.State.{State}
 use Rattle.meaning.specs.Base.{every, keep, bit}
-use Rattle.meaning.specs.Model.{Model, Rule, Test, Action, Clear, Variable, Chunk, Fact}
+use Rattle.meaning.specs.Model.{Model, Rule, Test, Query, Action, Clear, Variable, Chunk, Fact}
 use Rattle.meaning.specs.State.{slotCount, bufferOf, isNil}
 use Rattle.meaning.specs.Fire.{deedOn}
 use Rattle.meaning.specs.Learning.{knowing, chunkOf, adds}
 use Rattle.meaning.specs.Store.{placeIn, storeIn, storeFits}
-use Rattle.meaning.specs.Match.{Place, shows, matches, entryOf}
+use Rattle.meaning.specs.Match.{Place, shows, answers, matches, entryOf}
 use Rattle.meaning.specs.Step.{Event, Fired, Made, largest, stepOf}
 use Rattle.meaning.specs.Refresh.{testsMarked}
 use Rattle.meaning.specs.Run.{Going, Run}
@@ -34,13 +34,13 @@ entryAt k table = take 9 (drop (9 * k) table)
 
 -- what a refresh promises: `table` was handed in, `new` came out, and so did the number `count`
 pub record RefreshedTo (rules : List Rule) (s : State) (mark : ℕ) (table new : List ℕ) (count : ℕ) : Type 0 where
-  -- a rule that tests a marked buffer has the fresh entry
+  -- a rule that tests or queries a marked buffer has the fresh entry
   pub fresh : (k : ℕ) (r : Rule) → At r k rules → testsMarked mark r ≡ true → entryAt k new ≡ entryOf r s
   -- every other rule has the entry that it had, word for word
   pub unaltered : (k : ℕ) (r : Rule) → At r k rules → testsMarked mark r ≡ false → entryAt k new ≡ entryAt k table
   -- the table is as long as it was
   pub as-long : length new ≡ length table
-  -- the number says how many rules test a marked buffer
+  -- the number says how many rules test or query a marked buffer
   pub counted : count ≡ length (keep (testsMarked mark) rules)
 
 -- "eight buffers, each with a type, eight slot values and a delay in ms (0 to 65,535), and a 32-bit clock in ms": a word of 16 bits for each
@@ -75,17 +75,22 @@ pub record FilledAt (ps : List Place) (w : ℕ) : Type 0 where
   pub is : place .term ≡ Variable w
   pub filled : place .value ≡ 0 → ⊥
 
--- rule number k matches the state as it is: each of its tests finds a visible chunk of its type in its buffer
+-- rule number k matches the state as it is: each of its tests finds a visible chunk of its type in its buffer, and each of its queries holds
 pub record Matching (m : Model) (s : State) (k : ℕ) : Type 0 where
   pub rule : Rule
   pub numbered : At rule k (m .rules)
   pub matching : matches rule s ≡ true
   pub tests-hold : (t : Test) → List·Memᴰ t (rule .tests) → shows t (bufferOf s (t .buffer)) ≡ true
+  pub queries-hold : (q : Query) → List·Memᴰ q (rule .queries) → answers (q .asks) (bufferOf s (q .buffer)) ≡ true
 
 -- "Marked by a step: buffers acted on, and buffers that went from pending to visible."
 pub data Touched (m : Model) (s : State) (e : Event) (s′ : State) (b : ℕ) : Type 0 where
   acted-on : {k : ℕ} {r : Rule} {a : Action} → e ≡ Fired k → At r k (m .rules) → List·Memᴰ a (r .actions) → a .buffer ≡ b → Touched m s e s′ b
   came : 0 < bufferOf s b .delay → bufferOf s′ b .delay ≡ 0 → Touched m s e s′ b
+
+-- nil that is visible after some ms, with its error flag clear or set
+abbrev pub nilWith : ℕ → Bool → Buffer
+nilWith delay error = record { isa = 0; slots = replicate 8 0; delay = delay; error = error }
 
 -- a state that goes from step to step where nothing is lent
 abbrev pub alone : State → Moving

@@ -14,7 +14,7 @@ use Rattle.meaning.specs.Model.{Model, Sizes, Rule, Test, Action, Deed, Modify,
 use Rattle.meaning.specs.State.{slotCount, wellBuffer, opens}
 use Rattle.meaning.specs.Read.{Got, Reader, field, require, rising, must}
 use Rattle.meaning.specs.Image.{anything, between, aType, aBuffer, aMask, aTerm, kindRule, Header, header, chunk, fact, slotsIn, termOf, terms, masked}
-use Rattle.meaning.specs.Image.{tests, standsIn, isTested, testedType, deed, action, actions, utilityOf, head, body, rule, decode}
+use Rattle.meaning.specs.Image.{tests, standsIn, queries, isTested, testedType, deed, action, actions, utilityOf, head, body, rule, decode}
 use Rattle.meaning.specs.Learning.{knowing}
 use Rattle.laws.specs.BaseLaws.{no-true, and-left, and-right, every-upFrom, by-lt}
 use Rattle.laws.specs.BitsLaws.{fieldAt-lt}
@@ -180,18 +180,19 @@ required : (number : ℕ) (holds : Bool) (image : List ℕ) (at : ℕ) (u : Unit
 required number true image at u next e = refl
 required number false image at u next e = absurd (no-got number at u next e)
 
-rule-good : (z : Sizes) (image : List ℕ) (at : ℕ) (r : Rule) (end : ℕ) → rule finer z image at ≡ Got r end → goodRule (z .buffers) (z .types) r ≡ true
+rule-good : (version : ℕ) (z : Sizes) (image : List ℕ) (at : ℕ) (r : Rule) (end : ℕ) → rule finer version z image at ≡ Got r end → goodRule (z .buffers) (z .types) r ≡ true
 unfolding rule body
-rule-good z image at r end e =
-    split (head finer (z .buffers) image at) _ e λ h n₁ e₁ k₁.
+rule-good version z image at r end e =
+    split (head finer version (z .buffers) image at) _ e λ h n₁ e₁ k₁.
     split (tests finer z (h .variables) (h .tests) image n₁) _ k₁ λ ts n₂ e₂ k₂.
     split (require bad-variable (every (standsIn ts) (upFrom 0 (h .variables))) image n₂) _ k₂ λ u n₃ e₃ k₃.
-    split (actions finer z (h .variables) ts (h .actions) image n₃) _ k₃ λ as′ n₄ e₄ k₄.
-    let q : record { utility = utilityOf (h .utility); tests = ts; actions = as′ } ≡ r = cc in
-    let few : h .variables ≤ 8 = head-fits (z .buffers) image at h n₁ e₁ .variables-few in
+    split (queries finer version (z .buffers) (h .tests) image n₃) _ k₃ λ qs n₄ e₄ k₄.
+    split (actions finer z (h .variables) ts (h .actions) image n₄) _ k₄ λ as′ n₅ e₅ k₅.
+    let q : record { utility = utilityOf (h .utility); tests = ts; queries = qs; actions = as′ } ≡ r = cc in
+    let few : h .variables ≤ 8 = head-fits version (z .buffers) image at h n₁ e₁ .variables-few in
     let stood : every (standsIn ts) (upFrom 0 (h .variables)) ≡ true = required bad-variable _ image n₂ u n₃ e₃ in
     let each = action-good ts (h .variables) few stood z in
-    rw (← q) (rising-good (action finer z (h .variables) ts) (λ a. a .buffer) (goodAction (z .buffers) (z .types) ts) each (h .actions) 0 image n₃ as′ n₄ e₄)
+    rw (← q) (rising-good (action finer z (h .variables) ts) (λ a. a .buffer) (goodAction (z .buffers) (z .types) ts) each (h .actions) 0 image n₄ as′ n₅ e₅)
 
 -- ---- a fact
 
@@ -209,13 +210,13 @@ fact-well types image at f end e =
 few-buffers : (image : List ℕ) (at : ℕ) (h : Header) (end : ℕ) → header finer image at ≡ Got h end → h .buffers ≤ 8
 unfolding header
 few-buffers image at h end e =
-    split (field 8 (must bad-number (between 1 1)) image at) _ e λ version n₁ e₁ k₁.
+    split (field 8 (must bad-number (between 1 2)) image at) _ e λ version n₁ e₁ k₁.
     split (field 4 (must bad-number (between 1 8)) image n₁) _ k₁ λ buffers n₂ e₂ k₂.
     split (field 6 (must bad-number (between 0 63)) image n₂) _ k₂ λ declared n₃ e₃ k₃.
     split (field 9 (must bad-number (between 0 256)) image n₃) _ k₃ λ rules n₄ e₄ k₄.
     split (field 10 (must bad-number (between 0 512)) image n₄) _ k₄ λ facts n₅ e₅ k₅.
     split (field 16 anything image n₅) _ k₅ λ failure n₆ e₆ k₆.
-    let q : record { buffers = buffers; declared = declared; rules = rules; facts = facts; failure = failure } ≡ h = cc in
+    let q : record { version = version; buffers = buffers; declared = declared; rules = rules; facts = facts; failure = failure } ≡ h = cc in
     rw (← q) (between-got 4 1 8 image n₁ buffers n₂ e₂ .1)
 
 -- ---- the whole
@@ -244,7 +245,7 @@ decoded image m at e =
     let f : (every (λ f. wellBuffer (m .types) (opens (f .chunk))) (m .facts) ≡ true) × (length (m .facts) ≡ p .head .facts) =
     times-all (fact finer (m .types)) (λ f. wellBuffer (m .types) (opens (f .chunk))) (fact-well (m .types)) (p .head .facts) image (p .facts-at) (m .facts) (p .rules-at) (p .facts-read) in
     let r : (every (goodRule (m .buffers) (m .types)) (m .rules) ≡ true) × (length (m .rules) ≡ p .head .rules) =
-    times-all (rule finer z) (goodRule (m .buffers) (m .types)) (rule-good z) (p .head .rules) image (p .rules-at) (m .rules) (p .end) (p .rules-read) in
+    times-all (rule finer (p .head .version) z) (goodRule (m .buffers) (m .types)) (rule-good (p .head .version) z) (p .head .rules) image (p .rules-at) (m .rules) (p .end) (p .rules-read) in
     record {
       counts = p .counts;
       types-are = p .types-are;

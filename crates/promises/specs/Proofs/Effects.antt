@@ -1,7 +1,7 @@
 -- What `done` makes of a buffer is the effect that the relation names, and nothing else is.
 use mathlib.Core.Path.{_≡_, refl, sym, ap, _∙_}
 use mathlib.Core.Logic.{_⊎_, inl, inr, ⊎-elim}
-use mathlib.Core.Bool.{true}
+use mathlib.Core.Bool.{Bool, true, false}
 use mathlib.Core.List.{List, [], _∷_, List·Memᴰ, List·Memᴰ·head, List·Memᴰ·tail, List·Memᴰ·not-nil, List·Memᴰ·cases-cons}
 use mathlib.Core.Option.{Option, none, some}
 use Prim.Native.Nat.{ℕ, _+_, _≤_, _<_}
@@ -27,9 +27,10 @@ use Rattle.promises.specs.Proofs.Decoded.{rises, goodTerm, goodNamed, go
 use Rattle.promises.specs.Proofs.Matching.{value-binds}
 use Rattle.promises.specs.Proofs.Retrieving.{none-fits, Found, found, retrieved-once}
 
--- a buffer is its three parts
-pub buffer-is : (b : Buffer) (isa : ℕ) (slots : List ℕ) (delay : ℕ) → b .isa ≡ isa → b .slots ≡ slots → b .delay ≡ delay → b ≡ record { isa = isa; slots = slots; delay = delay }
-buffer-is b isa slots delay p q r = rw (← p, ← q, ← r) refl
+-- a buffer is its four parts
+pub buffer-is : (b : Buffer) (isa : ℕ) (slots : List ℕ) (delay : ℕ) (error : Bool) → b .isa ≡ isa → b .slots ≡ slots → b .delay ≡ delay → b .error ≡ error
+    → b ≡ record { isa = isa; slots = slots; delay = delay; error = error }
+buffer-is b isa slots delay error p q r f = rw (← p, ← q, ← r, ← f) refl
 
 -- ---- numbers that rise are above the least, and each stands once
 
@@ -105,7 +106,8 @@ module _ (m : Model) (r : Rule) (s : State) (v : ℕ → ℕ) (binds : Binds r s
   good-rises : (k : ℕ) (ns : List Named) → goodNames (r .tests) k ns ≡ true → rises (λ n. n .slot) 0 ns ≡ true
   good-rises k ns g = and-right (every (goodNamed (r .tests) k) ns) (rises (λ n. n .slot) 0 ns) g
 
-  modified : (k : ℕ) (ns : List Named) (old : Buffer) → goodNames (r .tests) k ns ≡ true → Modified v ns old (record { isa = old .isa; slots = put ns entry (old .slots); delay = 0 })
+  modified : (k : ℕ) (ns : List Named) (old : Buffer) → goodNames (r .tests) k ns ≡ true
+      → Modified v ns old (record { isa = old .isa; slots = put ns entry (old .slots); delay = 0; error = false })
   modified k ns old g =
       record {
         same-type = refl;
@@ -113,13 +115,14 @@ module _ (m : Model) (r : Rule) (s : State) (v : ℕ → ℕ) (binds : Binds r s
         as-many = put-length ns entry (old .slots);
         named = λ n h l. put-named 0 ns entry (old .slots) (good-rises k ns g) n h l ∙ same-values k ns (good-all k ns g) n h;
         unnamed = λ i h. put-unnamed ns entry (old .slots) i h;
+        unflagged = refl;
       }
 
   modified-once : (k : ℕ) (ns : List Named) (old new : Buffer) → goodNames (r .tests) k ns ≡ true → Modified v ns old new
-      → new ≡ record { isa = old .isa; slots = put ns entry (old .slots); delay = 0 }
+      → new ≡ record { isa = old .isa; slots = put ns entry (old .slots); delay = 0; error = false }
   modified-once k ns old new g h =
       let l : length (new .slots) ≡ length (put ns entry (old .slots)) = h .as-many ∙ sym (put-length ns entry (old .slots)) in
-      buffer-is new (old .isa) (put ns entry (old .slots)) 0 (h .same-type)
+      buffer-is new (old .isa) (put ns entry (old .slots)) 0 false (h .same-type)
       (ext-getD 0 (new .slots) (put ns entry (old .slots)) l
       (λ i b.
       ⊎-elim
@@ -129,7 +132,7 @@ module _ (m : Model) (r : Rule) (s : State) (v : ℕ → ℕ) (binds : Binds r s
       (h .named (x .named) (x .member) z ∙ sym (same-values k ns (good-all k ns g) (x .named) (x .member)) ∙ sym (put-named 0 ns entry (old .slots) (good-rises k ns g) (x .named) (x .member) z)))
       (λ (n : (n : Named) → List·Memᴰ n ns → n .slot ≡ i → ⊥). h .unnamed i n ∙ sym (put-unnamed ns entry (old .slots) i n))
       (named-or-not ns i)))
-      (h .at-once)
+      (h .at-once) (h .unflagged)
 
   asked : (k isa : ℕ) (ns : List Named) (old : Buffer) → goodNames (r .tests) k ns ≡ true → (o : Option Fact) → retrieve (m .facts) isa ns entry ≡ o
       → Effect m v old (Request isa ns) (retrieved (m .failure) o)

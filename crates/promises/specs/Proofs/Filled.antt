@@ -13,14 +13,14 @@ use Rattle.meaning.specs.declared.Buffer.{Buffer}
 use Rattle.meaning.specs.declared.State.{State}
 use Rattle.meaning.specs.Base.{every}
 use Rattle.meaning.specs.Model.{Model, Rule, Deed, Modify, Request, Named, Variable, Fact}
-use Rattle.meaning.specs.State.{nilAfter, bufferOf, slotCount}
+use Rattle.meaning.specs.State.{bufferOf, slotCount}
 use Rattle.meaning.specs.Image.{standsIn, isTested, testedType}
 use Rattle.meaning.specs.Match.{Place, valueIn, termIn, takes, agrees, agreed, matches, entryOf}
 use Rattle.meaning.specs.Retrieval.{valueOf, retrieve, retrieved}
 use Rattle.meaning.specs.Fire.{put, done, deedOn}
 use Rattle.meaning.specs.Step.{Fired, Made, step}
 use Rattle.laws.specs.BaseLaws.{and-left, and-right, every-member}
-use Rattle.promises.specs.Words.{At, FilledAt}
+use Rattle.promises.specs.Words.{At, FilledAt, nilWith}
 use Rattle.promises.specs.Published.{standsFor, Matches, Entered, valuesIn}
 use Rattle.promises.specs.Proofs.Decoded.{Decoded, and-true, rises, goodTerm, goodNamed, goodNames, goodDeed}
 use Rattle.promises.specs.Proofs.Matching.{member-all, takes-filled, bound-filled, matches-bind}
@@ -76,7 +76,7 @@ module _ (r : Rule) (s : State) (match : Matches r s) where
       value-filled k ns g n h w is (sym (put-named 0 ns entry slots up n h l ∙ ap (valueOf entry) is) ∙ nil)
 
   request-filled : (k failure isa : ℕ) (ns : List Named) (memory : List Fact) → goodNames (r .tests) k ns ≡ true → (o : Option Fact) → retrieve memory isa ns entry ≡ o
-      → (retrieved failure o ≡ nilAfter failure) ⊎ Fills ns (retrieved failure o)
+      → (retrieved failure o ≡ nilWith failure true) ⊎ Fills ns (retrieved failure o)
   request-filled k failure isa ns memory g none e = inl refl
   request-filled k failure isa ns memory g (some f) e =
       let fits = found-here memory isa ns entry f e .1 .fitting in
@@ -108,7 +108,7 @@ module _ (m : Model) (known : Decoded m) (memory : List Fact) (us : List ℤ) (s
       let names = and-right (isTested (r .tests) b) (goodNames (r .tests) size ns) (good (Modify ns) is) in
       modify-filled r s match size ns (bufferOf s b .slots) names n h l w var (sym (ap (λ (x : Buffer). getD (x .slots) (n .slot) 0) (after-it (Modify ns) is)) ∙ nil)
 
-  pub requested-filled : (isa : ℕ) (ns : List Named) → deedOn (r .actions) b ≡ some (Request isa ns) → (bufferOf s′ b ≡ nilAfter (m .failure)) ⊎ Fills ns (bufferOf s′ b)
+  pub requested-filled : (isa : ℕ) (ns : List Named) → deedOn (r .actions) b ≡ some (Request isa ns) → (bufferOf s′ b ≡ nilWith (m .failure) true) ⊎ Fills ns (bufferOf s′ b)
   unfolding done
   requested-filled isa ns is =
       rw (after-it (Request isa ns) is)

@@ -1,5 +1,5 @@
 -- Which words are taken as a store.
-use mathlib.Core.Path.{_≡_, sym, ap, subst, _∙_}
+use mathlib.Core.Path.{_≡_, refl, sym, ap, subst, _∙_}
 use mathlib.Core.Logic.{_↔_}
 use mathlib.Core.Bool.{Bool, true, _&&_}
 use mathlib.Core.List.{List, [], _∷_, map}
@@ -17,6 +17,7 @@ use Rattle.laws.specs.BaseLaws.{and-left, and-right, every-member}
 use Rattle.promises.specs.Words.{At, first, next, Holdable, IsStore}
 use Rattle.promises.specs.Proofs.Decoded.{and-true}
 use Rattle.promises.specs.Proofs.Retrieving.{at-member}
+use Rattle.promises.specs.Proofs.WellFormed.{WellParts, buffer-parts, parts-buffer}
 use Rattle.promises.specs.Proofs.Joining.{no-at, at-every}
 
 module _ {A : Type 0} where
@@ -46,33 +47,29 @@ module _ {A : Type 0} where
   up-at f i (suc n) (next a) = let r = up-at f (i + 1) n a in (omega (arith, r .0), r .1 ∙ ap f (omega arith))
 
 module _ (types : List ℕ) (c : Chunk) where
-  abbrev valued : Bool
-  valued = every (λ v. leb v 4095) (c .slots)
-
-  abbrev empty : Bool
-  empty = every (λ v. eqb v 0) (drop (slotCount types (c .isa)) (c .slots))
-
   holds : holdable types c ≡ true → Holdable types c
   holds e =
       let typed : ltb 0 (c .isa) ≡ true = and-left (ltb 0 (c .isa)) (wellBuffer types (opens c)) e in
-      let well : wellBuffer types (opens c) ≡ true = and-right (ltb 0 (c .isa)) (wellBuffer types (opens c)) e in
-      let low : (ltb (c .isa) (length types) && valued) ≡ true = and-left (ltb (c .isa) (length types) && valued) empty well in
+      let well : WellParts types (opens c) = buffer-parts types (opens c) (and-right (ltb 0 (c .isa)) (wellBuffer types (opens c)) e) in
       let count : ℕ = slotCount types (c .isa) in
       record {
         declared = ltb-true 0 (c .isa) typed;
-        no-larger = ltb-true (c .isa) (length types) (and-left (ltb (c .isa) (length types)) valued low);
-        symbols = λ b v a. leb-true v 4095 (every-at (λ x. leb x 4095) (and-right (ltb (c .isa) (length types)) valued low) a);
-        past-empty = λ b v a l.
-            eqb-true v 0 (every-at (λ x. eqb x 0) (and-right (ltb (c .isa) (length types) && valued) empty well) (at-drop count (b - count) (omega arith) a));
+        no-larger = ltb-true (c .isa) (length types) (well .typed);
+        symbols = λ b v a. leb-true v 4095 (every-at (λ x. leb x 4095) (well .symbols) a);
+        past-empty = λ b v a l. eqb-true v 0 (every-at (λ x. eqb x 0) (well .past-empty) (at-drop count (b - count) (omega arith) a));
       }
 
   held : Holdable types c → holdable types c ≡ true
   held h =
       and-true (ltb 0 (c .isa)) (wellBuffer types (opens c)) (lt-ltb 0 (c .isa) (h .declared))
-      (and-true (ltb (c .isa) (length types) && valued) empty
-      (and-true (ltb (c .isa) (length types)) valued (lt-ltb (c .isa) (length types) (h .no-larger)) (at-every (λ x. leb x 4095) (c .slots) (λ v b a. le-leb v 4095 (h .symbols b v a))))
-      (at-every (λ x. eqb x 0) (drop (slotCount types (c .isa)) (c .slots))
-      (λ v b a. eq-eqb v 0 (h .past-empty (slotCount types (c .isa) + b) v (drop-at (slotCount types (c .isa)) (c .slots) a) (omega arith)))))
+      (parts-buffer types (opens c)
+      (record {
+        typed = lt-ltb (c .isa) (length types) (h .no-larger);
+        symbols = at-every (λ x. leb x 4095) (c .slots) (λ v b a. le-leb v 4095 (h .symbols b v a));
+        past-empty = at-every (λ x. eqb x 0) (drop (slotCount types (c .isa)) (c .slots))
+            (λ v b a. eq-eqb v 0 (h .past-empty (slotCount types (c .isa) + b) v (drop-at (slotCount types (c .isa)) (c .slots) a) (omega arith)));
+        flag-fits = refl;
+      }))
 
 module _ (types words : List ℕ) where
   abbrev sized : Bool

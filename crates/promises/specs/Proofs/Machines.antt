@@ -14,7 +14,7 @@ use Rattle.meaning.specs.declared.State.{State}
 use Rattle.meaning.specs.Base.{every, keep, upFrom}
 use Rattle.meaning.specs.Numbers.{finer, bad-number}
 use Rattle.meaning.specs.Model.{Model, Rule, Named, Deed, Modify, Request, Clear, Chunk, Fact}
-use Rattle.meaning.specs.State.{nothing, bufferOf, nilAfter, slotCount, wellBuffer, isNil, wellFormed, opens}
+use Rattle.meaning.specs.State.{nothing, bufferOf, nilAfter, slotCount, wellBuffer, isNil, isUnused, wellFormed, opens}
 use Rattle.meaning.specs.Read.{Got, must, field, times}
 use Rattle.meaning.specs.Image.{Header, between, aType, anything, eight, header, chunk, fact, rule, ending, slotCounts, beginning, contents, model, decode}
 use Rattle.meaning.specs.Retrieval.{valueOf, fits, weaker, retrieve, retrieved}
@@ -40,7 +40,7 @@ use Rattle.promises.specs.Proofs.Placed.{decode-got}
 use Rattle.promises.specs.Proofs.Steps.{FiredBy, WaitedBy, step-fired, step-waited}
 use Rattle.promises.specs.Proofs.Chains.{chain-keeps}
 use Rattle.promises.specs.Proofs.Eight.{open-eight, step-eight}
-use Rattle.promises.specs.Proofs.WellFormed.{buffer-parts, all-getD, all-change, step-well}
+use Rattle.promises.specs.Proofs.WellFormed.{WellParts, buffer-parts, parts-buffer, all-getD, all-change, step-well}
 
 -- ---- what an image's chunks, facts and failure latency are
 
@@ -81,25 +81,25 @@ fact-fit types low image at f end e =
 failure-fit : (image : List ℕ) (at : ℕ) (h : Header) (end : ℕ) → header finer image at ≡ Got h end → isWord (h .failure) ≡ true
 unfolding header
 failure-fit image at h end e =
-    split (field 8 (must bad-number (between 1 1)) image at) _ e λ version n₁ e₁ k₁.
+    split (field 8 (must bad-number (between 1 2)) image at) _ e λ version n₁ e₁ k₁.
     split (field 4 (must bad-number (between 1 8)) image n₁) _ k₁ λ buffers n₂ e₂ k₂.
     split (field 6 (must bad-number (between 0 63)) image n₂) _ k₂ λ declared n₃ e₃ k₃.
     split (field 9 (must bad-number (between 0 256)) image n₃) _ k₃ λ rules n₄ e₄ k₄.
     split (field 10 (must bad-number (between 0 512)) image n₄) _ k₄ λ facts n₅ e₅ k₅.
     split (field 16 anything image n₅) _ k₅ λ failure n₆ e₆ k₆.
-    let q : record { buffers = buffers; declared = declared; rules = rules; facts = facts; failure = failure } ≡ h = cc in
+    let q : record { version = version; buffers = buffers; declared = declared; rules = rules; facts = facts; failure = failure } ≡ h = cc in
     rw (← q) (word-of image n₅ failure n₆ e₆)
 
 types-fit : (image : List ℕ) (at : ℕ) (h : Header) (end : ℕ) → header finer image at ≡ Got h end → h .declared ≤ 63
 unfolding header
 types-fit image at h end e =
-    split (field 8 (must bad-number (between 1 1)) image at) _ e λ version n₁ e₁ k₁.
+    split (field 8 (must bad-number (between 1 2)) image at) _ e λ version n₁ e₁ k₁.
     split (field 4 (must bad-number (between 1 8)) image n₁) _ k₁ λ buffers n₂ e₂ k₂.
     split (field 6 (must bad-number (between 0 63)) image n₂) _ k₂ λ declared n₃ e₃ k₃.
     split (field 9 (must bad-number (between 0 256)) image n₃) _ k₃ λ rules n₄ e₄ k₄.
     split (field 10 (must bad-number (between 0 512)) image n₄) _ k₄ λ facts n₅ e₅ k₅.
     split (field 16 anything image n₅) _ k₅ λ failure n₆ e₆ k₆.
-    let q : record { buffers = buffers; declared = declared; rules = rules; facts = facts; failure = failure } ≡ h = cc in
+    let q : record { version = version; buffers = buffers; declared = declared; rules = rules; facts = facts; failure = failure } ≡ h = cc in
     rw (← q) (between-got 6 0 63 image n₂ declared n₃ e₃ .1)
 
 pub record Fit (m : Model) : Type 0 where
@@ -112,12 +112,12 @@ fits-of : (image : List ℕ) (m : Model) (at : ℕ) → model finer image 0 ≡ 
 unfolding model beginning contents
 fits-of image m at e =
     split (beginning finer image 0) _ e λ b n₁ e₁ k₁.
-    split (contents finer (record { buffers = b .head .buffers; types = b .types }) (b .head .facts) (b .head .rules) image n₁) _ k₁ λ c n₂ e₂ k₂.
+    split (contents finer (b .head .version) (record { buffers = b .head .buffers; types = b .types }) (b .head .facts) (b .head .rules) image n₁) _ k₁ λ c n₂ e₂ k₂.
     split (header finer image 0) _ e₁ λ h n₃ e₃ k₃.
     split (slotCounts finer (h .declared) image n₃) _ k₃ λ counts n₄ e₄ k₄.
     split (times (h .buffers) (chunk finer (0 ∷ counts) 0) image n₄) _ k₄ λ opening n₅ e₅ k₅.
     split (times (b .head .facts) (fact finer (b .types)) image n₁) _ e₂ λ facts n₆ e₆ k₆.
-    split (times (b .head .rules) (rule finer (record { buffers = b .head .buffers; types = b .types })) image n₆) _ k₆ λ rules n₇ e₇ k₇.
+    split (times (b .head .rules) (rule finer (b .head .version) (record { buffers = b .head .buffers; types = b .types })) image n₆) _ k₆ λ rules n₇ e₇ k₇.
     split (ending image n₇) _ k₇ λ u n₈ e₈ k₈.
     let c-is : record { facts = facts; rules = rules } ≡ c = cc in
     let b-is : record { head = h; types = 0 ∷ counts; opening = opening } ≡ b = cc in
@@ -182,7 +182,7 @@ places-fit types words [] few e = refl
 places-fit types words (i ∷ is) few e =
     let c : Chunk = placeIn words i in
     let w : wellBuffer types (opens c) ≡ true = and-right (ltb 0 (c .isa)) (wellBuffer types (opens c)) (and-left (holdable types c) (every (holdable types) (map (placeIn words) is)) e) in
-    let low : c .isa < length types = ltb-true (c .isa) (length types) (buffer-parts types (opens c) w .0) in
+    let low : c .isa < length types = ltb-true (c .isa) (length types) (buffer-parts types (opens c) w .typed) in
     let long : eqb (length (c .slots)) 8 ≡ true = eq-eqb (length (c .slots)) 8 (length-upFrom (λ b. getD words (9 * i + 2 + b) 0) 0 8) in
     and-true (chunkFit c) (every chunkFit (map (placeIn words) is)) (and-true (eqb (length (c .slots)) 8) (isWord (c .isa)) long (le-leb (c .isa) 65535 (omega (arith, low))))
     (places-fit types words is few (and-right (holdable types c) (every (holdable types) (map (placeIn words) is)) e))
@@ -201,8 +201,9 @@ lent-fit m fit (some words) e =
 abbrev rough : Buffer → Bool
 rough b = eqb (length (b .slots)) 8 && (isWord (b .isa) && isWord (b .delay))
 
-rough-made : (isa : ℕ) (slots : List ℕ) (delay : ℕ) → length slots ≡ 8 → isWord isa ≡ true → isWord delay ≡ true → rough (record { isa = isa; slots = slots; delay = delay }) ≡ true
-rough-made isa slots delay l i d = and-true (eqb (length slots) 8) (isWord isa && isWord delay) (eq-eqb (length slots) 8 l) (and-true (isWord isa) (isWord delay) i d)
+rough-made : (b : Buffer) → length (b .slots) ≡ 8 → isWord (b .isa) ≡ true → isWord (b .delay) ≡ true → rough b ≡ true
+rough-made b l i d =
+    and-true (eqb (length (b .slots)) 8) (isWord (b .isa) && isWord (b .delay)) (eq-eqb (length (b .slots)) 8 l) (and-true (isWord (b .isa)) (isWord (b .delay)) i d)
 
 record Rough (b : Buffer) : Type 0 where
   slots-are : length (b .slots) ≡ 8
@@ -226,7 +227,7 @@ put-long (n ∷ ns) entry slots = put-long ns entry (set slots (n .slot) (valueO
 later-rough : (ms : ℕ) (b : Buffer) → rough b ≡ true → rough (later ms b) ≡ true
 later-rough ms b e =
     let r : Rough b = rough-parts b e in
-    rough-made (b .isa) (b .slots) (b .delay - ms) (r .slots-are) (r .isa-is) (le-leb (b .delay - ms) 65535 (omega (arith, leb-true (b .delay) 65535 (r .delay-is))))
+    rough-made (later ms b) (r .slots-are) (r .isa-is) (le-leb (b .delay - ms) 65535 (omega (arith, leb-true (b .delay) 65535 (r .delay-is))))
 
 module _ (m : Model) (fit : Fit m) (entry : List ℕ) where
   retrieved-rough : (isa : ℕ) (ns : List Named) (o : Option Fact) → retrieve (m .facts) isa ns entry ≡ o → rough (retrieved (m .failure) o) ≡ true
@@ -236,14 +237,14 @@ module _ (m : Model) (fit : Fit m) (entry : List ℕ) where
       let h : List·Memᴰ f (keep (fits isa ns entry) (m .facts)) = rw (b .split) (Memᴰ·append-right (b .before) (List·Memᴰ·head refl)) in
       let g : factFit f ≡ true = every-member factFit (m .facts) (fit .facts-fit) (keep-member (fits isa ns entry) (m .facts) h .0) in
       let c : chunkFit (f .chunk) ≡ true = and-left (chunkFit (f .chunk)) (isWord (f .latency)) g in
-      rough-made (f .chunk .isa) (f .chunk .slots) (f .latency) (eqb-true (length (f .chunk .slots)) 8 (and-left (eqb (length (f .chunk .slots)) 8) (isWord (f .chunk .isa)) c))
+      rough-made (retrieved (m .failure) (some f)) (eqb-true (length (f .chunk .slots)) 8 (and-left (eqb (length (f .chunk .slots)) 8) (isWord (f .chunk .isa)) c))
       (and-right (eqb (length (f .chunk .slots)) 8) (isWord (f .chunk .isa)) c) (and-right (chunkFit (f .chunk)) (isWord (f .latency)) g)
 
   after-rough : (b : Buffer) (o : Option Deed) → rough b ≡ true → rough (after (m .failure) (m .facts) entry b o) ≡ true
   unfolding done
   after-rough b none e = later-rough 50 b e
   after-rough b (some (Modify ns)) e =
-      let r : Rough b = rough-parts b e in rough-made (b .isa) (put ns entry (b .slots)) 0 (put-long ns entry (b .slots) ∙ r .slots-are) (r .isa-is) refl
+      let r : Rough b = rough-parts b e in rough-made (done (m .failure) (m .facts) entry b (Modify ns)) (put-long ns entry (b .slots) ∙ r .slots-are) (r .isa-is) refl
   after-rough b (some (Request isa ns)) e = retrieved-rough isa ns (retrieve (m .facts) isa ns entry) refl
   after-rough b (some Clear) e = refl
 
@@ -279,7 +280,7 @@ opens-rough [] e = refl
 opens-rough (c ∷ cs) e =
     let g : chunkFit c ≡ true = and-left (chunkFit c) (every chunkFit cs) e in
     and-true (rough (opens c)) (every rough (map opens cs))
-    (rough-made (c .isa) (c .slots) 0 (eqb-true (length (c .slots)) 8 (and-left (eqb (length (c .slots)) 8) (isWord (c .isa)) g)) (and-right (eqb (length (c .slots)) 8) (isWord (c .isa)) g) refl)
+    (rough-made (opens c) (eqb-true (length (c .slots)) 8 (and-left (eqb (length (c .slots)) 8) (isWord (c .isa)) g)) (and-right (eqb (length (c .slots)) 8) (isWord (c .isa)) g) refl)
     (opens-rough cs (and-right (chunkFit c) (every chunkFit cs) e))
 
 open-rough : (m : Model) → Fit m → every rough (openState m .buffers) ≡ true
@@ -292,7 +293,7 @@ open-rough m fit =
 full : (types : List ℕ) (b : Buffer) → rough b ≡ true → wellBuffer types b ≡ true → isBuffer b ≡ true
 full types b r w =
     let p : Rough b = rough-parts b r in
-    let small : every isWord (b .slots) ≡ true = all-weaken (λ v. leb v 4095) isWord (λ v h. le-leb v 65535 (omega (arith, leb-true v 4095 h))) (b .slots) (buffer-parts types b w .1) in
+    let small : every isWord (b .slots) ≡ true = all-weaken (λ v. leb v 4095) isWord (λ v h. le-leb v 65535 (omega (arith, leb-true v 4095 h))) (b .slots) (buffer-parts types b w .symbols) in
     and-true (eqb (length (b .slots)) 8) (isWord (b .isa) && (every isWord (b .slots) && isWord (b .delay))) (eq-eqb (length (b .slots)) 8 (p .slots-are))
     (and-true (isWord (b .isa)) (every isWord (b .slots) && isWord (b .delay)) (p .isa-is) (and-true (every isWord (b .slots)) (isWord (b .delay)) small (p .delay-is)))
 
@@ -312,7 +313,7 @@ rough-of b e =
 
 well-buffers : (m : Model) (s : State) → wellFormed m s ≡ true → every (wellBuffer (m .types)) (s .buffers) ≡ true
 unfolding wellFormed
-well-buffers m s e = and-left (every (wellBuffer (m .types)) (s .buffers)) (every isNil (drop (m .buffers) (s .buffers))) e
+well-buffers m s e = and-left (every (wellBuffer (m .types)) (s .buffers)) (every isUnused (drop (m .buffers) (s .buffers))) e
 
 -- ---- what a chain of calls keeps: a well-formed state of the machine
 
@@ -337,10 +338,16 @@ module _ (image : List ℕ) (m : Model) (at : ℕ) (d : decode image ≡ Got m a
   unfolding openState
   open-sound = made-sound m (openState m) (open-eight m (decoded image m at d)) (open-rough m fit) (omega arith) (open-well image m at d)
 
-  -- a chunk other than nil, in a visible buffer that is well, is one that the image could hold
-  filled-holdable : (b : Buffer) → wellBuffer (m .types) b ≡ true → b .delay ≡ 0 → isNil b ≡ false → holdable (m .types) (chunkOf b) ≡ true
-  filled-holdable b w seen filled = and-true (ltb 0 (b .isa)) (wellBuffer (m .types) b) (by (b .isa) refl) w
+  -- a chunk other than nil, in a buffer that is well, is one that the image could hold
+  filled-holdable : (b : Buffer) → wellBuffer (m .types) b ≡ true → isNil b ≡ false → holdable (m .types) (chunkOf b) ≡ true
+  filled-holdable b w filled = and-true (ltb 0 (b .isa)) (wellBuffer (m .types) (opens (chunkOf b))) (by (b .isa) refl) chunk-well
     where
+      parts : WellParts (m .types) b
+      parts = buffer-parts (m .types) b w
+
+      chunk-well : wellBuffer (m .types) (opens (chunkOf b)) ≡ true
+      chunk-well = parts-buffer (m .types) (opens (chunkOf b)) (record { typed = parts .typed; symbols = parts .symbols; past-empty = parts .past-empty; flag-fits = refl })
+
       empty : slotCount (m .types) 0 ≡ 0
       empty = rw (decoded image m at d .types-are) refl
 
@@ -348,10 +355,8 @@ module _ (image : List ℕ) (m : Model) (at : ℕ) (d : decode image ≡ Got m a
       by (suc k) e = lt-ltb 0 (suc k) (omega arith)
       by zero e =
           let zeros : every (λ v. eqb v 0) (b .slots) ≡ true =
-          ap (λ (n : ℕ). every (λ v. eqb v 0) (drop n (b .slots))) (sym (ap (slotCount (m .types)) e ∙ empty)) ∙ buffer-parts (m .types) b w .2 in
-          let nil : isNil b ≡ true =
-          and-true (eqb (b .isa) 0 && every (λ v. eqb v 0) (b .slots)) (eqb (b .delay) 0) (and-true (eqb (b .isa) 0) (every (λ v. eqb v 0) (b .slots)) (eq-eqb (b .isa) 0 e) zeros)
-          (eq-eqb (b .delay) 0 seen) in
+          ap (λ (n : ℕ). every (λ v. eqb v 0) (drop n (b .slots))) (sym (ap (slotCount (m .types)) e ∙ empty)) ∙ parts .past-empty in
+          let nil : isNil b ≡ true = and-true (eqb (b .isa) 0) (every (λ v. eqb v 0) (b .slots)) (eq-eqb (b .isa) 0 e) zeros in
           absurd (no-true (sym nil ∙ filled))
 
   adds-holdable : (k : Model) (s : State) (e : Event) → wellFormed m s ≡ true → every (holdable (m .types)) (adds k s e) ≡ true
@@ -360,7 +365,7 @@ module _ (image : List ℕ) (m : Model) (at : ℕ) (d : decode image ≡ Got m a
       at-every (holdable (m .types)) (adds k s (Fired n)) (λ c j a.
       let o : ClearedBy (k .rules) s n c = adds-from k s n j c a in
       subst (λ (x : Chunk). holdable (m .types) x ≡ true) (o .held)
-      (filled-holdable (bufferOf s (o .buffer)) (at-place (wellBuffer (m .types)) (s .buffers) (o .buffer) (o .there) (well-buffers m s w)) (o .seen) (o .filled)))
+      (filled-holdable (bufferOf s (o .buffer)) (at-place (wellBuffer (m .types)) (s .buffers) (o .buffer) (o .there) (well-buffers m s w)) (o .filled)))
 
   -- what a step learns was in a buffer
   store-kept : (s : State) (e : Event) (store : Option (List Chunk)) → Sound m s → StoreFit m store → StoreFit m (storeAfter m s e store)

@@ -20,6 +20,7 @@ use Rattle.meaning.specs.Mark.{isSome, actedOn, arrived, markOf}
 use Rattle.meaning.specs.Step.{Event, Fired, Waited, Made, step}
 use Rattle.laws.specs.BaseLaws.{no-true, and-left, and-right, getD-upFrom, bit-weigh, by-lt}
 use Rattle.promises.specs.Words.{At, Touched, acted-on, came}
+use Rattle.promises.specs.Proofs.Matching.{above-zero}
 use Rattle.promises.specs.Proofs.Selection.{at-same}
 use Rattle.promises.specs.Proofs.Steps.{FiredBy, WaitedBy, step-fired, step-waited}
 use Rattle.promises.specs.Proofs.Firing.{fired-rule}
@@ -87,11 +88,7 @@ module _ (as′ : List Action) (s s′ : State) where
   arrived-came b e =
       let was : not (visible (bufferOf s b)) ≡ true = and-left (not (visible (bufferOf s b))) (visible (bufferOf s′ b)) e in
       let is : visible (bufferOf s′ b) ≡ true = and-right (not (visible (bufferOf s b))) (visible (bufferOf s′ b)) e in
-      (pending (bufferOf s b .delay) was, eqb-true (bufferOf s′ b .delay) 0 is)
-    where
-      pending : (d : ℕ) → not (eqb d 0) ≡ true → 0 < d
-      pending zero e = absurd (no-true (sym e))
-      pending (suc d) e = omega arith
+      (above-zero (bufferOf s b .delay) was, eqb-true (bufferOf s′ b .delay) 0 is)
 
   came-arrived : (b : ℕ) → 0 < bufferOf s b .delay → bufferOf s′ b .delay ≡ 0 → arrived s s′ b ≡ true
   came-arrived b p q = rw (ne-eqb (bufferOf s b .delay) 0 (λ e. omega arith), eq-eqb (bufferOf s′ b .delay) 0 q) refl

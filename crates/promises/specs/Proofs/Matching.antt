@@ -12,13 +12,13 @@ use lib.ListN.{getD}
 use Rattle.meaning.specs.declared.Buffer.{Buffer}
 use Rattle.meaning.specs.declared.State.{State}
 use Rattle.meaning.specs.Base.{if_then_else_, every, anyOf, upFrom}
-use Rattle.meaning.specs.Model.{Rule, Test, Named, Term, Symbol, Variable}
+use Rattle.meaning.specs.Model.{Rule, Test, Query, Ask, Busy, Free, Error, Named, Term, Symbol, Variable}
 use Rattle.meaning.specs.State.{bufferOf, visible}
 use Rattle.meaning.specs.Image.{isVariable, standsIn}
-use Rattle.meaning.specs.Match.{Place, place, places, valueIn, termIn, takes, agrees, agreed, shows, matches, entryOf}
+use Rattle.meaning.specs.Match.{Place, place, places, valueIn, termIn, takes, agrees, agreed, shows, testsHold, answers, queriesHold, matches, entryOf}
 use Rattle.meaning.specs.Retrieval.{valueOf}
 use Rattle.laws.specs.BaseLaws.{no-true, and-left, and-right, every-member}
-use Rattle.promises.specs.Published.{standsFor, Holds, Binds, Matches}
+use Rattle.promises.specs.Published.{standsFor, Holds, Finds, Binds, Matches}
 use Rattle.promises.specs.Proofs.Decoded.{and-true, goodTerm}
 
 pub member-all : {A : Type 0} (p : A → Bool) (xs : List A) → ((y : A) → List·Memᴰ y xs → p y ≡ true) → every p xs ≡ true
@@ -100,45 +100,83 @@ term-own : (ps : List Place) (t : Term) → termIn ps t ≡ standsFor (valueIn p
 term-own ps (Symbol x) = refl
 term-own ps (Variable w) = refl
 
+-- ---- a query and what it finds
+
+pub above-zero : (d : ℕ) → not (eqb d 0) ≡ true → 0 < d
+above-zero zero e = absurd (no-true (sym e))
+above-zero (suc d) e = omega arith
+
+pub answers-finds : (a : Ask) (b : Buffer) → answers a b ≡ true → Finds a b
+answers-finds Busy b e = above-zero (b .delay) e
+answers-finds Free b e = eqb-true (b .delay) 0 e
+answers-finds Error b e = (eqb-true (b .delay) 0 (and-left (visible b) (b .error) e), and-right (visible b) (b .error) e)
+
+pub finds-answers : (a : Ask) (b : Buffer) → Finds a b → answers a b ≡ true
+finds-answers Busy b h = ap not (ne-eqb (b .delay) 0 (λ e. omega arith))
+finds-answers Free b h = eq-eqb (b .delay) 0 h
+finds-answers Error b h = and-true (visible b) (b .error) (eq-eqb (b .delay) 0 (h .0)) (h .1)
+
 -- ---- the test and the relation
 
-pub matches-bind : (r : Rule) (s : State) → matches r s ≡ true → Matches r s
-unfolding matches
-matches-bind r s e =
-    let ps : List Place = places (r .tests) s in
-    let seen : every (λ t. shows t (bufferOf s (t .buffer))) (r .tests) ≡ true = and-left (every (λ t. shows t (bufferOf s (t .buffer))) (r .tests)) (agreed ps) e in
-    let all : agreed ps ≡ true = and-right (every (λ t. shows t (bufferOf s (t .buffer))) (r .tests)) (agreed ps) e in
-    let value : Buffer → Named → ℕ = λ b n. place b n .value in
-    let agree : (t : Test) → List·Memᴰ t (r .tests) → (n : Named) → List·Memᴰ n (t .named) → agrees ps (place (bufferOf s (t .buffer)) n) ≡ true =
-    λ t h n k. every-member (agrees ps) ps all (place-in s (r .tests) t n h k) in
+module _ (r : Rule) (s : State) where
+  pub matches-tests : matches r s ≡ true → testsHold (r .tests) s ≡ true
+  unfolding matches
+  matches-tests e = and-left (testsHold (r .tests) s) (queriesHold (r .queries) s) e
+
+  pub matches-queries : matches r s ≡ true → (q : Query) → List·Memᴰ q (r .queries) → answers (q .asks) (bufferOf s (q .buffer)) ≡ true
+  unfolding matches
+  matches-queries e q h =
+      every-member (λ q. answers (q .asks) (bufferOf s (q .buffer))) (r .queries) (and-right (testsHold (r .tests) s) (queriesHold (r .queries) s) e) h
+
+-- each test shows its buffer
+pub tests-show : (s : State) (ts : List Test) → testsHold ts s ≡ true → every (λ t. shows t (bufferOf s (t .buffer))) ts ≡ true
+tests-show s ts e = and-left (every (λ t. shows t (bufferOf s (t .buffer))) ts) (agreed (places ts s)) e
+
+tests-bind : (s : State) (ts : List Test) → testsHold ts s ≡ true → (t : Test) → List·Memᴰ t ts → Holds (valueIn (places ts s)) s t
+tests-bind s ts e t h =
+    let ps : List Place = places ts s in
+    let all : agreed ps ≡ true = and-right (every (λ t. shows t (bufferOf s (t .buffer))) ts) (agreed ps) e in
+    let b : Buffer = bufferOf s (t .buffer) in
+    let value : Named → ℕ = λ n. place b n .value in
+    let y : shows t b ≡ true = every-member (λ t. shows t (bufferOf s (t .buffer))) ts (tests-show s ts e) h in
+    let agree : (n : Named) → List·Memᴰ n (t .named) → agrees ps (place b n) ≡ true = λ n k. every-member (agrees ps) ps all (place-in s ts t n h k) in
     record {
-      binding = valueIn ps;
-      binds = λ t h.
-          let b : Buffer = bufferOf s (t .buffer) in
-          let y : shows t b ≡ true = every-member (λ t. shows t (bufferOf s (t .buffer))) (r .tests) seen h in
-          record {
-            visible = eqb-true (b .delay) 0 (and-left (visible b) (eqb (b .isa) (t .isa)) y);
-            typed = eqb-true (b .isa) (t .isa) (and-right (visible b) (eqb (b .isa) (t .isa)) y);
-            valued = λ n k. eqb-true (value b n) (termIn ps (n .term)) (and-right (takes (n .term) (value b n)) _ (agree t h n k)) ∙ term-own ps (n .term);
-            filled = λ n k. filled-taken (n .term) (value b n) (and-left (takes (n .term) (value b n)) _ (agree t h n k));
-          };
+      visible = eqb-true (b .delay) 0 (and-left (visible b) (eqb (b .isa) (t .isa)) y);
+      typed = eqb-true (b .isa) (t .isa) (and-right (visible b) (eqb (b .isa) (t .isa)) y);
+      valued = λ n k. eqb-true (value n) (termIn ps (n .term)) (and-right (takes (n .term) (value n)) _ (agree n k)) ∙ term-own ps (n .term);
+      filled = λ n k. filled-taken (n .term) (value n) (and-left (takes (n .term) (value n)) _ (agree n k));
     }
 
-pub bind-matches : (r : Rule) (s : State) (v : ℕ → ℕ) → Binds r s v → matches r s ≡ true
-unfolding matches
-bind-matches r s v h =
-    let ps : List Place = places (r .tests) s in
-    let bound : Bound v ps = places-bound v s (r .tests) h in
-    and-true (every (λ t. shows t (bufferOf s (t .buffer))) (r .tests)) (agreed ps)
-    (member-all (λ t. shows t (bufferOf s (t .buffer))) (r .tests)
+pub matches-bind : (r : Rule) (s : State) → matches r s ≡ true → Matches r s
+matches-bind r s e =
+    record {
+      binding = valueIn (places (r .tests) s);
+      binds = record {
+        tests-hold = tests-bind s (r .tests) (matches-tests r s e);
+        queries-hold = λ q h. answers-finds (q .asks) (bufferOf s (q .buffer)) (matches-queries r s e q h);
+      };
+    }
+
+bind-tests : (s : State) (ts : List Test) (v : ℕ → ℕ) → ((t : Test) → List·Memᴰ t ts → Holds v s t) → testsHold ts s ≡ true
+bind-tests s ts v h =
+    let ps : List Place = places ts s in
+    let bound : Bound v ps = places-bound v s ts h in
+    and-true (every (λ t. shows t (bufferOf s (t .buffer))) ts) (agreed ps)
+    (member-all (λ t. shows t (bufferOf s (t .buffer))) ts
     (λ t k.
     let b : Buffer = bufferOf s (t .buffer) in
     and-true (visible b) (eqb (b .isa) (t .isa)) (eq-eqb (b .delay) 0 (h t k .visible)) (eq-eqb (b .isa) (t .isa) (h t k .typed))))
     (member-all (agrees ps) ps
     (λ p k.
     and-true (takes (p .term) (p .value)) (eqb (p .value) (termIn ps (p .term)))
-    (places-all (λ p. takes (p .term) (p .value) ≡ true) s (r .tests) (λ t j n i. takes-filled (n .term) _ (h t j .filled n i)) p k)
+    (places-all (λ p. takes (p .term) (p .value) ≡ true) s ts (λ t j n i. takes-filled (n .term) _ (h t j .filled n i)) p k)
     (eq-eqb (p .value) (termIn ps (p .term)) (bound p k ∙ sym (term-bound v ps bound p k (p .term) refl)))))
+
+pub bind-matches : (r : Rule) (s : State) (v : ℕ → ℕ) → Binds r s v → matches r s ≡ true
+unfolding matches
+bind-matches r s v h =
+    and-true (testsHold (r .tests) s) (queriesHold (r .queries) s) (bind-tests s (r .tests) v (h .tests-hold))
+    (member-all (λ q. answers (q .asks) (bufferOf s (q .buffer))) (r .queries) (λ q k. finds-answers (q .asks) (bufferOf s (q .buffer)) (h .queries-hold q k)))
 
 -- ---- the entry holds the values of every binding
 
@@ -187,14 +225,14 @@ value-binds r s v h (Symbol x) g = refl
 value-binds r s v h (Variable w) g =
     let i : Standing (r .tests) w = standing (r .tests) w (and-right (ltb w 8) (standsIn (r .tests) w) g) in
     entry-value r s w (bind-matches r s v h) (ltb-true w 8 (and-left (ltb w 8) (standsIn (r .tests) w) g))
-    ∙ value-bound v (places (r .tests) s) (places-bound v s (r .tests) h) w (place (bufferOf s (i .test .buffer)) (i .named))
+    ∙ value-bound v (places (r .tests) s) (places-bound v s (r .tests) (h .tests-hold)) w (place (bufferOf s (i .test .buffer)) (i .named))
     (place-in s (r .tests) (i .test) (i .named) (i .test-in) (i .named-in)) (i .is)
 
 -- no variable that stands in a test is bound to nil
 pub bound-filled : (r : Rule) (s : State) (v : ℕ → ℕ) → Binds r s v → (w : ℕ) → standsIn (r .tests) w ≡ true → v w ≡ 0 → ⊥
 bound-filled r s v h w e nil =
     let i : Standing (r .tests) w = standing (r .tests) w e in
-    let holds : Holds v s (i .test) = h (i .test) (i .test-in) in
+    let holds : Holds v s (i .test) = h .tests-hold (i .test) (i .test-in) in
     holds .filled (i .named) (i .named-in) w (i .is) (holds .valued (i .named) (i .named-in) ∙ ap (standsFor v) (i .is) ∙ nil)
 
 -- the relation, for a test

@@ -68,12 +68,12 @@ module _ (image : List ℕ) where
 stop-place : {image : List ℕ} {n x : ℕ} → Stop Model (allFields finer) image 0 n x → HasPlace n
 stop-place (at-field w r c a b t (lacks h)) = of-a-gap
 stop-place (at-field w r c a b t (breaks h k e)) = of-a-rule k
-stop-place (at-tests z h b c u s) = of-a-rule of-a-variable
+stop-place (at-tests version z h b c u s) = of-a-rule of-a-variable
 
 stop-stops : {image : List ℕ} {n x : ℕ} → x ≤ 8 * length image → Stop Model (allFields finer) image 0 n x → Stops image x n
 stop-stops l (at-field w r c a b t (lacks h)) = missing w b l h
 stop-stops l (at-field w r c a b t (breaks h k e)) = broken w a b h k
-stop-stops l (at-tests z h b c u s) = unbound l
+stop-stops l (at-tests version z h b c u s) = unbound l
 
 module _ (image : List ℕ) where
   pub fields-stop : (n x : ℕ) → allFields finer image 0 ≡ Refused n x → Stop Model (allFields finer) image 0 n x
@@ -158,9 +158,10 @@ stop-told {image} {n} {x} (at-field width rule comes some narrow takes cause) =
       broken = λ image′ l b h k e. model-decode image′ l (suc k) x (takes .broken image′ b h k e);
       kept = λ image′ l b h e. after-refused image′ l (x + width) (takes .kept image′ b h e);
     }) (cause-inside image x width rule some cause)
-stop-told {image} {n} {x} (at-tests z d b comes free stays) =
+stop-told {image} {n} {x} (at-tests version z d b comes free stays) =
     of-tests refl
     (record {
+      version = version;
       sizes = z;
       head = d;
       tests-at = b;
@@ -241,7 +242,7 @@ module _ (image rest : List ℕ) where
       by (suc j) a q =
           let same : fieldAt (image ++ rest) x width ≡ fieldAt image x width = field-same image (image ++ rest) x width (begins-longer image rest (x + width) h) in
           rw q (takes .broken (image ++ rest) (begins-longer image rest x l) (omega (arith, length-append image rest)) j (ap rule same ∙ e ∙ q))
-  longer-refused {n} {x} l k (at-tests z d b comes free stays) = stays (image ++ rest) (begins-longer image rest x l)
+  longer-refused {n} {x} l k (at-tests version z d b comes free stays) = stays (image ++ rest) (begins-longer image rest x l)
 
   -- what was read stays read, and then something follows
   longer-read : 0 < length rest → (m : Model) (end : ℕ) → allFields finer image 0 ≡ Got m end → model finer (image ++ rest) 0 ≡ Refused bad-end 0

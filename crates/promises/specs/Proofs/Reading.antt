@@ -9,10 +9,10 @@ use native.Mathlib.Omega.{arith}
 use lib.ListN.{length}
 use Rattle.meaning.specs.Base.{if_then_else_, every, upFrom}
 use Rattle.meaning.specs.Numbers.{finer, not-there, bad-number, bad-end, bad-mask, bad-variable, bad-buffer}
-use Rattle.meaning.specs.Model.{Model, Sizes, Rule, Action, Test, Fact}
+use Rattle.meaning.specs.Model.{Model, Sizes, Rule, Action, Query, Test, Fact}
 use Rattle.meaning.specs.Bits.{fieldAt}
 use Rattle.meaning.specs.Read.{Read, Refused, Got, Reader, follow, andThen, give, Judgement, next, orElse, field, require, times}
-use Rattle.meaning.specs.Image.{utilityOf, Head, tests, standsIn, actions, body, fact, rule, ending, Beginning, Contents, contents, model}
+use Rattle.meaning.specs.Image.{utilityOf, Head, tests, standsIn, queries, actions, body, fact, rule, ending, Beginning, Contents, contents, model}
 use Rattle.laws.specs.ReadLaws.{no-got, split, field-short, field-broken, field-kept, field-got, field-refused}
 use Rattle.laws.specs.FieldLaws.{FieldRule, free, of-number, of-mask, of-variable, of-buffer, both, judgement, allFields, all-each, times-each, fact-each, rule-each, beginning-each, EachField}
 use Rattle.laws.specs.PlaceLaws.{Within, give-within, then-within, field-within, body-within, endsWell, endedBy}
@@ -98,7 +98,7 @@ pub record Unbound (image : List ℕ) (z : Sizes) (h : Head) (b x : ℕ) : Type 
 pub data Stop (A : Type 0) (p : Reader A) (image : List ℕ) (from : ℕ) : ℕ → ℕ → Type 1 where
   at-field : {n x : ℕ} (width : ℕ) (rule : Judgement) → (ComesTo image A p from → ComesTo image ℕ (field width rule) x) → 0 < width → width ≤ 16
       → Takes A p image from x width rule → Cause image x width rule n → Stop A p image from n x
-  at-tests : {x : ℕ} (z : Sizes) (h : Head) (b : ℕ) → (ComesTo image A p from → ComesTo image Rule (body finer z h) b) → Unbound image z h b x
+  at-tests : {x : ℕ} (version : ℕ) (z : Sizes) (h : Head) (b : ℕ) → (ComesTo image A p from → ComesTo image Rule (body finer version z h) b) → Unbound image z h b x
       → ((image′ : List ℕ) → BeginsAs image x image′ → p image′ from ≡ Refused bad-variable x) → Stop A p image from bad-variable x
 
 -- no reader goes back
@@ -160,8 +160,8 @@ module _ (A B : Type 0) (p : Reader A) (k : A → Reader B) (first : Reads A p) 
         broken = λ image′ b g j e. rw (takes .broken image′ b g j e) refl;
         kept = λ image′ b g e. then-after image′ at (x + width) (omega (arith, b .reaches)) (takes .kept image′ b g e);
       }) cause
-  first-stop image at n x h l (at-tests z d b comes unbound stays) =
-      at-tests z d b (λ c. comes (into p k c)) unbound (λ image′ s. rw (stays image′ s) refl)
+  first-stop image at n x h l (at-tests version z d b comes unbound stays) =
+      at-tests version z d b (λ c. comes (into p k c)) unbound (λ image′ s. rw (stays image′ s) refl)
 
   -- where the second stops after the first went well, both do
   second-stop : (image : List ℕ) (at n x : ℕ) (a : A) (next : ℕ) → at ≤ 8 * length image → p image at ≡ Got a next → next ≤ x → Stop B (k a) image next n x → Stop B (andThen p k) image at n x
@@ -172,8 +172,8 @@ module _ (A B : Type 0) (p : Reader A) (k : A → Reader B) (first : Reads A p) 
         broken = λ image′ b g j f. rw (first .goes image at a next h e image′ (begins-less b next l)) (takes .broken image′ b g j f);
         kept = λ image′ b g f. rw (first .goes image at a next h e image′ (begins-less b next l)) (takes .kept image′ b g f);
       }) cause
-  second-stop image at n x a next h e l (at-tests z d b comes unbound stays) =
-      at-tests z d b (λ c. comes (past p k c e)) unbound
+  second-stop image at n x a next h e l (at-tests version z d b comes unbound stays) =
+      at-tests version z d b (λ c. comes (past p k c e)) unbound
       (λ image′ s. rw (first .goes image at a next h e image′ (begins-less s next l)) (stays image′ s))
 
 module _ (A B : Type 0) (p : Reader A) (k : A → Reader B) (first : Reads A p) (second : (a : A) → Ends B (k a)) where
@@ -276,34 +276,38 @@ module _ (width : ℕ) (some : 0 < width) (narrow : width ≤ 16) (r : FieldRule
         stops = λ image at n x h e. field-stops image at n x e;
       }
 
--- ---- a rule's tests, the check on its variables, and its actions
+-- ---- a rule's tests, the check on its variables, its queries, and its actions
 
-module _ (z : Sizes) (h : Head) (tested : Reads (List Test) (tests finer z (h .variables) (h .tests)))
+module _ (version : ℕ) (z : Sizes) (h : Head) (tested : Reads (List Test) (tests finer z (h .variables) (h .tests)))
+    (asked : Reads (List Query) (queries finer version (z .buffers) (h .tests)))
     (acted : (ts : List Test) → Reads (List Action) (actions finer z (h .variables) ts (h .actions))) where
-  abbrev acts : List Test → Reader Rule
-  acts ts = andThen (actions finer z (h .variables) ts (h .actions)) (λ as′. give (record { utility = utilityOf (h .utility); tests = ts; actions = as′ }))
+  abbrev acts : List Test → List Query → Reader Rule
+  acts ts qs = andThen (actions finer z (h .variables) ts (h .actions)) (λ as′. give (record { utility = utilityOf (h .utility); tests = ts; queries = qs; actions = as′ }))
+
+  abbrev asks-acts : List Test → Reader Rule
+  asks-acts ts = andThen (queries finer version (z .buffers) (h .tests)) (acts ts)
 
   -- what follows the tests, by whether every variable stood in one
   abbrev checked : List Test → Bool → Reader Rule
-  checked ts t = next (require bad-variable t) (acts ts)
+  checked ts t = next (require bad-variable t) (asks-acts ts)
 
   abbrev stood : List Test → Bool
   stood ts = every (standsIn ts) (upFrom 0 (h .variables))
 
-  acts-reads : (ts : List Test) → Reads Rule (acts ts)
-  acts-reads ts = then-reads (List Action) Rule _ _ (acted ts) (λ as′. give-reads Rule _)
+  rest-reads : (ts : List Test) → Reads Rule (asks-acts ts)
+  rest-reads ts = then-reads (List Query) Rule _ _ asked (λ qs. then-reads (List Action) Rule _ _ (acted ts) (λ as′. give-reads Rule _))
 
   checked-ahead : (ts : List Test) (t : Bool) → Forward Rule (checked ts t)
-  checked-ahead ts true = reads-ends Rule (acts ts) (acts-reads ts) .forward
+  checked-ahead ts true = reads-ends Rule (asks-acts ts) (rest-reads ts) .forward
   checked-ahead ts false = λ image at l. λ k. omega arith
 
   checked-goes : (ts : List Test) (t : Bool) (image : List ℕ) (at : ℕ) (r : Rule) (end : ℕ) → at ≤ 8 * length image → checked ts t image at ≡ Got r end
       → (image′ : List ℕ) → BeginsAs image end image′ → checked ts t image′ at ≡ Got r end
-  checked-goes ts true image at r end l e = acts-reads ts .goes image at r end l e
+  checked-goes ts true image at r end l e = rest-reads ts .goes image at r end l e
   checked-goes ts false image at r end l e = absurd (no-got bad-variable at r end e)
 
-  body-goes : (image : List ℕ) (at : ℕ) (r : Rule) (end : ℕ) → at ≤ 8 * length image → body finer z h image at ≡ Got r end → (image′ : List ℕ) → BeginsAs image end image′
-      → body finer z h image′ at ≡ Got r end
+  body-goes : (image : List ℕ) (at : ℕ) (r : Rule) (end : ℕ) → at ≤ 8 * length image → body finer version z h image at ≡ Got r end → (image′ : List ℕ)
+      → BeginsAs image end image′ → body finer version z h image′ at ≡ Got r end
   unfolding body
   body-goes image at r end l e image′ same =
       split (tests finer z (h .variables) (h .tests) image at) _ e λ ts n₁ e₁ k₁.
@@ -311,8 +315,8 @@ module _ (z : Sizes) (h : Head) (tested : Reads (List Test) (tests finer z (h .v
       let f : n₁ ≤ end = rw k₁ at (checked-ahead ts (stood ts) image n₁ w) in
       rw (tested .goes image at ts n₁ l e₁ image′ (begins-less same n₁ f)) (checked-goes ts (stood ts) image n₁ r end w k₁ image′ same)
 
-  -- it stops at a test, where the tests end, or at an action
-  body-stops : (image : List ℕ) (at n x : ℕ) → at ≤ 8 * length image → body finer z h image at ≡ Refused n x → Stop Rule (body finer z h) image at n x
+  -- it stops at a test, where the tests end, at a query or its count, or at an action
+  body-stops : (image : List ℕ) (at n x : ℕ) → at ≤ 8 * length image → body finer version z h image at ≡ Refused n x → Stop Rule (body finer version z h) image at n x
   unfolding body
   body-stops image at n x l e = by (tests finer z (h .variables) (h .tests) image at) refl e
     where
@@ -320,24 +324,25 @@ module _ (z : Sizes) (h : Head) (tested : Reads (List Test) (tests finer z (h .v
       ahead-of-tests ts = checked-ahead ts (stood ts)
 
       after : (ts : List Test) (mid : ℕ) → tests finer z (h .variables) (h .tests) image at ≡ Got ts mid → (t : Bool) → stood ts ≡ t → checked ts t image mid ≡ Refused n x
-          → Stop Rule (body finer z h) image at n x
+          → Stop Rule (body finer version z h) image at n x
       after ts mid q true u k =
           let w = tested .within .got image at ts mid l q .1 in
-          let acting : Stop Rule (checked ts (stood ts)) image mid n x = rw u (acts-reads ts .stops image mid n x w k) in
-          second-stop (List Test) Rule _ (λ ts. checked ts (stood ts)) tested ahead-of-tests image at n x ts mid l q (acts-reads ts .within .refused image mid n x w k .0) acting
+          let later : Stop Rule (checked ts (stood ts)) image mid n x = rw u (rest-reads ts .stops image mid n x w k) in
+          second-stop (List Test) Rule _ (λ ts. checked ts (stood ts)) tested ahead-of-tests image at n x ts mid l q (rest-reads ts .within .refused image mid n x w k .0) later
       after ts mid q false u k =
           let a : mid ≡ x = cc in
           let b : bad-variable ≡ n = cc in
-          rw (← a, ← b) (at-tests z h at (λ c. c) (record { ts = ts; read = q; none = u }) (λ image′ s. rw (tested .goes image at ts mid l q image′ s, u) refl))
+          rw (← a, ← b) (at-tests version z h at (λ c. c) (record { ts = ts; read = q; none = u }) (λ image′ s. rw (tested .goes image at ts mid l q image′ s, u) refl))
 
-      by : (r : Read (List Test)) → tests finer z (h .variables) (h .tests) image at ≡ r → follow r (λ ts mid. checked ts (stood ts) image mid) ≡ Refused n x → Stop Rule (body finer z h) image at n x
+      by : (r : Read (List Test)) → tests finer z (h .variables) (h .tests) image at ≡ r → follow r (λ ts mid. checked ts (stood ts) image mid) ≡ Refused n x
+          → Stop Rule (body finer version z h) image at n x
       by (Refused n′ x′) q k =
           let f : tests finer z (h .variables) (h .tests) image at ≡ Refused n x = q ∙ cc in
           first-stop (List Test) Rule _ (λ ts. checked ts (stood ts)) tested ahead-of-tests image at n x l (tested .within .refused image at n x l f .0) (tested .stops image at n x l f)
       by (Got ts mid) q k = after ts mid q (stood ts) refl k
 
-  body-reads : Reads Rule (body finer z h)
-  body-reads = record { within = body-within finer z h (tested .within) (λ ts. acted ts .within); goes = body-goes; stops = body-stops }
+  body-reads : Reads Rule (body finer version z h)
+  body-reads = record { within = body-within finer version z h (tested .within) (asked .within) (λ ts. acted ts .within); goes = body-goes; stops = body-stops }
 
 -- ---- all fields of an image
 
@@ -383,8 +388,8 @@ module _ (A B : Type 0) (p : Reader A) (f : A → B) (ends : Ends A p) where
         broken = λ image′ b g j e. rw (takes .broken image′ b g j e) refl;
         kept = λ image′ b g e. made-after (x + width) image′ (p image′ at) (takes .kept image′ b g e);
       }) cause
-  made-stop image at n x (at-tests z d b comes unbound stays) =
-      at-tests z d b (λ c. comes (into p (λ a. give (f a)) c)) unbound (λ image′ s. rw (stays image′ s) refl)
+  made-stop image at n x (at-tests version z d b comes unbound stays) =
+      at-tests version z d b (λ c. comes (into p (λ a. give (f a)) c)) unbound (λ image′ s. rw (stays image′ s) refl)
 
   made-ends : Ends B (andThen p (λ a. give (f a)))
   made-ends =
@@ -396,15 +401,15 @@ module _ (A B : Type 0) (p : Reader A) (f : A → B) (ends : Ends A p) where
 times-read : (A : Type 0) (p : Reader A) → Reads A p → (n : ℕ) → Reads (List A) (times n p)
 times-read A p = times-each finer finer (λ A p p′. Reads A p) reads-each A p p
 
-contents-ends : (z : Sizes) (n m : ℕ) → Ends Contents (contents finer z n m)
+contents-ends : (version : ℕ) (z : Sizes) (n m : ℕ) → Ends Contents (contents finer version z n m)
 unfolding contents
-contents-ends z n m =
+contents-ends version z n m =
     then-ends (List Fact) Contents _ _ (times-read Fact (fact finer (z .types)) (fact-each finer finer (λ A p p′. Reads A p) reads-each (z .types)) n) λ facts.
-    then-ends (List Rule) Contents _ _ (times-read Rule (rule finer z) (rule-each finer finer (λ A p p′. Reads A p) reads-each z) m) λ rules.
+    then-ends (List Rule) Contents _ _ (times-read Rule (rule finer version z) (rule-each finer finer (λ A p p′. Reads A p) reads-each version z) m) λ rules.
     end-ends Contents _
 
 pub model-ends : Ends Model (model finer)
 unfolding model
 model-ends =
     then-ends Beginning Model _ _ (beginning-each finer finer (λ A p p′. Reads A p) reads-each) λ b.
-    made-ends Contents Model _ _ (contents-ends (record { buffers = b .head .buffers; types = b .types }) (b .head .facts) (b .head .rules))
+    made-ends Contents Model _ _ (contents-ends (b .head .version) (record { buffers = b .head .buffers; types = b .types }) (b .head .facts) (b .head .rules))

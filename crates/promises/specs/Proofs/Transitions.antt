@@ -69,10 +69,10 @@ deed-some (x ∷ xs) b d e =
 -- ---- ageing, and states that are the same
 
 later-aged : (ms : ℕ) (b : Buffer) → Aged ms b (later ms b)
-later-aged ms b = record { same-type = refl; same-slots = refl; sooner = refl }
+later-aged ms b = record { same-type = refl; same-slots = refl; sooner = refl; same-flag = refl }
 
 aged-later : (ms : ℕ) (old new : Buffer) → Aged ms old new → new ≡ later ms old
-aged-later ms old new h = buffer-is new (old .isa) (old .slots) (old .delay - ms) (h .same-type) (h .same-slots) (h .sooner)
+aged-later ms old new h = buffer-is new (old .isa) (old .slots) (old .delay - ms) (old .error) (h .same-type) (h .same-slots) (h .sooner) (h .same-flag)
 
 state-is : (s : State) (bs : List Buffer) (clock : ℕ) → s .buffers ≡ bs → s .clock ≡ clock → s ≡ record { buffers = bs; clock = clock }
 state-is s bs clock p q = rw (← p, ← q) refl

@@ -8,10 +8,10 @@ use lib.Dec.{ltb}
 use lib.ListN.{length}
 use Rattle.meaning.specs.Base.{if_then_else_, every, upFrom}
 use Rattle.meaning.specs.Numbers.{coarse, finer, too-long, not-there}
-use Rattle.meaning.specs.Model.{Model, Sizes, Rule, Action, Test}
+use Rattle.meaning.specs.Model.{Model, Sizes, Rule, Action, Query, Test}
 use Rattle.meaning.specs.Bits.{fieldAt}
 use Rattle.meaning.specs.Read.{Read, Refused, Got, Reader, follow, andThen, give, orElse, judged, field, require}
-use Rattle.meaning.specs.Image.{Head, tests, standsIn, actions, body, ending, model, decodeBy}
+use Rattle.meaning.specs.Image.{Head, tests, standsIn, queries, actions, body, ending, model, decodeBy}
 use Rattle.laws.specs.FieldLaws.{FieldRule, free, of-number, of-mask, of-variable, of-buffer, both, judgement, allFields, atEnd, model-fields, all-each}
 use Rattle.laws.specs.PlaceLaws.{end-refused}
 use Rattle.promises.specs.Places.{StandsFor, for-a-mask, for-a-variable, for-a-buffer, itself, SameVerdict, both-accept, both-refuse}
@@ -70,7 +70,7 @@ requires-alike : (holds : Bool) → Alike (Unit {0}) (require (finer .variable) 
 requires-alike true = record { verdict = λ image at. both-accept }
 requires-alike false = record { verdict = λ image at. both-refuse for-a-variable }
 
--- ---- one thing after the other, and a rule's tests and actions
+-- ---- one thing after the other, and a rule's tests, queries and actions
 
 gives-alike : (A : Type 0) (a : A) → Alike A (give a) (give a)
 gives-alike A a = record { verdict = λ image at. both-accept }
@@ -79,13 +79,15 @@ follows-alike : (A B : Type 0) (p p′ : Reader A) (k k′ : A → Reader B) →
 follows-alike A B p p′ k k′ h g =
     record { verdict = λ image at. then-same (λ a next. k a image next) (λ a next. k′ a image next) (λ a next. g a .verdict image next) (h .verdict image at) }
 
-bodies-alike : (z : Sizes) (h : Head) → Alike (List Test) (tests finer z (h .variables) (h .tests)) (tests coarse z (h .variables) (h .tests))
+bodies-alike : (version : ℕ) (z : Sizes) (h : Head) → Alike (List Test) (tests finer z (h .variables) (h .tests)) (tests coarse z (h .variables) (h .tests))
+    → Alike (List Query) (queries finer version (z .buffers) (h .tests)) (queries coarse version (z .buffers) (h .tests))
     → ((ts : List Test) → Alike (List Action) (actions finer z (h .variables) ts (h .actions)) (actions coarse z (h .variables) ts (h .actions)))
-    → Alike Rule (body finer z h) (body coarse z h)
+    → Alike Rule (body finer version z h) (body coarse version z h)
 unfolding body
-bodies-alike z h tested acted =
+bodies-alike version z h tested asked acted =
     follows-alike (List Test) Rule _ _ _ _ tested λ ts.
     follows-alike (Unit {0}) Rule _ _ _ _ (requires-alike (every (standsIn ts) (upFrom 0 (h .variables)))) λ u.
+    follows-alike (List Query) Rule _ _ _ _ asked λ qs.
     follows-alike (List Action) Rule _ _ _ _ (acted ts) λ as′.
     gives-alike Rule _
 

@@ -1,6 +1,6 @@
 -- A step keeps a state well formed, and so does every call.
 use mathlib.Core.Path.{_≡_, refl, sym, ap, _∙_}
-use mathlib.Core.Bool.{Bool, true, false, _&&_, _||_}
+use mathlib.Core.Bool.{Bool, true, false, _&&_, _||_, not}
 use mathlib.Core.List.{List, [], _∷_, map, List·Memᴰ, List·Memᴰ·head, Memᴰ·append-right}
 use mathlib.Core.Option.{Option, none, some}
 use Prim.Native.Nat.{ℕ, zero, suc, _+_, _-_, _≤_, _<_}
@@ -14,9 +14,9 @@ use Rattle.meaning.specs.declared.Buffer.{Buffer}
 use Rattle.meaning.specs.declared.State.{State}
 use Rattle.meaning.specs.Base.{if_then_else_, every, keep, upFrom}
 use Rattle.meaning.specs.Model.{Model, Rule, Test, Action, Deed, Modify, Request, Clear, Named, Term, Symbol, Variable, Fact}
-use Rattle.meaning.specs.State.{nothing, nilAfter, bufferOf, visible, slotCount, wellBuffer, isNil, wellFormed, opens}
+use Rattle.meaning.specs.State.{nothing, bufferOf, visible, slotCount, isNil, flagFits, wellBuffer, isUnused, wellFormed, opens}
 use Rattle.meaning.specs.Image.{isVariable, isTested, testedType}
-use Rattle.meaning.specs.Match.{Place, place, places, valueIn, shows, agreed, matches, entryOf}
+use Rattle.meaning.specs.Match.{Place, place, places, valueIn, shows, matches, entryOf}
 use Rattle.meaning.specs.Choice.{utilities}
 use Rattle.meaning.specs.Retrieval.{valueOf, fits, weaker, retrieve, retrieved}
 use Rattle.meaning.specs.Fire.{put, done, later, deedOn, after, change, fire}
@@ -26,26 +26,60 @@ use Rattle.laws.specs.BaseLaws.{no-true, and-left, and-right, every-member, eve
 use Rattle.laws.specs.HighestLaws.{Best}
 use Rattle.laws.specs.RetrievalLaws.{retrieve-best}
 use Rattle.laws.specs.CallsLaws.{nil-well}
-use Rattle.promises.specs.Words.{At, first, next}
+use Rattle.promises.specs.Words.{At, first, next, nilWith}
 use Rattle.promises.specs.Proofs.Decoded.{and-true, goodTerm, goodNamed, goodNames, goodDeed, goodAction, goodRule, rises, Decoded}
+use Rattle.promises.specs.Proofs.Matching.{matches-tests, tests-show}
 use Rattle.promises.specs.Proofs.Steps.{FiredBy, WaitedBy, step-fired, step-waited}
 use Rattle.promises.specs.Proofs.Firing.{fired-rule}
 
--- ---- three tests in one
+-- ---- a buffer, part by part
 
-three : (a b c : Bool) → (a && b && c) ≡ true → (a ≡ true) × (b ≡ true) × (c ≡ true)
-three a b c e = (and-left a b (and-left (a && b) c e), and-right a b (and-left (a && b) c e), and-right (a && b) c e)
+-- what a well-formed buffer is
+pub record WellParts (types : List ℕ) (b : Buffer) : Type 0 where
+  pub typed : ltb (b .isa) (length types) ≡ true
+  pub symbols : every (λ v. leb v 4095) (b .slots) ≡ true
+  pub past-empty : every (λ v. eqb v 0) (drop (slotCount types (b .isa)) (b .slots)) ≡ true
+  pub flag-fits : flagFits b ≡ true
 
-all-three : (a b c : Bool) → a ≡ true → b ≡ true → c ≡ true → (a && b && c) ≡ true
-all-three a b c p q r = and-true (a && b) c (and-true a b p q) r
+module _ (types : List ℕ) (b : Buffer) where
+  abbrev typedIs : Bool
+  typedIs = ltb (b .isa) (length types)
 
--- what a well-formed buffer is, and what nil is, part by part
-pub buffer-parts : (types : List ℕ) (b : Buffer) → wellBuffer types b ≡ true
-    → (ltb (b .isa) (length types) ≡ true) × (every (λ v. leb v 4095) (b .slots) ≡ true) × (every (λ v. eqb v 0) (drop (slotCount types (b .isa)) (b .slots)) ≡ true)
-buffer-parts types b e = three (ltb (b .isa) (length types)) (every (λ v. leb v 4095) (b .slots)) (every (λ v. eqb v 0) (drop (slotCount types (b .isa)) (b .slots))) e
+  abbrev symbolsAre : Bool
+  symbolsAre = every (λ v. leb v 4095) (b .slots)
 
-nil-parts : (b : Buffer) → isNil b ≡ true → (eqb (b .isa) 0 ≡ true) × (every (λ v. eqb v 0) (b .slots) ≡ true) × (eqb (b .delay) 0 ≡ true)
-nil-parts b e = three (eqb (b .isa) 0) (every (λ v. eqb v 0) (b .slots)) (eqb (b .delay) 0) e
+  abbrev pastIs : Bool
+  pastIs = every (λ v. eqb v 0) (drop (slotCount types (b .isa)) (b .slots))
+
+  pub buffer-parts : wellBuffer types b ≡ true → WellParts types b
+  buffer-parts e =
+      let chunk-well : (typedIs && symbolsAre && pastIs) ≡ true = and-left (typedIs && symbolsAre && pastIs) (flagFits b) e in
+      let first-two : (typedIs && symbolsAre) ≡ true = and-left (typedIs && symbolsAre) pastIs chunk-well in
+      record {
+        typed = and-left typedIs symbolsAre first-two;
+        symbols = and-right typedIs symbolsAre first-two;
+        past-empty = and-right (typedIs && symbolsAre) pastIs chunk-well;
+        flag-fits = and-right (typedIs && symbolsAre && pastIs) (flagFits b) e;
+      }
+
+  pub parts-buffer : WellParts types b → wellBuffer types b ≡ true
+  parts-buffer w =
+      and-true (typedIs && symbolsAre && pastIs) (flagFits b) (and-true (typedIs && symbolsAre) pastIs (and-true typedIs symbolsAre (w .typed) (w .symbols)) (w .past-empty)) (w .flag-fits)
+
+-- and what one past the count is
+pub record UnusedParts (b : Buffer) : Type 0 where
+  pub is-nil : isNil b ≡ true
+  pub visible-is : eqb (b .delay) 0 ≡ true
+  pub unflagged : not (b .error) ≡ true
+
+pub unused-parts : (b : Buffer) → isUnused b ≡ true → UnusedParts b
+unused-parts b e =
+    let seen : (isNil b && eqb (b .delay) 0) ≡ true = and-left (isNil b && eqb (b .delay) 0) (not (b .error)) e in
+    record {
+      is-nil = and-left (isNil b) (eqb (b .delay) 0) seen;
+      visible-is = and-right (isNil b) (eqb (b .delay) 0) seen;
+      unflagged = and-right (isNil b && eqb (b .delay) 0) (not (b .error)) e;
+    }
 
 -- ---- lists
 
@@ -82,40 +116,41 @@ drop-change (suc n) f i (b ∷ bs) = let z : i + suc n ≡ i + 1 + n = omega ari
 -- a buffer of a well-formed state
 pub well-buffer : (m : Model) (s : State) → wellFormed m s ≡ true → (j : ℕ) → j < length (s .buffers) → wellBuffer (m .types) (bufferOf s j) ≡ true
 unfolding wellFormed
-well-buffer m s e j l = each (s .buffers) j l (and-left (every (wellBuffer (m .types)) (s .buffers)) (every isNil (drop (m .buffers) (s .buffers))) e)
+well-buffer m s e j l = each (s .buffers) j l (and-left (every (wellBuffer (m .types)) (s .buffers)) (every isUnused (drop (m .buffers) (s .buffers))) e)
   where
     each : (bs : List Buffer) (j : ℕ) → j < length bs → every (wellBuffer (m .types)) bs ≡ true → wellBuffer (m .types) (getD bs j nothing) ≡ true
     each [] j l h = absurd (omega arith)
     each (b ∷ bs) zero l h = and-left (wellBuffer (m .types) b) (every (wellBuffer (m .types)) bs) h
     each (b ∷ bs) (suc j) l h = each bs j (omega arith) (and-right (wellBuffer (m .types) b) (every (wellBuffer (m .types)) bs) h)
 
--- a state whose buffers are made anew is well formed if each of them is, and those past the count stay nil
+-- a state whose buffers are made anew is well formed if each of them is, and those past the count stay unused
 module _ (m : Model) (s : State) (f : ℕ → Buffer → Buffer) (clock : ℕ) where
   abbrev anew : State
   anew = record { buffers = change f 0 (s .buffers); clock = clock }
 
   anew-well : ((j : ℕ) → j < length (s .buffers) → wellBuffer (m .types) (f j (bufferOf s j)) ≡ true)
-      → ((j : ℕ) (b : Buffer) → m .buffers ≤ j → isNil b ≡ true → isNil (f j b) ≡ true)
+      → ((j : ℕ) (b : Buffer) → m .buffers ≤ j → isUnused b ≡ true → isUnused (f j b) ≡ true)
       → wellFormed m s ≡ true → wellFormed m anew ≡ true
   unfolding wellFormed
   anew-well well past e =
-      let nils : every isNil (drop (m .buffers) (s .buffers)) ≡ true = and-right (every (wellBuffer (m .types)) (s .buffers)) (every isNil (drop (m .buffers) (s .buffers))) e in
-      and-true (every (wellBuffer (m .types)) (change f 0 (s .buffers))) (every isNil (drop (m .buffers) (change f 0 (s .buffers))))
+      let unused : every isUnused (drop (m .buffers) (s .buffers)) ≡ true = and-right (every (wellBuffer (m .types)) (s .buffers)) (every isUnused (drop (m .buffers) (s .buffers))) e in
+      and-true (every (wellBuffer (m .types)) (change f 0 (s .buffers))) (every isUnused (drop (m .buffers) (change f 0 (s .buffers))))
       (all-change (wellBuffer (m .types)) f 0 (s .buffers) (λ j l. rw (zero-add j) (well j l)))
       (rw (drop-change (m .buffers) f 0 (s .buffers))
-      (all-change isNil f (0 + m .buffers) (drop (m .buffers) (s .buffers))
-      (λ j l. past (0 + m .buffers + j) (getD (drop (m .buffers) (s .buffers)) j nothing) (omega arith) (all-getD isNil (drop (m .buffers) (s .buffers)) j nothing nils refl))))
+      (all-change isUnused f (0 + m .buffers) (drop (m .buffers) (s .buffers))
+      (λ j l. past (0 + m .buffers + j) (getD (drop (m .buffers) (s .buffers)) j nothing) (omega arith) (all-getD isUnused (drop (m .buffers) (s .buffers)) j nothing unused refl))))
 
--- time that passes leaves nil nil
-later-nil : (ms : ℕ) (b : Buffer) → isNil b ≡ true → isNil (later ms b) ≡ true
-later-nil ms b h =
-    let n = nil-parts b h in
-    all-three (eqb (b .isa) 0) (every (λ v. eqb v 0) (b .slots)) (eqb (b .delay - ms) 0) (n .0) (n .1) (eq-eqb (b .delay - ms) 0 (omega (arith, eqb-true (b .delay) 0 (n .2))))
+-- time that passes leaves it so
+later-unused : (ms : ℕ) (b : Buffer) → isUnused b ≡ true → isUnused (later ms b) ≡ true
+later-unused ms b h =
+    let u : UnusedParts b = unused-parts b h in
+    let seen : eqb (b .delay - ms) 0 ≡ true = eq-eqb (b .delay - ms) 0 (omega (arith, eqb-true (b .delay) 0 (u .visible-is))) in
+    and-true (isNil b && eqb (b .delay - ms) 0) (not (b .error)) (and-true (isNil b) (eqb (b .delay - ms) 0) (u .is-nil) seen) (u .unflagged)
 
 pub wait-well : (m : Model) (ms : ℕ) (s : State) → wellFormed m s ≡ true → wellFormed m (wait ms s) ≡ true
 unfolding wait
 wait-well m ms s e =
-    anew-well m s (λ i b. later ms b) (s .clock + ms) (λ j l. well-buffer m s e j l) (λ j b l h. later-nil ms b h) e
+    anew-well m s (λ i b. later ms b) (s .clock + ms) (λ j l. well-buffer m s e j l) (λ j b l h. later-unused ms b h) e
 
 -- ---- the words of an entry are slot values
 
@@ -125,13 +160,13 @@ Small xs = every (λ v. leb v 4095) xs ≡ true
 slots-small : (m : Model) (s : State) → wellFormed m s ≡ true → (b : ℕ) → Small (bufferOf s b .slots)
 unfolding wellFormed
 slots-small m s e b =
-    let ws : every (wellBuffer (m .types)) (s .buffers) ≡ true = and-left (every (wellBuffer (m .types)) (s .buffers)) (every isNil (drop (m .buffers) (s .buffers))) e in
+    let ws : every (wellBuffer (m .types)) (s .buffers) ≡ true = and-left (every (wellBuffer (m .types)) (s .buffers)) (every isUnused (drop (m .buffers) (s .buffers))) e in
     go (s .buffers) b ws
   where
     go : (bs : List Buffer) (b : ℕ) → every (wellBuffer (m .types)) bs ≡ true → Small (getD bs b nothing .slots)
     go [] b h = refl
     go (x ∷ xs) zero h =
-        buffer-parts (m .types) x (and-left (wellBuffer (m .types) x) (every (wellBuffer (m .types)) xs) h) .1
+        buffer-parts (m .types) x (and-left (wellBuffer (m .types) x) (every (wellBuffer (m .types)) xs) h) .symbols
     go (x ∷ xs) (suc b) h = go xs b (and-right (wellBuffer (m .types) x) (every (wellBuffer (m .types)) xs) h)
 
 named-small : (b : Buffer) (ns : List Named) → Small (b .slots) → every (λ p. leb (p .value) 4095) (map (place b) ns) ≡ true
@@ -202,25 +237,30 @@ tested-type s b (x ∷ ts) h t =
 -- ---- each deed leaves a well-formed buffer
 
 module _ (m : Model) (d : Decoded m) (s : State) (well : wellFormed m s ≡ true) (r : Rule) (hit : matches r s ≡ true) where
-  nil-is-well : (delay : ℕ) → wellBuffer (m .types) (nilAfter delay) ≡ true
-  nil-is-well delay = rw (d .types-are) (nil-well (d .counts))
+  nil-is-well : (delay : ℕ) (flag : Bool) → wellBuffer (m .types) (nilWith delay flag) ≡ true
+  nil-is-well delay true = rw (d .types-are) (nil-well (d .counts))
+  nil-is-well delay false = rw (d .types-are) (nil-well (d .counts))
+
+  abbrev modified : ℕ → List Named → Buffer
+  modified b ns = record { isa = bufferOf s b .isa; slots = put ns (entryOf r s) (bufferOf s b .slots); delay = 0; error = false }
 
   modify-well : (b : ℕ) (ns : List Named) → b < length (s .buffers) → isTested (r .tests) b ≡ true → every (goodNamed (r .tests) (slotCount (m .types) (testedType (r .tests) b))) ns ≡ true
-      → wellBuffer (m .types) (record { isa = bufferOf s b .isa; slots = put ns (entryOf r s) (bufferOf s b .slots); delay = 0 }) ≡ true
-  unfolding matches
+      → wellBuffer (m .types) (modified b ns) ≡ true
   modify-well b ns l t g =
       let k : ℕ = slotCount (m .types) (bufferOf s b .isa) in
-      let is : bufferOf s b .isa ≡ testedType (r .tests) b = tested-type s b (r .tests) (and-left (every (λ t. shows t (bufferOf s (t .buffer))) (r .tests)) (agreed (places (r .tests) s)) hit) t in
+      let is : bufferOf s b .isa ≡ testedType (r .tests) b = tested-type s b (r .tests) (tests-show s (r .tests) (matches-tests r s hit)) t in
       let g′ : every (goodNamed (r .tests) k) ns ≡ true = rw is g in
       let w = buffer-parts (m .types) (bufferOf s b) (well-buffer m s well b l) in
-      let new : List ℕ = put ns (entryOf r s) (bufferOf s b .slots) in
-      all-three (ltb (bufferOf s b .isa) (length (m .types))) (every (λ v. leb v 4095) new) (every (λ v. eqb v 0) (drop k new))
-      (w .0)
-      (put-small (r .tests) k ns (entryOf r s) (bufferOf s b .slots) g′ (entry-small m r s well) (w .1))
-      (ap (every (λ v. eqb v 0)) (put-past (r .tests) k ns (entryOf r s) (bufferOf s b .slots) g′) ∙ w .2)
+      parts-buffer (m .types) (modified b ns)
+      (record {
+        typed = w .typed;
+        symbols = put-small (r .tests) k ns (entryOf r s) (bufferOf s b .slots) g′ (entry-small m r s well) (w .symbols);
+        past-empty = ap (every (λ v. eqb v 0)) (put-past (r .tests) k ns (entryOf r s) (bufferOf s b .slots) g′) ∙ w .past-empty;
+        flag-fits = refl;
+      })
 
   retrieved-well : (isa : ℕ) (ns : List Named) (o : Option Fact) → retrieve (m .facts) isa ns (entryOf r s) ≡ o → wellBuffer (m .types) (retrieved (m .failure) o) ≡ true
-  retrieved-well isa ns none e = nil-is-well (m .failure)
+  retrieved-well isa ns none e = nil-is-well (m .failure) true
   retrieved-well isa ns (some f) e =
       let b : Best weaker (keep (fits isa ns (entryOf r s)) (m .facts)) f = retrieve-best (m .facts) isa ns (entryOf r s) f e in
       let h : List·Memᴰ f (keep (fits isa ns (entryOf r s)) (m .facts)) = rw (b .split) (Memᴰ·append-right (b .before) (List·Memᴰ·head refl)) in
@@ -233,7 +273,7 @@ module _ (m : Model) (d : Decoded m) (s : State) (well : wellFormed m s ≡ true
       let n : goodNames (r .tests) (slotCount (m .types) (testedType (r .tests) b)) ns ≡ true = and-right (isTested (r .tests) b) _ g in
       modify-well b ns l t (and-left (every (goodNamed (r .tests) (slotCount (m .types) (testedType (r .tests) b))) ns) (rises (λ n. n .slot) 0 ns) n)
   done-well b (Request isa ns) l g = retrieved-well isa ns (retrieve (m .facts) isa ns (entryOf r s)) refl
-  done-well b Clear l g = nil-is-well 0
+  done-well b Clear l g = nil-is-well 0 false
 
   after-well : (as′ : List Action) → every (goodAction (m .buffers) (m .types) (r .tests)) as′ ≡ true → (b : ℕ) → b < length (s .buffers)
       → wellBuffer (m .types) (after (m .failure) (m .facts) (entryOf r s) (bufferOf s b) (deedOn as′ b)) ≡ true
@@ -273,7 +313,7 @@ module _ (m : Model) (d : Decoded m) (s : State) (well : wellFormed m s ≡ true
       and-left (every (goodAction (m .buffers) (m .types) (r .tests)) (r .actions)) (rises (λ a. a .buffer) 0 (r .actions)) g in
       anew-well m s (λ i b. after (m .failure) (m .facts) (entryOf r s) b (deedOn (r .actions) i)) (s .clock + 50)
       (λ j l. after-well (r .actions) as-good j l)
-      (λ j b l h. rw (past-none (r .actions) as-good j l) (later-nil 50 b h))
+      (λ j b l h. rw (past-none (r .actions) as-good j l) (later-unused 50 b h))
       well
 
 -- ---- a step, a chain of calls
