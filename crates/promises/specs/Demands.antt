@@ -1,4 +1,5 @@
--- The three demands, a statement for each, over what the calls answer; one for the run without a table, one for where an image is bad, and one for what is remembered.
+-- The three demands, a statement for each, over what the calls answer; one for the run without a table, one for where an image is bad, one for what is remembered, and one
+-- for what a query can tell. All are of images of both versions.
 -- Beside the definitions of `meaning` they use the table of numbers (Sentences), the published semantics (Published), what a refresh, a chain of calls, runs that are
 -- alike and a store that grows are (Words), and what a position is (Places).
 use mathlib.Core.Path.{_≡_, refl, _∙_}
@@ -7,16 +8,18 @@ use mathlib.Core.Bool.{true, false}
 use mathlib.Core.List.{List, []}
 use mathlib.Core.Option.{none, some}
 use Prim.Native.Nat.{ℕ, _*_, _^_, _≤_, _<_}
+use lib.IntN.{ℤ}
 use lib.ListN.{length}
 use Rattle.meaning.specs.declared.State.{State}
 use Rattle.meaning.specs.Base.{bit}
 use Rattle.meaning.specs.Numbers.{coarse, finer, not-there, bad-variable}
-use Rattle.meaning.specs.Model.{Model}
+use Rattle.meaning.specs.Model.{Model, Rule, Ask, Fact}
 use Rattle.meaning.specs.State.{zeroState, bufferOf, wellFormed}
 use Rattle.meaning.specs.Read.{Refused, Got}
 use Rattle.meaning.specs.Image.{decodeBy, decode}
-use Rattle.meaning.specs.Match.{freshTable}
+use Rattle.meaning.specs.Match.{answers, freshTable}
 use Rattle.meaning.specs.Refresh.{refresh, refreshCount}
+use Rattle.meaning.specs.Step.{Event, Made, step}
 use Rattle.meaning.specs.Store.{lentBy, storeFits, storeOf}
 use Rattle.meaning.specs.Run.{Going, going, Run}
 use Rattle.meaning.specs.Calls.{neededOf, openState, openOf, WithStore, Ran, traceLent, traceOf, runLent, runOf, Refreshed, refreshOf}
@@ -25,7 +28,7 @@ use Rattle.laws.specs.MatchLaws.{fresh-length}
 use Rattle.promises.specs.Words.{RefreshedTo, Machine, Reached, alone, AsKept, answerOf, OnlyGrows, Grows}
 use Rattle.promises.specs.Sentences.{Beforehand, Taken, Given, AfterOpen, AfterRun, AfterRefresh, RanTo, GivenBare, AfterFresh}
 use Rattle.promises.specs.Places.{HasPlace, Located, SameVerdict, WhateverFollows, FieldAtBit, TestsEndAt}
-use Rattle.promises.specs.Published.{Follows}
+use Rattle.promises.specs.Published.{Flagged, Follows}
 use Rattle.promises.specs.Numbers as numbers
 use Rattle.promises.specs.Semantics as semantics
 use Rattle.promises.specs.Refreshing as refreshing
@@ -33,6 +36,7 @@ use Rattle.promises.specs.Keeping as keeping
 use Rattle.promises.specs.Fresh as fresh
 use Rattle.promises.specs.Placing as placing
 use Rattle.promises.specs.Remembering as remembering
+use Rattle.promises.specs.Asking as asking
 
 -- ---- 1: each call takes everything it could be handed, and does its work or refuses by a number
 
@@ -95,7 +99,7 @@ demand-2 image m end accepted s well asked =
 -- ---- 3: a refresh makes fresh what a mark touches and nothing else, so that the kept table can never be told from a fresh one
 
 pub record Demand-3 (image : List ℕ) (m : Model) : Type 0 where
-  -- of any table of nine words a rule, right or wrong: the entries of the rules that test a marked buffer become the fresh ones, no other word is altered, and
+  -- of any table of nine words a rule, right or wrong: the entries of the rules that test or query a marked buffer become the fresh ones, no other word is altered, and
   -- the first rules are counted. It is not refused
   pub refreshes : (s : State) (mark : ℕ) (table : List ℕ) → wellFormed m s ≡ true → mark < 2 ^ m .buffers → length table ≡ 9 * length (m .rules)
       → let a : Refreshed = refreshOf image s mark table in (a .number ≡ 0) × RefreshedTo (m .rules) s mark table (a .table) (a .count)
@@ -264,4 +268,28 @@ remembers image s asked lent words =
       only-grows = λ machine table. (remembering.only-grows image s asked lent words machine table, remembering.fresh-only-grows image s asked lent words machine);
       learns = remembering.learns image s asked lent words;
       fresh-learns = remembering.fresh-learns image s asked lent words;
+    }
+
+-- ---- request 2026-06, "rules that ask whether a buffer is busy": "marks need no change, and we want that shown" (what a query finds says `Asking.answers-exactly`, that a
+-- set flag is beside nil `flag-fits` and `reached-flags`)
+
+-- of a step that did e and made of state s the state s′ with this mark
+pub record Asks (m : Model) (memory : List Fact) (s : State) (e : Event) (s′ : State) (mark : ℕ) : Type 0 where
+  -- whatever a query, of any kind and on any buffer, tells apart between the two states, its buffer is marked; and so is one whose flag changed
+  pub told-marked : (b : ℕ) (a : Ask) → (answers a (bufferOf s b) ≡ answers a (bufferOf s′ b) → ⊥) → bit mark b ≡ true
+  pub flag-marked : (b : ℕ) → (bufferOf s b .error ≡ bufferOf s′ b .error → ⊥) → bit mark b ≡ true
+  -- so a fresh table that is refreshed with the mark is fresh after the step, whatever the rules test and ask (and over a chain of calls: `Demand-3.keeps`)
+  pub renews : (rules : List Rule) → refresh rules s′ mark (freshTable rules s) ≡ freshTable rules s′
+  -- the flag of a buffer is set exactly if a request found no fact, or it was set and nothing acted on the buffer
+  pub flags : (b : ℕ) → b < length (s .buffers) → (bufferOf s′ b .error ≡ true) ↔ Flagged (m .rules) memory s b e
+
+-- For every step, a firing or a wait, of every model in every state, whatever the table, the facts in memory and the utilities say.
+pub asks : (m : Model) (memory : List Fact) (us : List ℤ) (s : State) (table : List ℕ) (e : Event) (s′ : State) (mark : ℕ) → step m memory us s table ≡ Made e s′ mark
+    → Asks m memory s e s′ mark
+asks m memory us s table e s′ mark made =
+    record {
+      told-marked = asking.told-marked m memory us s table e s′ mark made;
+      flag-marked = asking.flag-marked m memory us s table e s′ mark made;
+      renews = asking.mark-renews m memory us s table e s′ mark made;
+      flags = asking.flags-exactly m memory us s table e s′ mark made;
     }

@@ -1,6 +1,6 @@
 -- What is promised: Demands, a statement for each demand. The words of the statements are in Words, Sentences, Places and Published; the statements in Numbers and
--- Placing (demand 1), Semantics and Filling (demand 2), Refreshing, Marking, Keeping and Clearing (demand 3), Fresh (the run without a table) and Remembering (a lent
--- store); their proofs stand apart, in Proofs.
+-- Placing (demand 1), Semantics and Filling (demand 2), Refreshing, Marking, Keeping and Clearing (demand 3), Fresh (the run without a table), Remembering (a lent
+-- store) and Asking (queries and error flags); their proofs stand apart, in Proofs.
 pub mod Words
 pub mod Published
 pub mod Sentences
@@ -15,5 +15,6 @@ pub mod Filling
 pub mod Fresh
 pub mod Placing
 pub mod Remembering
+pub mod Asking
 pub mod Demands
 pub mod Proofs

@@ -12,6 +12,7 @@ pub mod Selection
 pub mod Entries
 pub mod Firing
 pub mod Marked
+pub mod Asked
 pub mod WellFormed
 pub mod Eight
 pub mod Retrieving

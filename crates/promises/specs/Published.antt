@@ -15,8 +15,9 @@ use Rattle.meaning.specs.declared.State.{State}
 use Rattle.meaning.specs.Model.{Model, Rule, Test, Query, Ask, Busy, Free, Error, Action, Deed, Modify, Request, Clear, Named, Term, Symbol, Variable, Chunk, Fact}
 use Rattle.meaning.specs.State.{bufferOf}
 use Rattle.meaning.specs.Image.{standsIn}
+use Rattle.meaning.specs.Fire.{deedOn}
 use Rattle.meaning.specs.Step.{Event, Fired, Waited, largest}
-use Rattle.meaning.specs.Match.{freshTable}
+use Rattle.meaning.specs.Match.{entryOf, freshTable}
 use Rattle.meaning.specs.Choice.{Candidate}
 use Rattle.meaning.specs.Run.{Timed}
 use Rattle.meaning.specs.Learning.{knowing}
@@ -167,6 +168,18 @@ pub data Transition (m : Model) (s : State) : Event → State → Type 0 where
 -- a final state: no transition is possible
 abbrev pub Final : Model → State → Type 0
 Final m s = (e : Event) (s′ : State) → Transition m s e s′ → ⊥
+
+-- ---- the error flag (request 2026-06)
+
+-- why the flag of a buffer is set after a step from state s that did e, with these facts in memory
+pub data Flagged (rules : List Rule) (memory : List Fact) (s : State) (b : ℕ) : Event → Type 0 where
+  -- "It is set when a request finds no fact": the rule that fired requests it, and no fact fits the values of its entry
+  unfound : {k : ℕ} {r : Rule} {isa : ℕ} {ns : List Named} → At r k rules → deedOn (r .actions) b ≡ some (Request isa ns)
+      → ((j : ℕ) (f : Fact) → At f j memory → Fits (valuesIn (entryOf r s)) isa ns f → ⊥) → Flagged rules memory s b (Fired k)
+  -- "and any other action on that buffer clears it": it was set, and the rule that fired has no action on it
+  unacted : {k : ℕ} {r : Rule} → At r k rules → deedOn (r .actions) b ≡ none → bufferOf s b .error ≡ true → Flagged rules memory s b (Fired k)
+  -- a wait leaves it as it was
+  unaltered : {ms : ℕ} → bufferOf s b .error ≡ true → Flagged rules memory s b (Waited ms)
 
 -- ---- the store, if one is lent (request 2026-05)
 

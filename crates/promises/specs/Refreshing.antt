@@ -1,7 +1,7 @@
 -- Demand 3, the refresh: it renews the entries that a mark may have made stale, and touches no other word.
 use mathlib.Core.Path.{_≡_}
-use mathlib.Core.Logic.{inl}
-use mathlib.Core.Bool.{false}
+use mathlib.Core.Logic.{_↔_, inl}
+use mathlib.Core.Bool.{true, false}
 use mathlib.Core.List.{List}
 use Prim.Native.Nat.{ℕ, _*_}
 use lib.ListN.{length}
@@ -10,15 +10,19 @@ use Rattle.meaning.specs.Base.{bit}
 use Rattle.meaning.specs.Model.{Model, Rule}
 use Rattle.meaning.specs.State.{bufferOf}
 use Rattle.meaning.specs.Match.{freshTable}
-use Rattle.meaning.specs.Refresh.{refresh, refreshCount}
+use Rattle.meaning.specs.Refresh.{testsMarked, refresh, refreshCount}
 use Rattle.meaning.specs.Read.{Got}
 use Rattle.meaning.specs.Image.{decode}
 use Rattle.meaning.specs.Calls.{refreshOf}
-use Rattle.promises.specs.Words.{RefreshedTo}
+use Rattle.promises.specs.Words.{RefreshedTo, SeesMarked}
 use Rattle.promises.specs.Proofs.Tables.{refresh-made, call-made}
-use Rattle.promises.specs.Proofs.Marks.{refresh-fresh}
+use Rattle.promises.specs.Proofs.Marks.{marked-sees, sees-marked, refresh-fresh}
 
--- For all rules, every state, every mark and every table of nine words a rule: the entry of each rule that tests a marked buffer is the fresh one,
+-- The rules that a refresh renews and counts are those that test or query a marked buffer: request 2026-06's reading of "test".
+pub renewed-exactly : (mark : ℕ) (r : Rule) → (testsMarked mark r ≡ true) ↔ SeesMarked mark r
+renewed-exactly mark r = (marked-sees mark r, sees-marked mark r)
+
+-- For all rules, every state, every mark and every table of nine words a rule: the entry of each rule that tests or queries a marked buffer is the fresh one,
 -- every other entry is unaltered word for word, the table keeps its length, and the count is that of the first rules.
 pub refresh-promise : (rules : List Rule) (s : State) (mark : ℕ) (table : List ℕ) → length table ≡ 9 * length rules
     → RefreshedTo rules s mark table (refresh rules s mark table) (refreshCount rules mark)

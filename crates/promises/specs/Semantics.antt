@@ -34,7 +34,7 @@ use Rattle.promises.specs.Proofs.Lending.{none-kept}
 
 -- ---- the match
 
--- A rule matches exactly if the variables can be bound so that all its tests hold.
+-- A rule matches exactly if the variables can be bound so that all its tests hold, and all its queries hold.
 pub matches-exactly : (r : Rule) (s : State) → (matches r s ≡ true) ↔ Matches r s
 matches-exactly r s = (matching.matches-bind r s, matching.is-match r s)
 

@@ -29,7 +29,7 @@ use Rattle.promises.specs.Published.{LeastDelay, Transitions, Ended}
 
 -- the numbers of a broken rule, since request 2026-03 one for each thing that a rule is about
 pub data BrokenRule : ℕ → Type 0 where
-  -- "3 now means a version, count, type or action kind"
+  -- "3 now means a version, count, type or action kind"; since request 2026-06 a query's kind too
   of-a-number : BrokenRule bad-number
   -- "11 a mask bit past the type's slots"
   of-a-mask : BrokenRule bad-mask

@@ -43,7 +43,12 @@ pub record RefreshedTo (rules : List Rule) (s : State) (mark : ℕ) (table new :
   -- the number says how many rules test or query a marked buffer
   pub counted : count ≡ length (keep (testsMarked mark) rules)
 
--- "eight buffers, each with a type, eight slot values and a delay in ms (0 to 65,535), and a 32-bit clock in ms": a word of 16 bits for each
+-- rule r tests or queries a marked buffer
+pub data SeesMarked (mark : ℕ) (r : Rule) : Type 0 where
+  by-test : {t : Test} → List·Memᴰ t (r .tests) → bit mark (t .buffer) ≡ true → SeesMarked mark r
+  by-query : {q : Query} → List·Memᴰ q (r .queries) → bit mark (q .buffer) ≡ true → SeesMarked mark r
+
+-- "eight buffers, each with a type, eight slot values and a delay in ms (0 to 65,535), and a 32-bit clock in ms": a word of 16 bits for each (an error flag is no word)
 abbrev pub isWord : ℕ → Bool
 isWord v = leb v 65535
 

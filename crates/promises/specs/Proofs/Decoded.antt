@@ -1,5 +1,6 @@
 -- What the rules and facts of a decoded image keep to: slots within the type, each once, symbols of twelve bits, variables that stood in a test.
 use mathlib.Core.Path.{_≡_, refl, sym}
+use mathlib.Core.Logic.{_⊎_, inl, inr}
 use mathlib.Core.Bool.{Bool, true, false, _&&_, _||_, not}
 use mathlib.Core.List.{List, [], _∷_}
 use mathlib.Core.Option.{Option, none, some}
@@ -24,6 +25,18 @@ use Rattle.laws.specs.ImageLaws.{between-got, chunk-well, Parts, parts, head-fi
 pub and-true : (a b : Bool) → a ≡ true → b ≡ true → (a && b) ≡ true
 and-true true b p q = q
 and-true false b p q = p
+
+pub or-cases : (a b : Bool) → (a || b) ≡ true → (a ≡ true) ⊎ (b ≡ true)
+or-cases true b e = inl refl
+or-cases false b e = inr e
+
+pub or-first : (a b : Bool) → a ≡ true → (a || b) ≡ true
+or-first true b e = refl
+or-first false b e = absurd (no-true (sym e))
+
+pub or-second : (a b : Bool) → b ≡ true → (a || b) ≡ true
+or-second true b e = refl
+or-second false b e = e
 
 pub all-weaken : {A : Type 0} (p q : A → Bool) → ((x : A) → p x ≡ true → q x ≡ true) → (xs : List A) → every p xs ≡ true → every q xs ≡ true
 all-weaken p q h [] e = refl

@@ -1,6 +1,6 @@
 -- A step's mark has the buffers acted on and those that went from pending to visible, and no others.
 use mathlib.Core.Path.{_≡_, refl, sym, ap, subst, _∙_}
-use mathlib.Core.Logic.{_⊎_, inl, inr, ⊎-elim}
+use mathlib.Core.Logic.{⊎-elim}
 use mathlib.Core.Bool.{Bool, true, false, _||_, not}
 use mathlib.Core.List.{List, [], _∷_, map, List·Memᴰ, List·Memᴰ·head, List·Memᴰ·tail, List·Memᴰ·not-nil, List·Memᴰ·cases-cons}
 use mathlib.Core.Option.{some}
@@ -20,6 +20,7 @@ use Rattle.meaning.specs.Mark.{isSome, actedOn, arrived, markOf}
 use Rattle.meaning.specs.Step.{Event, Fired, Waited, Made, step}
 use Rattle.laws.specs.BaseLaws.{no-true, and-left, and-right, getD-upFrom, bit-weigh, by-lt}
 use Rattle.promises.specs.Words.{At, Touched, acted-on, came}
+use Rattle.promises.specs.Proofs.Decoded.{or-cases, or-first, or-second}
 use Rattle.promises.specs.Proofs.Matching.{above-zero}
 use Rattle.promises.specs.Proofs.Selection.{at-same}
 use Rattle.promises.specs.Proofs.Steps.{FiredBy, WaitedBy, step-fired, step-waited}
@@ -53,18 +54,6 @@ action-acted (x ∷ xs) a h =
 
 -- ---- the places of a mark: one is set
 -- where its buffer was acted on, or went from pending to visible
-
-or-cases : (a b : Bool) → (a || b) ≡ true → (a ≡ true) ⊎ (b ≡ true)
-or-cases true b e = inl refl
-or-cases false b e = inr e
-
-or-first : (a b : Bool) → a ≡ true → (a || b) ≡ true
-or-first true b e = refl
-or-first false b e = absurd (no-true (sym e))
-
-or-second : (a b : Bool) → b ≡ true → (a || b) ≡ true
-or-second true b e = refl
-or-second false b e = e
 
 module _ (as′ : List Action) (s s′ : State) where
   abbrev touched : ℕ → Bool

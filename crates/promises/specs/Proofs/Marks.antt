@@ -1,5 +1,6 @@
--- A mark names every buffer that a step changed for some test; so the refresh of a fresh table is fresh.
-use mathlib.Core.Path.{_≡_, refl, ap₂}
+-- A mark names every buffer that a step changed for some test or query; so the refresh of a fresh table is fresh.
+use mathlib.Core.Path.{_≡_, refl, ap₂, subst}
+use mathlib.Core.Logic.{⊎-elim}
 use mathlib.Core.Bool.{Bool, true, false}
 use mathlib.Core.List.{List, [], _∷_, _++_}
 use Prim.Native.Nat.{ℕ}
@@ -7,27 +8,45 @@ use lib.IntN.{ℤ}
 use lib.ListN.{length}
 use lib.Seq.{take-at, drop-at}
 use Rattle.meaning.specs.declared.State.{State}
-use Rattle.meaning.specs.Base.{if_then_else_}
+use Rattle.meaning.specs.Base.{if_then_else_, anyOf, bit}
 use Rattle.meaning.specs.Model.{Model, Rule, Fact}
 use Rattle.meaning.specs.State.{bufferOf}
 use Rattle.meaning.specs.Match.{entryOf, freshTable}
-use Rattle.meaning.specs.Step.{Step, Stopped, Made, step}
+use Rattle.meaning.specs.Step.{Event, Made, step}
 use Rattle.meaning.specs.Refresh.{testsMarked, refresh}
 use Rattle.laws.specs.MatchLaws.{entry-length}
-use Rattle.laws.specs.MarkLaws.{StepLeaves, step-leaves, waits-alike, Marks, entry-unmarked}
+use Rattle.laws.specs.MarkLaws.{Leaves, StepLeaves, step-leaves, waits-alike, Marks, entry-unmarked}
+use Rattle.promises.specs.Words.{SeesMarked, by-test, by-query}
+use Rattle.promises.specs.Proofs.Decoded.{or-cases, or-first, or-second}
+use Rattle.promises.specs.Proofs.Matching.{any-passing, passing-any}
 
 -- ---- what a step promises of its mark
 
-abbrev pub StepMarks : State → Step → Type 0
-StepMarks s (Stopped n) = Unit {0}
-StepMarks s (Made e s′ mark) = Marks s s′ mark
+module _ (m : Model) (memory : List Fact) (us : List ℤ) (s : State) (table : List ℕ) (e : Event) (s′ : State) (mark : ℕ) (made : step m memory us s table ≡ Made e s′ mark) where
+  pub made-leaves : Leaves s s′ mark
+  made-leaves = subst (StepLeaves s) made (step-leaves m memory us s table)
 
-leaves-marks : (s : State) (t : Step) → StepLeaves s t → StepMarks s t
-leaves-marks s (Stopped n) h = tt
-leaves-marks s (Made e s′ mark) h = λ b off. waits-alike (bufferOf s b) (bufferOf s′ b) (h b off)
+  pub made-marks : Marks s s′ mark
+  made-marks b off = waits-alike (bufferOf s b) (bufferOf s′ b) (made-leaves b off)
 
-pub step-marks : (m : Model) (memory : List Fact) (us : List ℤ) (s : State) (table : List ℕ) → StepMarks s (step m memory us s table)
-step-marks m memory us s table = leaves-marks s (step m memory us s table) (step-leaves m memory us s table)
+-- ---- which rules a mark renews
+
+module _ (mark : ℕ) (r : Rule) where
+  abbrev onTests : Bool
+  onTests = anyOf (λ t. bit mark (t .buffer)) (r .tests)
+
+  abbrev onQueries : Bool
+  onQueries = anyOf (λ q. bit mark (q .buffer)) (r .queries)
+
+  pub marked-sees : testsMarked mark r ≡ true → SeesMarked mark r
+  marked-sees e =
+      ⊎-elim (λ (k : onTests ≡ true). let t = any-passing (λ t. bit mark (t .buffer)) (r .tests) k in by-test (t .member) (t .passes))
+      (λ (k : onQueries ≡ true). let q = any-passing (λ q. bit mark (q .buffer)) (r .queries) k in by-query (q .member) (q .passes))
+      (or-cases onTests onQueries e)
+
+  pub sees-marked : SeesMarked mark r → testsMarked mark r ≡ true
+  sees-marked (by-test {t = t} h k) = or-first onTests onQueries (passing-any (λ t. bit mark (t .buffer)) (r .tests) t h k)
+  sees-marked (by-query {q = q} h k) = or-second onTests onQueries (passing-any (λ q. bit mark (q .buffer)) (r .queries) q h k)
 
 -- ---- the refresh of a fresh table
 

@@ -1,7 +1,7 @@
 -- The test `matches` finds a binding exactly if there is one, and the entry holds its values.
 use mathlib.Core.Path.{_≡_, refl, sym, ap, subst, _∙_}
 use mathlib.Core.Logic.{⊎-elim}
-use mathlib.Core.Bool.{Bool, true, false, _||_, not}
+use mathlib.Core.Bool.{Bool, true, false, _||_, not, or-true}
 use mathlib.Core.List.{List, [], _∷_, map, List·Memᴰ, List·Memᴰ·head, List·Memᴰ·tail, List·Memᴰ·not-nil, List·Memᴰ·cases-cons, List·Memᴰ·append-cases, Memᴰ·append-left, Memᴰ·append-right}
 use Prim.Native.Nat.{ℕ, zero, suc, _+_, _<_}
 use native.Mathlib.Nat.{add-zero, zero-add}
@@ -24,6 +24,26 @@ use Rattle.promises.specs.Proofs.Decoded.{and-true, goodTerm}
 pub member-all : {A : Type 0} (p : A → Bool) (xs : List A) → ((y : A) → List·Memᴰ y xs → p y ≡ true) → every p xs ≡ true
 member-all p [] h = refl
 member-all p (x ∷ xs) h = and-true (p x) (every p xs) (h x (List·Memᴰ·head refl)) (member-all p xs (λ y k. h y (List·Memᴰ·tail k)))
+
+-- an element that passes
+pub record Passing {A : Type 0} (p : A → Bool) (xs : List A) : Type 0 where
+  pub element : A
+  pub member : List·Memᴰ element xs
+  pub passes : p element ≡ true
+
+module _ {A : Type 0} (p : A → Bool) where
+  pub any-passing : (xs : List A) → anyOf p xs ≡ true → Passing p xs
+  any-passing [] e = absurd (no-true (sym e))
+  any-passing (x ∷ xs) e =
+      (elim (p x) as (λ t. p x ≡ t → (t || anyOf p xs) ≡ true → Passing p (x ∷ xs)) [
+        | true ↦ λ t k. record { element = x; member = List·Memᴰ·head refl; passes = t }
+        | false ↦ λ t k. let i : Passing p xs = any-passing xs k in record { element = i .element; member = List·Memᴰ·tail (i .member); passes = i .passes }
+      ]) refl e
+
+  pub passing-any : (xs : List A) (x : A) → List·Memᴰ x xs → p x ≡ true → anyOf p xs ≡ true
+  passing-any [] x h e = absurd (List·Memᴰ·not-nil h)
+  passing-any (y ∷ xs) x h e =
+      ⊎-elim (λ (q : x ≡ y). rw (← q, e) refl) (λ (k : List·Memᴰ x xs). rw (passing-any xs x k e) (or-true (p y))) (List·Memᴰ·cases-cons h)
 
 -- ---- the places of a rule's tests
 
@@ -187,26 +207,11 @@ record Standing (ts : List Test) (w : ℕ) : Type 0 where
   named-in : List·Memᴰ named (test .named)
   is : named .term ≡ Variable w
 
-record StandingIn (ns : List Named) (w : ℕ) : Type 0 where
-  named : Named
-  named-in : List·Memᴰ named ns
-  is : named .term ≡ Variable w
-
-standing-in : (ns : List Named) (w : ℕ) → anyOf (λ n. isVariable w (n .term)) ns ≡ true → StandingIn ns w
-standing-in [] w e = absurd (no-true (sym e))
-standing-in (n ∷ ns) w e =
-    (elim (isVariable w (n .term)) as (λ t. isVariable w (n .term) ≡ t → (t || anyOf (λ n. isVariable w (n .term)) ns) ≡ true → StandingIn (n ∷ ns) w) [
-      | true ↦ λ t k. record { named = n; named-in = List·Memᴰ·head refl; is = is-variable w (n .term) t }
-      | false ↦ λ t k. let i : StandingIn ns w = standing-in ns w k in record { named = i .named; named-in = List·Memᴰ·tail (i .named-in); is = i .is }
-    ]) refl e
-
 standing : (ts : List Test) (w : ℕ) → standsIn ts w ≡ true → Standing ts w
-standing [] w e = absurd (no-true (sym e))
-standing (x ∷ ts) w e =
-    (elim (anyOf (λ n. isVariable w (n .term)) (x .named)) as (λ t. anyOf (λ n. isVariable w (n .term)) (x .named) ≡ t → (t || standsIn ts w) ≡ true → Standing (x ∷ ts) w) [
-      | true ↦ λ t k. let i : StandingIn (x .named) w = standing-in (x .named) w t in record { test = x; test-in = List·Memᴰ·head refl; named = i .named; named-in = i .named-in; is = i .is }
-      | false ↦ λ t k. let i : Standing ts w = standing ts w k in record { test = i .test; test-in = List·Memᴰ·tail (i .test-in); named = i .named; named-in = i .named-in; is = i .is }
-    ]) refl e
+standing ts w e =
+    let t = any-passing (λ t. anyOf (λ n. isVariable w (n .term)) (t .named)) ts e in
+    let n = any-passing (λ n. isVariable w (n .term)) (t .element .named) (t .passes) in
+    record { test = t .element; test-in = t .member; named = n .element; named-in = n .member; is = is-variable w (n .element .term) (n .passes) }
 
 getD-values : (f : ℕ → ℕ) (i n b : ℕ) → b < n → getD (map f (upFrom i n)) b 0 ≡ f (i + b)
 getD-values f i zero b h = absurd (omega arith)

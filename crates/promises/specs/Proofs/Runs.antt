@@ -1,5 +1,5 @@
 -- The fresh table stays fresh: through a step, a refresh, and so any chain of calls.
-use mathlib.Core.Path.{_≡_, refl, ap, subst, _∙_}
+use mathlib.Core.Path.{_≡_, refl, ap, _∙_}
 use mathlib.Core.Logic.{inl}
 use mathlib.Core.Bool.{true}
 use mathlib.Core.List.{List}
@@ -11,27 +11,18 @@ use Rattle.meaning.specs.Read.{Got}
 use Rattle.meaning.specs.Image.{decode}
 use Rattle.meaning.specs.Match.{freshTable}
 use Rattle.meaning.specs.Choice.{utilities}
-use Rattle.meaning.specs.Step.{Event, Step, Stopped, Made, stepOf}
+use Rattle.meaning.specs.Step.{Event, Made, stepOf}
 use Rattle.meaning.specs.Learning.{knowing}
 use Rattle.meaning.specs.Refresh.{refresh}
 use Rattle.promises.specs.Words.{Reached}
-use Rattle.laws.specs.MarkLaws.{Marks}
-use Rattle.promises.specs.Proofs.Marks.{StepMarks, step-marks, refresh-fresh}
-use Rattle.promises.specs.Proofs.Steps.{no-made}
+use Rattle.promises.specs.Proofs.Marks.{made-marks, refresh-fresh}
 use Rattle.promises.specs.Proofs.Chains.{chain-keeps}
-
-made-marks : (s : State) (e : Event) (s′ : State) (mark : ℕ) (st : Step) → st ≡ Made e s′ mark → StepMarks s st → Marks s s′ mark
-made-marks s e s′ mark (Stopped n) q h = no-made n e s′ mark q
-made-marks s e s′ mark (Made f t k) q h =
-    let a : t ≡ s′ = cc in
-    let b : k ≡ mark = cc in
-    subst (λ (x : ℕ). Marks s s′ x) b (subst (λ (x : State). Marks s x k) a h)
 
 -- a made step's refresh of the fresh table is fresh
 pub step-fresh : (m : Model) (s : State) (table : List ℕ) → table ≡ freshTable (m .rules) s → (e : Event) (s′ : State) (mark : ℕ) → stepOf m s table ≡ Made e s′ mark
     → refresh (m .rules) s′ mark table ≡ freshTable (m .rules) s′
 step-fresh m s table f e s′ mark q =
-    ap (refresh (m .rules) s′ mark) f ∙ refresh-fresh (m .rules) s s′ mark (made-marks s e s′ mark (stepOf m s table) q (step-marks m (m .facts) (utilities (m .rules)) s table))
+    ap (refresh (m .rules) s′ mark) f ∙ refresh-fresh (m .rules) s s′ mark (made-marks m (m .facts) (utilities (m .rules)) s table e s′ mark q)
 
 -- and so it is whatever is known besides the image's facts
 pub known-step-fresh : (m : Model) (store : Option (List Chunk)) (s : State) (table : List ℕ) → table ≡ freshTable (m .rules) s → (e : Event) (s′ : State) (mark : ℕ)
