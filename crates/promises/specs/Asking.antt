@@ -17,11 +17,13 @@ use Rattle.meaning.specs.Read.{Got}
 use Rattle.meaning.specs.Image.{decode}
 use Rattle.meaning.specs.Match.{answers, freshTable}
 use Rattle.meaning.specs.Refresh.{refresh}
-use Rattle.meaning.specs.Step.{Event, Made, step}
+use Rattle.meaning.specs.Step.{Event, Made, step, stepOf}
 use Rattle.promises.specs.Words.{Reached}
 use Rattle.promises.specs.Published.{Finds, Flagged}
+use Rattle.promises.specs.Proofs.Decoded.{decoded}
 use Rattle.promises.specs.Proofs.Matching.{answers-finds, finds-answers}
 use Rattle.promises.specs.Proofs.Marks.{made-marks, refresh-fresh}
+use Rattle.promises.specs.Proofs.WellFormed.{step-well}
 use Rattle.promises.specs.Proofs.Machines.{Sound, chain-sound}
 use Rattle.promises.specs.Proofs.Asked as asked
 
@@ -65,7 +67,13 @@ module _ (m : Model) (memory : List Fact) (us : List ℤ) (s : State) (table : L
 pub flag-fits : (m : Model) (s : State) → wellFormed m s ≡ true → (b : ℕ) → b < length (s .buffers) → bufferOf s b .error ≡ true → (isNil (bufferOf s b) ≡ true) × (b < m .buffers)
 flag-fits m s well b there set = (asked.flag-nil m s well b there set, asked.flag-within m s well b there set)
 
--- And so it is over one image in every state that a caller can hold: after an accepted opening, and any kept runs, refreshes, and changes of buffers that are refreshed with their mark.
+-- A step of an accepted image leaves a well-formed state well formed, its flags among it.
+pub stays-well : (image : List ℕ) (m : Model) (at : ℕ) → decode image ≡ Got m at → (s : State) (table : List ℕ) → wellFormed m s ≡ true
+    → (e : Event) (s′ : State) (mark : ℕ) → stepOf m s table ≡ Made e s′ mark → wellFormed m s′ ≡ true
+stays-well image m at d s table well e s′ mark made = step-well m (decoded image m at d) s table well e s′ mark made
+
+-- And so a set flag is beside nil over one image in every state that a caller can hold: after an accepted opening, and any kept runs, refreshes, and changes of buffers
+-- that are refreshed with their mark.
 pub reached-flags : (image : List ℕ) (m : Model) (at : ℕ) → decode image ≡ Got m at → {s : State} {table : List ℕ} → Reached image s table
     → (b : ℕ) → b < 8 → bufferOf s b .error ≡ true → (isNil (bufferOf s b) ≡ true) × (b < m .buffers)
 reached-flags image m at d {s} r b low set = let k : Sound m s = chain-sound image m at d r in flag-fits m s (k .well) b (omega (arith, k .machine .eight)) set

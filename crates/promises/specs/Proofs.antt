@@ -12,10 +12,10 @@ pub mod Selection
 pub mod Entries
 pub mod Firing
 pub mod Marked
-pub mod Asked
 pub mod WellFormed
 pub mod Eight
 pub mod Retrieving
+pub mod Asked
 pub mod Effects
 pub mod Transitions
 pub mod Filled

@@ -1,7 +1,7 @@
 -- The published semantics as relations, close to its own text (D. Gall, T. Frühwirth, A Refined Operational Semantics for ACT-R), with the points
 -- that document 01 and change requests 2026-01, 2026-05 and 2026-06 decide. No step, match or choice is computed here, nor what joins a store (but which deed
--- stands on a buffer, and what nil is); that steps of `meaning` are these
--- transitions says Semantics, and that its stores are these Remembering.
+-- stands on a buffer, what nil is, and the entry whose values a failed request asked for); that steps of `meaning` are these transitions says Semantics, that its
+-- stores are these Remembering, and that its queries and flags are these Asking.
 use mathlib.Core.Path.{_≡_}
 use mathlib.Core.Bool.{true, false}
 use mathlib.Core.Logic.{_↔_}
@@ -173,7 +173,7 @@ Final m s = (e : Event) (s′ : State) → Transition m s e s′ → ⊥
 
 -- why the flag of a buffer is set after a step from state s that did e, with these facts in memory
 pub data Flagged (rules : List Rule) (memory : List Fact) (s : State) (b : ℕ) : Event → Type 0 where
-  -- "It is set when a request finds no fact": the rule that fired requests it, and no fact fits the values of its entry
+  -- "It is set when a request finds no fact": the rule that fired requests it, and no fact fits, with the values of its entry
   unfound : {k : ℕ} {r : Rule} {isa : ℕ} {ns : List Named} → At r k rules → deedOn (r .actions) b ≡ some (Request isa ns)
       → ((j : ℕ) (f : Fact) → At f j memory → Fits (valuesIn (entryOf r s)) isa ns f → ⊥) → Flagged rules memory s b (Fired k)
   -- "and any other action on that buffer clears it": it was set, and the rule that fired has no action on it

@@ -28,11 +28,16 @@ use Rattle.promises.specs.Proofs.WellFormed.{buffer-parts, unused-parts,
 use Rattle.promises.specs.Proofs.Marks.{made-leaves, made-marks}
 use Rattle.promises.specs.Proofs.Retrieving.{nothing-here, here-nothing}
 
+-- ---- what a query can tell of a buffer:
+-- whether it is pending,
+-- and of a visible one its flag;
+-- a buffer that is not marked answers as it did
+
 abbrev flagOf : Buffer → Bool
 flagOf b = b .error
 
 module _ (m : Model) (memory : List Fact) (us : List ℤ) (s : State) (table : List ℕ) (e : Event) (s′ : State) (mark : ℕ) (made : step m memory us s table ≡ Made e s′ mark) where
-  -- what a buffer that is not marked cannot do marks it
+  -- a buffer that cannot be left out of the mark is in it
   unless-marked : (b : ℕ) → (bit mark b ≡ false → ⊥) → bit mark b ≡ true
   unless-marked b off = (elim (bit mark b) as (λ t. bit mark b ≡ t → t ≡ true) [ true ↦ λ t. refl | false ↦ λ t. absurd (off t) ]) refl
 
