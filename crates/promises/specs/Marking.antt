@@ -1,4 +1,4 @@
--- Demand 3, the mark of a step: what it names, and nothing else.
+-- Demand 3, the mark of a step: what it names, and nothing else. (That it names all that a query can tell is in Asking.)
 use mathlib.Core.Path.{_≡_}
 use mathlib.Core.Logic.{_↔_}
 use mathlib.Core.Bool.{true}
