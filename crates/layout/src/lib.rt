@@ -31,7 +31,7 @@ pub const BUFFER_WORDS: usize = 11;
 
 pub const STATE_WORDS: usize = 88;
 
-// Four tapes: one that costs little to clear, one with room for a store besides, one with room for 64 rules and 120 facts, or for 38 rules and 512 facts, and a store,
+// Four tapes: one that costs little to clear, one with room for a store besides, one with room for 64 rules and 120 facts, or for 39 rules and 512 facts, and a store,
 // and one with room for the most facts and rules that an image can have, and a store.
 pub const SMALL_TAPE: usize = 4096;
 
