@@ -35,3 +35,7 @@ pub mod Stored
 pub mod Fitting
 pub mod ReadBack
 pub mod Remembered
+pub mod VersionsRead
+pub mod VersionsFlags
+pub mod VersionsRuns
+pub mod VersionsCalls
