@@ -44,7 +44,7 @@ kinds ts b = both (of-number (λ kind. leb kind 2)) (of-buffer (λ kind. not (eq
 
 -- ---- all fields of an image, without its end
 
-pub allFields : RuleNumbers → Reader Model
+unfoldable pub allFields : RuleNumbers → Reader Model
 allFields by =
     andThen (beginning by) λ b.
     andThen (times (b .head .facts) (fact by (b .types))) λ facts.
@@ -87,7 +87,7 @@ module _ (by by′ : RuleNumbers) (R : (A : Type 0) → Reader A → Reader A �
   times-each A p p′ h (suc n) =
       each .follows A (List A) p p′ _ _ h λ x. each .follows (List A) (List A) _ _ _ _ (times-each A p p′ h n) λ xs. each .gives (List A) (x ∷ xs)
 
-  rising-each : (A : Type 0) (p p′ : ℕ → Reader A) (buffer : A → ℕ) → ((least : ℕ) → R A (p least) (p′ least)) → (n least : ℕ)
+  pub rising-each : (A : Type 0) (p p′ : ℕ → Reader A) (buffer : A → ℕ) → ((least : ℕ) → R A (p least) (p′ least)) → (n least : ℕ)
       → R (List A) (rising p buffer n least) (rising p′ buffer n least)
   unfolding rising
   rising-each A p p′ buffer h zero least = each .gives (List A) []
@@ -106,10 +106,10 @@ module _ (by by′ : RuleNumbers) (R : (A : Type 0) → Reader A → Reader A �
       reads Header 16 (omega arith) (omega arith) free _ _ λ failure.
       each .gives Header _
 
-  counts-each : (declared : ℕ) → R (List ℕ) (slotCounts by declared) (slotCounts by′ declared)
+  pub counts-each : (declared : ℕ) → R (List ℕ) (slotCounts by declared) (slotCounts by′ declared)
   counts-each = times-each ℕ _ _ (each .fields 4 (omega arith) (omega arith) (of-number (between 0 8)))
 
-  chunk-each : (types : List ℕ) (least : ℕ) → R Chunk (chunk by types least) (chunk by′ types least)
+  pub chunk-each : (types : List ℕ) (least : ℕ) → R Chunk (chunk by types least) (chunk by′ types least)
   unfolding chunk
   chunk-each types least =
       reads Chunk 6 (omega arith) (omega arith) (of-number (aType types least)) _ _ λ k.
@@ -145,7 +145,7 @@ module _ (by by′ : RuleNumbers) (R : (A : Type 0) → Reader A → Reader A �
   unfolding masked
   masked-each variables slots = reads (List Named) 8 (omega arith) (omega arith) (of-mask (aMask slots)) _ _ λ mask. terms-each variables (slotsIn mask)
 
-  test-each : (z : Sizes) (variables least : ℕ) → R Test (test by z variables least) (test by′ z variables least)
+  pub test-each : (z : Sizes) (variables least : ℕ) → R Test (test by z variables least) (test by′ z variables least)
   unfolding test
   test-each z variables least =
       reads Test 3 (omega arith) (omega arith) (of-buffer (aBuffer (z .buffers) least)) _ _ λ b.
@@ -183,7 +183,7 @@ module _ (by by′ : RuleNumbers) (R : (A : Type 0) → Reader A → Reader A �
         each .gives Deed _
     deed-each b (suc (suc n)) = each .gives Deed _
 
-    action-each : (least : ℕ) → R Action (action by z variables ts least) (action by′ z variables ts least)
+    pub action-each : (least : ℕ) → R Action (action by z variables ts least) (action by′ z variables ts least)
     unfolding action
     action-each least =
         reads Action 3 (omega arith) (omega arith) (of-buffer (aBuffer (z .buffers) least)) _ _ λ b.
