@@ -1,11 +1,13 @@
 -- Document 01 as it stood before request 2026-06: its reading of an image, its match and its marks, and what the request says that it leaves alone. And the words in which
 -- Versions compares them with what is there now: a state without its error flags, and the same run but for flags.
 use mathlib.Core.Path.{_≡_}
-use mathlib.Core.Bool.{Bool, false, _&&_}
+use mathlib.Core.Bool.{Bool, true, false, _&&_}
 use mathlib.Core.List.{List, [], _∷_, map, List·Memᴰ}
+use mathlib.Core.Option.{Option}
 use Prim.Native.Nat.{ℕ}
 use lib.Dec.{ltb, leb, eqb}
-use lib.ListN.{length, drop}
+use lib.ListN.{length, getD, drop}
+use lib.Pow.{areBytes}
 use Rattle.meaning.specs.declared.Buffer.{Buffer}
 use Rattle.meaning.specs.declared.State.{State}
 use Rattle.meaning.specs.Base.{if_then_else_, every, anyOf, upFrom, bit}
@@ -13,12 +15,13 @@ use Rattle.meaning.specs.Numbers.{RuleNumbers, finer, too-long}
 use Rattle.meaning.specs.Model.{Model, Sizes, Rule}
 use Rattle.meaning.specs.State.{slotCount, bufferOf}
 use Rattle.meaning.specs.Bits.{fieldAt}
-use Rattle.meaning.specs.Read.{Read, Refused, Reader, andThen as _>>=_, next as _>>_, give, must, field, require, times}
-use Rattle.meaning.specs.Image.{between, anything, Header, slotCounts, chunk, fact, Head, utilityOf, tests, standsIn, actions, ending, Beginning, Contents}
+use Rattle.meaning.specs.Read.{Read, Refused, Got, Reader, andThen as _>>=_, next as _>>_, give, must, field, require, times}
+use Rattle.meaning.specs.Image.{between, anything, Header, slotCounts, chunk, fact, Head, utilityOf, tests, standsIn, actions, ending, Beginning, Contents, decode}
 use Rattle.meaning.specs.Match.{places, agreed, shows}
 use Rattle.meaning.specs.Run.{Run, Going, going}
-use Rattle.meaning.specs.Calls.{Ran, WithStore}
-use Rattle.meaning.specs.Fresh.{Moving, moving, FreshRan}
+use Rattle.meaning.specs.Calls.{neededOf, openOf, traceLent, Ran, WithStore, runLent, refreshOf}
+use Rattle.meaning.specs.Fresh.{Moving, moving, freshTraceLent, FreshRan, freshLent}
+use Rattle.meaning.specs.Print.{printed}
 
 -- ---- the reading of 01, for all its numbers; what it shares with the reading of now is cited
 
@@ -144,3 +147,22 @@ abbrev pub unflaggedFreshRan : WithStore FreshRan → WithStore FreshRan
 unflaggedFreshRan w =
     let a : FreshRan = w .answer in
     record { answer = record { number = a .number; position = a .position; state = unflagged (a .state); made = a .made }; store = w .store }
+
+-- ---- the other version: an image of bytes, the first of them 2, that decodes to a model and ends at a bit
+
+pub record SecondVersion (m : Model) (end : ℕ) : Type 0 where
+  pub image : List ℕ
+  pub bytes : areBytes image ≡ true
+  pub first-two : getD image 0 0 ≡ 2
+  pub decodes : decode image ≡ Got m end
+
+-- two images that nobody can tell apart by a call: what is asked before opening, open, run with what is lent, its events and its printed lines, refresh, and the run without a table
+pub record SameAnswers (image image′ : List ℕ) : Type 0 where
+  pub needed : neededOf image ≡ neededOf image′
+  pub opened : (table : List ℕ) → openOf image table ≡ openOf image′ table
+  pub run : (s : State) (table : List ℕ) (steps lent : ℕ) (words : List ℕ) → runLent image s table steps lent words ≡ runLent image′ s table steps lent words
+  pub traced : (s : State) (table : List ℕ) (steps : ℕ) (lent : Option (List ℕ)) → traceLent image s table steps lent ≡ traceLent image′ s table steps lent
+  pub refreshed : (s : State) (mark : ℕ) (table : List ℕ) → refreshOf image s mark table ≡ refreshOf image′ s mark table
+  pub fresh-run : (s : State) (steps lent : ℕ) (words : List ℕ) → freshLent image s steps lent words ≡ freshLent image′ s steps lent words
+  pub fresh-traced : (s : State) (steps : ℕ) (lent : Option (List ℕ)) → freshTraceLent image s steps lent ≡ freshTraceLent image′ s steps lent
+  pub lines : printed image ≡ printed image′

@@ -39,3 +39,6 @@ pub mod VersionsRead
 pub mod VersionsFlags
 pub mod VersionsRuns
 pub mod VersionsCalls
+pub mod VersionsBits
+pub mod VersionsCodes
+pub mod VersionsSecond

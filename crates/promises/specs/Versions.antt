@@ -4,7 +4,8 @@ use mathlib.Core.Path.{_≡_, refl, sym, _∙_}
 use mathlib.Core.Bool.{true}
 use mathlib.Core.List.{List, [], List·Memᴰ}
 use mathlib.Core.Option.{Option}
-use Prim.Native.Nat.{ℕ, _≤_, _<_}
+use Prim.Native.Nat.{ℕ, _+_, _*_, _≤_, _<_}
+use native.Mathlib.Omega.{arith}
 use lib.ListN.{length, getD}
 use Rattle.meaning.specs.declared.State.{State}
 use Rattle.meaning.specs.Numbers.{RuleNumbers, finer, bad-number}
@@ -18,11 +19,12 @@ use Rattle.meaning.specs.Run.{going, runFrom}
 use Rattle.meaning.specs.Calls.{traceLent, runLent, refreshOf}
 use Rattle.meaning.specs.Fresh.{moving, freshFrom, freshTraceLent, freshLent}
 use Rattle.promises.specs.Before.{versionOf, decode01By, decode01, NoQueries, matches01, testsMarked01, wellFormed01, unflagged}
-use Rattle.promises.specs.Before.{unflaggedRun, unflaggedFresh, unflaggedRan, unflaggedFreshRan}
+use Rattle.promises.specs.Before.{unflaggedRun, unflaggedFresh, unflaggedRan, unflaggedFreshRan, SecondVersion, SameAnswers}
 use Rattle.promises.specs.Proofs.VersionsRead as reading
 use Rattle.promises.specs.Proofs.VersionsFlags as flags
 use Rattle.promises.specs.Proofs.VersionsRuns as runs
 use Rattle.promises.specs.Proofs.VersionsCalls as calls
+use Rattle.promises.specs.Proofs.VersionsSecond as second
 
 -- ---- the same model
 
@@ -106,3 +108,15 @@ module _ (image : List ℕ) (other : versionOf image ≡ 2 → ⊥) (s : State) 
 
   pub refresh-unflagged : (mark : ℕ) (table : List ℕ) → refreshOf image (unflagged s) mark table ≡ refreshOf image s mark table
   refresh-unflagged = calls.refresh-call-alike image other (unflagged s) s (unflagged-alike s) judged
+
+-- ---- "Every version 1 model has a version 2 image with the same runs"
+
+-- Of every accepted image of version 1 there is an image of version 2, of bytes and with 2 as its first, that decodes to the same model: four bits longer for each rule, if that
+-- is within the 65,536 bytes that an image may have.
+pub in-version-two : (image : List ℕ) (m : Model) (end : ℕ) → versionOf image ≡ 1 → decode image ≡ Got m end → end + 4 * length (m .rules) ≤ 524288
+    → SecondVersion m (end + 4 * length (m .rules))
+in-version-two image m end one d room = second.second-version image m end (λ two. omega (arith, one, two)) d room
+
+-- And all calls answer the same on both, whatever they are handed: so do any two images that decode to one model, as no call tells where an accepted image ends.
+pub answers-alike : (image image′ : List ℕ) (m : Model) (end end′ : ℕ) → decode image ≡ Got m end → decode image′ ≡ Got m end′ → SameAnswers image image′
+answers-alike image image′ m end end′ d d′ = calls.same-answers image image′ m end end′ d d′

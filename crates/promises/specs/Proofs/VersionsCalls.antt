@@ -1,5 +1,5 @@
 -- The calls on an image without queries, handed two states that are the same but for flags; and on two images that decode to one model.
-use mathlib.Core.Path.{_≡_, refl, ap}
+use mathlib.Core.Path.{_≡_, refl, sym, ap, _∙_}
 use mathlib.Core.Bool.{Bool, true, false, not}
 use mathlib.Core.List.{List, []}
 use mathlib.Core.Option.{Option, none}
@@ -15,10 +15,11 @@ use Rattle.meaning.specs.Read.{Read, Refused, Got}
 use Rattle.meaning.specs.Image.{decode}
 use Rattle.meaning.specs.Store.{lentBy, storeFits, storeOf, storeLeft}
 use Rattle.meaning.specs.Run.{Going, going, Run, ends, runFrom}
-use Rattle.meaning.specs.Calls.{fitting, accepted, placeOf, tracedBy, traceLent, ranBy, runLent, refreshedBy, refreshOf}
+use Rattle.meaning.specs.Calls.{fitting, accepted, placeOf, neededBy, neededOf, openedBy, openOf, tracedBy, traceLent, ranBy, runLent, refreshedBy, refreshOf}
 use Rattle.meaning.specs.Fresh.{Moving, moving, freshFrom, freshBy, freshTraceLent, freshRanBy, freshLent}
+use Rattle.meaning.specs.Print.{printedBy, printed}
 use Rattle.laws.specs.ReadLaws.{no-got}
-use Rattle.promises.specs.Before.{versionOf, NoQueries, unflagged, unflaggedRun, unflaggedFresh, unflaggedRan, unflaggedFreshRan}
+use Rattle.promises.specs.Before.{versionOf, NoQueries, unflagged, unflaggedRun, unflaggedFresh, unflaggedRan, unflaggedFreshRan, SameAnswers}
 use Rattle.promises.specs.Proofs.VersionsRead.{accepted-tested}
 use Rattle.promises.specs.Proofs.VersionsFlags.{refresh-alike}
 use Rattle.promises.specs.Proofs.VersionsRuns.{run-alike, fresh-run-alike}
@@ -103,3 +104,42 @@ module _ (image : List ℕ) (other : versionOf image ≡ 2 → ⊥) (s t : State
       by (Got m at) e =
           let d : decode image ≡ Got m at = fitting-decodes image table m at e in
           rw (judged m at d, refresh-alike s t alike (m .rules) (bare m at d) mark table) refl
+
+-- ---- two images that decode to one model: no call tells where an accepted image ends
+
+module _ (image image′ : List ℕ) (m : Model) (end end′ : ℕ) (d : decode image ≡ Got m end) (d′ : decode image′ ≡ Got m end′) where
+  decoded-same : {X : Type 0} (f : Read Model → X) → f (Got m end) ≡ f (Got m end′) → f (decode image) ≡ f (decode image′)
+  decoded-same f h = ap f d ∙ h ∙ sym (ap f d′)
+
+  accepted-same : {X : Type 0} (table : List ℕ) (f : Read Model → X) → f (Got m end) ≡ f (Got m end′) → f (accepted image table) ≡ f (accepted image′ table)
+  unfolding accepted
+  accepted-same table f h = decoded-same (λ r. f (fitting table r)) (by (eqb (length table) (9 * length (m .rules))))
+    where
+      by : (t : Bool) → f (if t then Got m end else Refused wrong-table 0) ≡ f (if t then Got m end′ else Refused wrong-table 0)
+      by true = h
+      by false = refl
+
+  run-same : (s : State) (table : List ℕ) (steps lent : ℕ) (words : List ℕ) → runLent image s table steps lent words ≡ runLent image′ s table steps lent words
+  unfolding runLent traceLent
+  run-same s table steps lent words =
+      accepted-same table
+      (λ r. let run : Run Going = tracedBy s table (lentBy lent words) steps r in record { answer = ranBy (placeOf r) run; store = storeLeft words (run .left .store) }) refl
+
+  fresh-run-same : (s : State) (steps lent : ℕ) (words : List ℕ) → freshLent image s steps lent words ≡ freshLent image′ s steps lent words
+  unfolding freshLent freshTraceLent
+  fresh-run-same s steps lent words =
+      decoded-same (λ r. let run : Run Moving = freshBy s (lentBy lent words) steps r in record { answer = freshRanBy (placeOf r) run; store = storeLeft words (run .left .store) }) refl
+
+  pub same-answers : SameAnswers image image′
+  unfolding neededOf openOf traceLent refreshOf freshTraceLent printed
+  same-answers =
+      record {
+        needed = decoded-same neededBy refl;
+        opened = λ table. accepted-same table (openedBy table) refl;
+        run = run-same;
+        traced = λ s table steps lent. accepted-same table (tracedBy s table lent steps) refl;
+        refreshed = λ s mark table. accepted-same table (refreshedBy s mark table) refl;
+        fresh-run = fresh-run-same;
+        fresh-traced = λ s steps lent. decoded-same (freshBy s lent steps) refl;
+        lines = decoded-same printedBy refl;
+      }

@@ -35,7 +35,7 @@ module _ (by : RuleNumbers) (version : ℕ) (none : hasQueries version ≡ false
   unfolding body body01
   body-before z h = rw none refl
 
-  rule-before : (z : Sizes) → rule by version z ≡ rule01 by z
+  pub rule-before : (z : Sizes) → rule by version z ≡ rule01 by z
   unfolding rule rule01
   rule-before z = simp (head-before, body-before)
 
@@ -66,7 +66,7 @@ header-version by image h next e =
     is : {x : Header} {n : ℕ} → Got x n ≡ Got h next → h .version ≡ x .version
     is {x} k = let q : h ≡ x = cc in ap (λ (y : Header). y .version) q
 
-beginning-version : (by : RuleNumbers) (image : List ℕ) (b : Beginning) (next : ℕ) → beginning by image 0 ≡ Got b next → b .head .version ≡ versionOf image
+pub beginning-version : (by : RuleNumbers) (image : List ℕ) (b : Beginning) (next : ℕ) → beginning by image 0 ≡ Got b next → b .head .version ≡ versionOf image
 unfolding beginning
 beginning-version by image b next e =
     split (header by image 0) _ e λ h n₁ e₁ k₁.
@@ -144,7 +144,7 @@ rising-long p buffer (suc n) least image at xs end e =
     let q : x ∷ rest ≡ xs = cc in
     rw (← q) (ap suc (rising-long p buffer n (buffer x + 1) image n₁ rest n₂ e₂))
 
-head-tests : (buffers : ℕ) (image : List ℕ) (at : ℕ) (h : Head) (next : ℕ) → head01 finer buffers image at ≡ Got h next → 1 ≤ h .tests
+pub head-tests : (buffers : ℕ) (image : List ℕ) (at : ℕ) (h : Head) (next : ℕ) → head01 finer buffers image at ≡ Got h next → 1 ≤ h .tests
 unfolding head01
 head-tests buffers image at h next e =
     split (field 16 anything image at) _ e λ u n₁ e₁ k₁.
