@@ -19,8 +19,8 @@ use Rattle.meaning.specs.Read.{Read, Refused, Got, Reader, andThen as _>>=_, ne
 use Rattle.meaning.specs.Image.{between, anything, Header, slotCounts, chunk, fact, Head, utilityOf, tests, standsIn, actions, ending, Beginning, Contents, decode}
 use Rattle.meaning.specs.Match.{places, agreed, shows}
 use Rattle.meaning.specs.Run.{Run, Going, going}
-use Rattle.meaning.specs.Calls.{neededOf, openOf, traceLent, Ran, WithStore, runLent, refreshOf}
-use Rattle.meaning.specs.Fresh.{Moving, moving, freshTraceLent, FreshRan, freshLent}
+use Rattle.meaning.specs.Calls.{neededOf, openOf, traceLent, Ran, WithStore, runLent, runOf, refreshOf}
+use Rattle.meaning.specs.Fresh.{Moving, moving, freshTraceLent, FreshRan, freshLent, freshOf}
 use Rattle.meaning.specs.Print.{printed}
 
 -- ---- the reading of 01, for all its numbers; what it shares with the reading of now is cited
@@ -156,13 +156,16 @@ pub record SecondVersion (m : Model) (end : ℕ) : Type 0 where
   pub first-two : getD image 0 0 ≡ 2
   pub decodes : decode image ≡ Got m end
 
--- two images that nobody can tell apart by a call: what is asked before opening, open, run with what is lent, its events and its printed lines, refresh, and the run without a table
+-- two images that nobody can tell apart by a call: what is asked before opening, open, run and run without a table, with what is lent and with nothing, their events and the
+-- printed lines, and refresh
 pub record SameAnswers (image image′ : List ℕ) : Type 0 where
   pub needed : neededOf image ≡ neededOf image′
   pub opened : (table : List ℕ) → openOf image table ≡ openOf image′ table
   pub run : (s : State) (table : List ℕ) (steps lent : ℕ) (words : List ℕ) → runLent image s table steps lent words ≡ runLent image′ s table steps lent words
   pub traced : (s : State) (table : List ℕ) (steps : ℕ) (lent : Option (List ℕ)) → traceLent image s table steps lent ≡ traceLent image′ s table steps lent
+  pub run-alone : (s : State) (table : List ℕ) (steps : ℕ) → runOf image s table steps ≡ runOf image′ s table steps
   pub refreshed : (s : State) (mark : ℕ) (table : List ℕ) → refreshOf image s mark table ≡ refreshOf image′ s mark table
   pub fresh-run : (s : State) (steps lent : ℕ) (words : List ℕ) → freshLent image s steps lent words ≡ freshLent image′ s steps lent words
   pub fresh-traced : (s : State) (steps : ℕ) (lent : Option (List ℕ)) → freshTraceLent image s steps lent ≡ freshTraceLent image′ s steps lent
+  pub fresh-alone : (s : State) (steps : ℕ) → freshOf image s steps ≡ freshOf image′ s steps
   pub lines : printed image ≡ printed image′

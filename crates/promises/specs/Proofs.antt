@@ -42,3 +42,4 @@ pub mod VersionsCalls
 pub mod VersionsBits
 pub mod VersionsCodes
 pub mod VersionsSecond
+pub mod VersionsSizes

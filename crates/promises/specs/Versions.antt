@@ -1,6 +1,8 @@
 -- Request 2026-06, "rules that ask whether a buffer is busy", brings a second version of images and an error flag. Here: an image of version 1 means what it meant, the same
--- model and the same runs. `Before` has document 01 as it stood, in its words.
+-- model and the same runs; and every model that has one has an image of version 2 with the same runs, where there is room for it. `Before` has document 01 as it stood, in its
+-- words.
 use mathlib.Core.Path.{_≡_, refl, sym, _∙_}
+use mathlib.Core.Logic.{_↔_}
 use mathlib.Core.Bool.{true}
 use mathlib.Core.List.{List, [], List·Memᴰ}
 use mathlib.Core.Option.{Option}
@@ -25,6 +27,7 @@ use Rattle.promises.specs.Proofs.VersionsFlags as flags
 use Rattle.promises.specs.Proofs.VersionsRuns as runs
 use Rattle.promises.specs.Proofs.VersionsCalls as calls
 use Rattle.promises.specs.Proofs.VersionsSecond as second
+use Rattle.promises.specs.Proofs.VersionsSizes as sizes
 
 -- ---- the same model
 
@@ -117,6 +120,23 @@ pub in-version-two : (image : List ℕ) (m : Model) (end : ℕ) → versionOf im
     → SecondVersion m (end + 4 * length (m .rules))
 in-version-two image m end one d room = second.second-version image m end (λ two. omega (arith, one, two)) d room
 
--- And all calls answer the same on both, whatever they are handed: so do any two images that decode to one model, as no call tells where an accepted image ends.
+-- There is one exactly then. (Not every model has the room: one with 8 buffers, 14 types, one opening chunk of 8 slots, 128 facts of 8 slots and 256 rules, each with 8 tests
+-- and 8 requests that name 8 slots, has 524,285 bits in version 1, which is 65,536 bytes, and would have 525,309 in version 2.)
+pub version-two-exactly : (image : List ℕ) (m : Model) (end : ℕ) → versionOf image ≡ 1 → decode image ≡ Got m end
+    → ((end′ : ℕ) × SecondVersion m end′) ↔ (end + 4 * length (m .rules) ≤ 524288)
+version-two-exactly image m end one d = (
+  λ s. let longer = sizes.second-longer image m end (s .0) one d (s .1) in omega (arith, longer .0, longer .1),
+  λ room. (end + 4 * length (m .rules), in-version-two image m end one d room),
+)
+
+-- No image of version 2 of that model has another length.
+pub version-two-longer : (image : List ℕ) (m : Model) (end end′ : ℕ) → versionOf image ≡ 1 → decode image ≡ Got m end → SecondVersion m end′ → end′ ≡ end + 4 * length (m .rules)
+version-two-longer image m end end′ one d s = sizes.second-longer image m end end′ one d s .0
+
+-- And all calls answer the same on both, whatever they are handed:
+pub version-two-answers : (image : List ℕ) (m : Model) (end end′ : ℕ) → decode image ≡ Got m end → (s : SecondVersion m end′) → SameAnswers image (s .image)
+version-two-answers image m end end′ d s = calls.same-answers image (s .image) m end end′ d (s .decodes)
+
+-- so do any two images that decode to one model, as no call tells where an accepted image ends.
 pub answers-alike : (image image′ : List ℕ) (m : Model) (end end′ : ℕ) → decode image ≡ Got m end → decode image′ ≡ Got m end′ → SameAnswers image image′
 answers-alike image image′ m end end′ d d′ = calls.same-answers image image′ m end end′ d d′

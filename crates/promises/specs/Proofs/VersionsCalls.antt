@@ -15,8 +15,8 @@ use Rattle.meaning.specs.Read.{Read, Refused, Got}
 use Rattle.meaning.specs.Image.{decode}
 use Rattle.meaning.specs.Store.{lentBy, storeFits, storeOf, storeLeft}
 use Rattle.meaning.specs.Run.{Going, going, Run, ends, runFrom}
-use Rattle.meaning.specs.Calls.{fitting, accepted, placeOf, neededBy, neededOf, openedBy, openOf, tracedBy, traceLent, ranBy, runLent, refreshedBy, refreshOf}
-use Rattle.meaning.specs.Fresh.{Moving, moving, freshFrom, freshBy, freshTraceLent, freshRanBy, freshLent}
+use Rattle.meaning.specs.Calls.{fitting, accepted, placeOf, neededBy, neededOf, openedBy, openOf, tracedBy, traceLent, ranBy, runLent, runOf, refreshedBy, refreshOf}
+use Rattle.meaning.specs.Fresh.{Moving, moving, freshFrom, freshBy, freshTraceLent, freshRanBy, freshLent, freshOf}
 use Rattle.meaning.specs.Print.{printedBy, printed}
 use Rattle.laws.specs.ReadLaws.{no-got}
 use Rattle.promises.specs.Before.{versionOf, NoQueries, unflagged, unflaggedRun, unflaggedFresh, unflaggedRan, unflaggedFreshRan, SameAnswers}
@@ -131,15 +131,17 @@ module _ (image image′ : List ℕ) (m : Model) (end end′ : ℕ) (d : decode 
       decoded-same (λ r. let run : Run Moving = freshBy s (lentBy lent words) steps r in record { answer = freshRanBy (placeOf r) run; store = storeLeft words (run .left .store) }) refl
 
   pub same-answers : SameAnswers image image′
-  unfolding neededOf openOf traceLent refreshOf freshTraceLent printed
+  unfolding neededOf openOf traceLent runOf refreshOf freshTraceLent freshOf printed
   same-answers =
       record {
         needed = decoded-same neededBy refl;
         opened = λ table. accepted-same table (openedBy table) refl;
         run = run-same;
         traced = λ s table steps lent. accepted-same table (tracedBy s table lent steps) refl;
+        run-alone = λ s table steps. accepted-same table (λ r. ranBy (placeOf r) (tracedBy s table none steps r)) refl;
         refreshed = λ s mark table. accepted-same table (refreshedBy s mark table) refl;
         fresh-run = fresh-run-same;
         fresh-traced = λ s steps lent. decoded-same (freshBy s lent steps) refl;
+        fresh-alone = λ s steps. decoded-same (λ r. freshRanBy (placeOf r) (freshBy s none steps r)) refl;
         lines = decoded-same printedBy refl;
       }

@@ -49,6 +49,8 @@ unfolding places
 places-unflagged [] s = refl
 places-unflagged (t ∷ ts) s = rw (buffer-unflagged s (t .buffer), places-unflagged ts s) refl
 
+-- which tests find their chunk:
+-- a flag beside it is not looked at
 shown-unflagged : (ts : List Test) (s : State) → every (λ t. shows t (bufferOf (unflagged s) (t .buffer))) ts ≡ every (λ t. shows t (bufferOf s (t .buffer))) ts
 shown-unflagged [] s = refl
 shown-unflagged (t ∷ ts) s = rw (buffer-unflagged s (t .buffer), shown-unflagged ts s) refl

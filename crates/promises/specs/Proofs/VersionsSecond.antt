@@ -122,13 +122,13 @@ ending-there image at u there e = by (endsWell image at) e
     by true k = cc
     by false k = absurd (no-got bad-end 0 u there k)
 
-fields-read : (image : List ℕ) (m : Model) (end : ℕ) → model finer image 0 ≡ Got m end → allFields finer image 0 ≡ Got m end
+pub fields-read : (image : List ℕ) (m : Model) (end : ℕ) → model finer image 0 ≡ Got m end → allFields finer image 0 ≡ Got m end
 fields-read image m end e =
     split (allFields finer image 0) _ (sym (model-fields finer image 0) ∙ e) λ n at e₁ k₁.
     split (ending image at) _ k₁ λ u there e₂ k₂.
     e₁ ∙ ap (Got n) (ending-there image at u there e₂) ∙ k₂
 
-decoded-model : (image : List ℕ) (m : Model) (end : ℕ) → decode image ≡ Got m end → model finer image 0 ≡ Got m end
+pub decoded-model : (image : List ℕ) (m : Model) (end : ℕ) → decode image ≡ Got m end → model finer image 0 ≡ Got m end
 unfolding decodeBy
 decoded-model image m end e =
     (elim (ltb 65536 (length image)) as (λ t. (if t then Refused too-long 0 else model finer image 0) ≡ Got m end → model finer image 0 ≡ Got m end) [
@@ -171,7 +171,7 @@ module _ (m : Model) (at : ℕ) (s : Second m at) where
   made-two : versionOf made ≡ 2
   made-two = sym (beginning-version finer made (s .start) (0 + length xs) begins) ∙ s .is-two
 
-byte-lt : (bytes : List ℕ) → areBytes bytes ≡ true → getD bytes 0 0 < 256
+pub byte-lt : (bytes : List ℕ) → areBytes bytes ≡ true → getD bytes 0 0 < 256
 byte-lt [] e = omega arith
 byte-lt (b ∷ bs) e = ltb-true b 256 (and-left (ltb b 256) (areBytes bs) e)
 
