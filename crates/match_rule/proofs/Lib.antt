@@ -4,4 +4,5 @@ pub mod WordMatch
 pub mod Link
 pub mod MadeLaws
 pub mod ShutLaws
+pub mod QueryLaws
 pub mod Agree

@@ -1,4 +1,4 @@
--- The match test by test gives the entry of the declarative match.
+-- The match test by test, and then of the queries, gives the entry of the declarative match.
 use mathlib.Core.Path.{_≡_, refl, sym, ap, ap₂, _∙_}
 use mathlib.Core.Bool.{Bool, true, false, _&&_, _||_, not, or-true, or-false, and-false}
 use mathlib.Core.List.{List, [], _∷_, _++_, map, append-nil, append-assoc}
@@ -15,10 +15,11 @@ use Rattle.meaning.specs.Base.{if_then_else_, every, upFrom}
 use Rattle.meaning.specs.Model.{Term, Symbol, Variable, Named, Test, Rule}
 use Rattle.meaning.specs.State.{bufferOf}
 use Rattle.meaning.specs.Image.{isVariable, slotsIn}
-use Rattle.meaning.specs.Match.{Place, place, places, valueIn, agrees, agreed, shows, matches, entryOf}
+use Rattle.meaning.specs.Match.{Place, place, places, valueIn, agrees, agreed, shows, queriesHold, matches, entryOf}
 use Rattle.laws.specs.MatchLaws.{stands, stands-more, value-seen, value-new, value-other, agrees-seen, agrees-new, agreedFrom, agreed-walk}
-use Rattle.layout.specs.Rows.{rowsIn, wordTerm, namedIn, testsIn}
-use Rattle.match_rule.specs.Run.{Vars, Run, stop, on, thenOn, bind, termRun, termsRun, testRun, testsRun, noVars, entryWords}
+use Rattle.layout.specs.Rows.{rowsIn, wordTerm, namedIn, testsIn, queriesAt}
+use Rattle.match_rule.specs.Run.{Vars, Run, stop, on, thenOn, bind, termRun, termsRun, testRun, testsRun, ruleRun, noVars, entryWords}
+use Rattle.match_rule.specs.Words.{StandsAt}
 use Rattle.match_rule.proofs.TestLaws.{testsFrom}
 
 -- ---- what the code keeps of the places that it has passed
@@ -243,18 +244,27 @@ eight-of (x ∷ l) f i (suc n) e h =
     ap₂ (λ (y : ℕ) (r : List ℕ). y ∷ r) (h 0 (omega arith) ∙ ap f z)
     (eight-of l f (i + 1) n (omega arith) (λ k g. let q : i + suc k ≡ i + 1 + k = omega arith in h (suc k) (omega arith) ∙ ap f q))
 
--- THE LINK: the match test by test gives the rule's entry
-pub entry-run : (r : Rule) (s : State) → TestsLow (r .tests) → entryWords (testsRun (s .buffers) (r .tests) noVars) ≡ entryOf r s
+-- THE LINK: the match test by test, and then of the queries, gives the rule's entry
+pub entry-run : (r : Rule) (s : State) → TestsLow (r .tests) → entryWords (ruleRun s (r .tests) (r .queries)) ≡ entryOf r s
 unfolding entryOf matches
 entry-run r s l = go (testsRun (s .buffers) (r .tests) noVars) (tests-come s (r .tests) noVars [] l none-kept)
   where
-    go : (u : Run) → Comes u (shown s (r .tests) && agreedFrom [] (places (r .tests) s)) (places (r .tests) s)
-        → entryWords u ≡ (if shown s (r .tests) && agreed (places (r .tests) s) then 1 ∷ map (valueIn (places (r .tests) s)) (upFrom 0 8) else replicate 9 0)
-    go stop c = rw (agreed-walk (places (r .tests) s), c)
+    ps : List Place
+    ps = places (r .tests) s
+
+    held : Bool
+    held = queriesHold (r .queries) s
+
+    values : (w : Vars) → Keeps w ps → 1 ∷ w .values ≡ 1 ∷ map (valueIn ps) (upFrom 0 8)
+    values w k =
+        ap (λ (m : List ℕ). 1 ∷ m) (eight-of (w .values) (valueIn ps) 0 8 (k .eight-v) (λ j h. let q : 0 + j ≡ j = omega arith in k .what j h ∙ ap (valueIn ps) (sym q)))
+
+    go : (u : Run) → Comes u (shown s (r .tests) && agreedFrom [] ps) ps
+        → entryWords (thenOn u (λ v. if held then on v else stop)) ≡ (if (shown s (r .tests) && agreed ps) && held then 1 ∷ map (valueIn ps) (upFrom 0 8) else replicate 9 0)
+    go stop c = rw (agreed-walk ps, c)
     go (on w) c =
-        rw (agreed-walk (places (r .tests) s), c .0)
-        (ap (λ (m : List ℕ). 1 ∷ m) (eight-of (w .values) (valueIn (places (r .tests) s)) 0 8 (c .1 .eight-v)
-        (λ k h. let q : 0 + k ≡ k = omega arith in c .1 .what k h ∙ ap (valueIn (places (r .tests) s)) (sym q))))
+        rw (agreed-walk ps, c .0)
+        (elim held as (λ t. entryWords (if t then on w else stop) ≡ (if t then 1 ∷ map (valueIn ps) (upFrom 0 8) else replicate 9 0)) [ true ↦ values w (c .1) | false ↦ refl ])
 
 -- ---- what stands in words has variables below 8
 
@@ -273,6 +283,6 @@ unfolding rowsIn
 tests-low w o i zero = tt
 tests-low w o i (suc n) = (named-low w (o + 11 * i) (slotsIn (getD w (o + 11 * i + 2) 0)), tests-low w o (i + 1) n)
 
--- the match of the tests that stand in words is the entry of any rule that has them
-pub entry-words : (w : List ℕ) (o n : ℕ) (r : Rule) (s : State) → r .tests ≡ testsIn w o n → entryWords (testsRun (s .buffers) (testsIn w o n) noVars) ≡ entryOf r s
-entry-words w o n r s e = rw (← e) (entry-run r s (rw e (tests-low w o 0 n)))
+-- the match of the tests and queries that stand in words is the entry of any rule that has them
+pub entry-words : (w : List ℕ) (o n : ℕ) (r : Rule) (s : State) → StandsAt r w o n → entryWords (ruleRun s (testsIn w o n) (queriesAt w o)) ≡ entryOf r s
+entry-words w o n r s e = rw (← e .tests, ← e .queries) (entry-run r s (rw (e .tests) (tests-low w o 0 n)))

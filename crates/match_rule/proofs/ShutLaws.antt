@@ -12,12 +12,13 @@ use Rattle.meaning.specs.Base.{if_then_else_}
 use Rattle.meaning.specs.Model.{Rule}
 use Rattle.meaning.specs.State.{nothing}
 use Rattle.meaning.specs.Image.{names}
-use Rattle.meaning.specs.Match.{entryOf}
+use Rattle.meaning.specs.Match.{queriesHold, entryOf}
 use Rattle.laws.specs.BaseLaws.{by-lt}
-use Rattle.layout.specs.Rows.{wordTerm, testIn, testsIn}
+use Rattle.layout.specs.Rows.{wordTerm, testIn, testsIn, queriesAt}
 use Rattle.layout.specs.StateWords.{buffersIn, stateIn}
 use Rattle.layout.proofs.StateLaws.{slot-is}
 use Rattle.match_rule.specs.Run.{Vars, Run, stop, on, thenOn, termRun, termsRun, testRun, testsRun, noVars, entryWords}
+use Rattle.match_rule.specs.Words.{StandsAt}
 use Rattle.match_rule.specs.Shut.{delayOf, Shuts, Differing, whyOf, Because}
 use Rattle.match_rule.proofs.TestLaws.{left, testsFrom, first, slot-skip, slot-on, slot-over}
 use Rattle.match_rule.proofs.WordMatch.{flat-pending, flat-other, flat-on}
@@ -98,9 +99,11 @@ module _ (w : List ℕ) (bs : List Buffer) (o n : ℕ) where
 
 -- ---- so each word that a test wants shuts the rule
 
-module _ (w : List ℕ) (o n i q : ℕ) (at : q ≡ o + 11 * i) (h : i < n) (r : Rule) (e : r .tests ≡ testsIn w o n) where
+module _ (w : List ℕ) (o n i q : ℕ) (at : q ≡ o + 11 * i) (h : i < n) (r : Rule) (e : StandsAt r w o n) where
   shut : (st : List ℕ) (clock : ℕ) → ((v : Vars) → testsRun (buffersIn st) (testsFrom w o i (n - i)) v ≡ stop) → entryOf r (stateIn st clock) ≡ replicate 9 0
-  shut st clock all = sym (entry-words w o n r (stateIn st clock) e) ∙ ap entryWords (all-over w (buffersIn st) o n i (omega arith) all)
+  shut st clock all =
+      sym (entry-words w o n r (stateIn st clock) e)
+      ∙ ap (λ (u : Run). entryWords (thenOn u (λ v. if queriesHold (queriesAt w o) (stateIn st clock) then on v else stop))) (all-over w (buffersIn st) o n i (omega arith) all)
 
   pub delay-shuts : Shuts r (11 * (getD w q 0 % 8) + 9) 0
   delay-shuts st clock z = shut st clock (still-pending w st o n i q at h z)
@@ -115,14 +118,14 @@ module _ (w : List ℕ) (o n i q : ℕ) (at : q ≡ o + 11 * i) (h : i < n) (r :
 
 module _ (w st : List ℕ) (o n i q : ℕ) (at : q ≡ o + 11 * i) (h : i < n) where
   -- whatever its word is, the delay of that word's buffer shuts the rule too
-  hidden : (place : ℕ) → place / 11 ≡ getD w q 0 % 8 → (r : Rule) → r .tests ≡ testsIn w o n → Shuts r (delayOf place) 0
+  hidden : (place : ℕ) → place / 11 ≡ getD w q 0 % 8 → (r : Rule) → StandsAt r w o n → Shuts r (delayOf place) 0
   hidden place is r e = rw is (delay-shuts w o n i q at h r e)
 
   pub because-pending : (getD st (11 * (getD w q 0 % 8) + 9) 0 ≡ 0 → ⊥) → Differing w o n st (11 * (getD w q 0 % 8) + 9) 0
-  because-pending z = record { low = omega arith; differs = z; shuts = λ r e. delay-shuts w o n i q at h r e; hidden = hidden (11 * (getD w q 0 % 8) + 9) (omega arith) }
+  because-pending z = record { low = omega arith; differs = z; flag = λ f. omega arith; shuts = λ r e. delay-shuts w o n i q at h r e; hidden = hidden (11 * (getD w q 0 % 8) + 9) (omega arith) }
 
   pub because-type : (getD st (11 * (getD w q 0 % 8)) 0 ≡ getD w (q + 1) 0 → ⊥) → Differing w o n st (11 * (getD w q 0 % 8)) (getD w (q + 1) 0)
-  because-type z = record { low = omega arith; differs = z; shuts = λ r e. type-shuts w o n i q at h r e; hidden = hidden (11 * (getD w q 0 % 8)) (omega arith) }
+  because-type z = record { low = omega arith; differs = z; flag = λ f. omega arith; shuts = λ r e. type-shuts w o n i q at h r e; hidden = hidden (11 * (getD w q 0 % 8)) (omega arith) }
 
   pub because-slot : (b : ℕ) → b < 8 → names (getD w (q + 2) 0) b ≡ true
       → (getD w (q + 3 + b) 0 < 4096 → getD st (11 * (getD w q 0 % 8) + 1 + b) 0 ≡ getD w (q + 3 + b) 0 → ⊥)
@@ -130,5 +133,11 @@ module _ (w st : List ℕ) (o n i q : ℕ) (at : q ≡ o + 11 * i) (h : i < n) w
   because-slot b l named differs =
       by-lt (getD w (q + 3 + b) 0) 4096
       (λ s. rw (lt-ltb (getD w (q + 3 + b) 0) 4096 s)
-      (record { low = omega arith; differs = differs s; shuts = λ r e. symbol-shuts w o n i q at h r e b l named s; hidden = hidden (11 * (getD w q 0 % 8) + 1 + b) (omega arith) }))
+      (record {
+        low = omega arith;
+        differs = differs s;
+        flag = λ f. omega arith;
+        shuts = λ r e. symbol-shuts w o n i q at h r e b l named s;
+        hidden = hidden (11 * (getD w q 0 % 8) + 1 + b) (omega arith);
+      }))
       (λ s. rw (le-ltb (getD w (q + 3 + b) 0) 4096 s) tt)

@@ -1,12 +1,14 @@
--- The match as the code goes: test by test, slot by slot, with the variables bound so far.
+-- The match as the code goes: test by test, slot by slot, with the variables bound so far; and then the queries.
 use Prim.Native.Nat.{ℕ}
 use mathlib.Core.List.{List, [], _∷_}
 use lib.ListN.{getD, set, replicate}
 use lib.Dec.{eqb}
 use Rattle.meaning.specs.declared.Buffer.{Buffer}
+use Rattle.meaning.specs.declared.State.{State}
 use Rattle.meaning.specs.Base.{if_then_else_}
-use Rattle.meaning.specs.Model.{Term, Symbol, Variable, Named, Test}
+use Rattle.meaning.specs.Model.{Term, Symbol, Variable, Named, Test, Query}
 use Rattle.meaning.specs.State.{nothing}
+use Rattle.meaning.specs.Match.{queriesHold}
 
 -- which of eight variables are bound (1) or not (0), and their values
 pub record Vars : Type 0 where
@@ -44,6 +46,10 @@ testRun b t v = if eqb (b .delay) 0 then (if eqb (b .isa) (t .isa) then termsRun
 unfoldable pub testsRun : List Buffer → List Test → Vars → Run
 testsRun bs [] v = on v
 testsRun bs (t ∷ ts) v = thenOn (testRun (getD bs (t .buffer) nothing) t v) (λ w. testsRun bs ts w)
+
+-- tests, and then queries: "For a match queries must hold too."
+abbrev pub ruleRun : State → List Test → List Query → Run
+ruleRun s ts qs = thenOn (testsRun (s .buffers) ts noVars) (λ v. if queriesHold qs s then on v else stop)
 
 -- the nine words that a run ends with
 abbrev pub entryWords : Run → List ℕ

@@ -1,18 +1,21 @@
-// The match of one rule: from its rows of words, with the state in words too and the variables lent, so that nothing is copied.
+// The match of one rule: from its rows and queries in words, with the state in words too and the variables lent, so that nothing is copied.
 ghost use mathlib.Core.Path.{_≡_};
-ghost use Prim.Native.Nat.{ℕ, _+_, _*_, _≤_};
-ghost use lib.ListN.{length, replicate};
+ghost use Prim.Native.Nat.{ℕ, _+_, _*_, _/_, _%_, _≤_};
+ghost use lib.ListN.{length, getD, replicate};
 ghost use Rattle.meaning.specs.Base.{if_then_else_, same};
 ghost use Rattle.meaning.specs.Model.{Rule};
-ghost use Rattle.meaning.specs.Match.{entryOf};
-ghost use Rattle.layout.specs.Rows.{wordTerm, testsIn};
-ghost use Rattle.match_rule.specs.Run.{termRun, testsRun, noVars, on, stop};
+ghost use Rattle.meaning.specs.Image.{askOf};
+ghost use Rattle.meaning.specs.Match.{queriesHold, entryOf};
+ghost use Rattle.layout.specs.Rows.{wordTerm, testsIn, queriesAt};
+ghost use Rattle.match_rule.specs.Run.{termRun, testsRun, ruleRun, noVars, on, stop};
 ghost use Rattle.layout.specs.StateWords.{buffersIn, stateIn};
-ghost use Rattle.match_rule.specs.Words.{varsIn};
-ghost use Rattle.match_rule.specs.Shut.{isHit, whyOf, Because, Made};
+ghost use Rattle.match_rule.specs.Words.{varsIn, StandsAt};
+ghost use Rattle.match_rule.specs.Shut.{isHit, whyOf, asked, Because, Made};
+use layout::ASKED_AT;
+use layout::QUERIES_AT;
 
 // What trying to match a rule gives: it matches; a word of the state, by its number, has another value than the one wanted;
-// or a variable has two values, or none.
+// or a variable has two values, or none, or a buffer that must be busy is not.
 pub enum Tried {
     Hit,
     Differs(u16, u16),
@@ -93,6 +96,74 @@ fn match_tests(
     tried
 }
 
+// Whether a query holds in a state, and why not. A busy buffer has any delay but 0: no value is wanted there.
+fn ask(query: u16, state: &[u16]) -> Tried
+    requires { ⌜ 88 ≤ length (now state) ⌝ }
+    ensures { λ t. ⌜ t ≡ asked (askOf (query / 8)) (11 * (query % 8)) (now (state .entry)) ⌝ }
+{
+    let p = 11 * (query % 8);
+    let k = p as usize;
+    let kind = query / 8;
+    let delay = state[k + 9];
+    if kind == 0 {
+        if delay == 0 {
+            return Tried::Varies;
+        }
+        return Tried::Hit;
+    }
+    if delay != 0 {
+        return Tried::Differs(p + 9, 0);
+    }
+    if kind == 1 {
+        return Tried::Hit;
+    }
+    if state[k + 10] != 1 {
+        return Tried::Differs(p + 10, 1);
+    }
+    Tried::Hit
+}
+
+// Whether the queries of the rule whose words start at o hold in a state, and why not; they are left at the first that does not.
+fn match_queries(words: &[u16], o: usize, state: &[u16]) -> Tried
+    requires { ⌜ (o + 97 ≤ length (now words)) × (getD (now words) (o + 88) 0 ≤ 8) × (88 ≤ length (now state)) ⌝ }
+    ensures { λ t. ⌜ ((clock : ℕ) → isHit t ≡ queriesHold (queriesAt (now (words .entry)) o) (stateIn (now (state .entry)) clock)) ⌝ }
+    ensures because { λ t. ⌜ ((n : ℕ) → Because t (now (words .entry)) o n (now (state .entry))) ⌝ }
+{
+    let m = words[o + ASKED_AT] as usize;
+    let mut i = 0;
+    while i < m {
+        let tried = ask(words[o + QUERIES_AT + i], state);
+        if let Tried::Hit = tried {
+            i += 1;
+        } else {
+            return tried;
+        }
+    }
+    Tried::Hit
+}
+
+// Whether the n tests that stand in words from o on hold, and then the queries after them, with the variables in bound and nine, and why not.
+fn match_words(
+    words: &[u16],
+    o: usize,
+    n: usize,
+    state: &[u16],
+    bound: &mut [u16],
+    nine: &mut [u16],
+) -> Tried
+    requires { ⌜ (n ≤ 8) × (o + 97 ≤ length (now words)) × (getD (now words) (o + 88) 0 ≤ 8) × (88 ≤ length (now state))
+        × (length (now bound) ≡ 8) × (length (now nine) ≡ 9) × (varsIn (now bound) (now nine) ≡ noVars) ⌝ }
+    ensures { λ t. ⌜ ((clock : ℕ) → (if isHit t then on (varsIn (now (bound .exit)) (now (nine .exit))) else stop)
+        ≡ ruleRun (stateIn (now (state .entry)) clock) (testsIn (now (words .entry)) o n) (queriesAt (now (words .entry)) o)) ⌝ }
+    ensures because { λ t. ⌜ Because t (now (words .entry)) o n (now (state .entry)) ⌝ }
+{
+    let tried = match_tests(words, o, n, state, bound, nine);
+    if let Tried::Hit = tried {
+        return match_queries(words, o, state);
+    }
+    tried
+}
+
 // The entry of a rule that does not match, into nine words.
 pub fn no_entry(nine: &mut [u16])
     requires { ⌜ length (now nine) ≡ 9 ⌝ }
@@ -101,14 +172,14 @@ pub fn no_entry(nine: &mut [u16])
     layout::copy_into(nine, 0, &[0u16; 9]);
 }
 
-// The fresh entry of the rule whose n tests stand in words from o on, into nine words; and why it does not match.
+// The fresh entry of the rule whose words start at o, with n tests, into nine words; and why it does not match.
 pub fn try_into(nine: &mut [u16], words: &[u16], o: usize, n: usize, state: &[u16]) -> Tried
-    requires { ⌜ (length (now nine) ≡ 9) × (o + 11 * n ≤ length (now words)) × (88 ≤ length (now state)) ⌝ }
+    requires { ⌜ (length (now nine) ≡ 9) × (n ≤ 8) × (o + 97 ≤ length (now words)) × (getD (now words) (o + 88) 0 ≤ 8) × (88 ≤ length (now state)) ⌝ }
     ensures { λ t. ⌜ Made t (now (nine .exit)) (now (words .entry)) o n (now (state .entry)) ⌝ }
 {
     no_entry(nine);
     let mut bound = [0u16; 8];
-    let tried = match_tests(words, o, n, state, &mut bound, nine);
+    let tried = match_words(words, o, n, state, &mut bound, nine);
     if let Tried::Hit = tried {
         nine[0] = 1;
     } else {
@@ -119,8 +190,8 @@ pub fn try_into(nine: &mut [u16], words: &[u16], o: usize, n: usize, state: &[u1
 
 // The same, for whoever does not ask why.
 pub fn entry_into(nine: &mut [u16], words: &[u16], o: usize, n: usize, state: &[u16])
-    requires { ⌜ (length (now nine) ≡ 9) × (o + 11 * n ≤ length (now words)) × (88 ≤ length (now state)) ⌝ }
-    ensures { λ _. ⌜ ((r : Rule) (clock : ℕ) → r .tests ≡ testsIn (now (words .entry)) o n → now (nine .exit) ≡ entryOf r (stateIn (now (state .entry)) clock)) ⌝ }
+    requires { ⌜ (length (now nine) ≡ 9) × (n ≤ 8) × (o + 97 ≤ length (now words)) × (getD (now words) (o + 88) 0 ≤ 8) × (88 ≤ length (now state)) ⌝ }
+    ensures { λ _. ⌜ ((r : Rule) (clock : ℕ) → StandsAt r (now (words .entry)) o n → now (nine .exit) ≡ entryOf r (stateIn (now (state .entry)) clock)) ⌝ }
 {
     try_into(nine, words, o, n, state);
 }
