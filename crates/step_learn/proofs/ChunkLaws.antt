@@ -83,7 +83,6 @@ module _ (state : List ℕ) (b : ℕ) where
     unfolding zerosFrom
     gives-slots e =
         rw (eq-eqb (getD state (11 * b + 9) 0) 0 now, eq-eqb (getD state (11 * b) 0) 0 e)
-        (elim (every (λ v. eqb v 0) (rowsIn (slotIn state b) 0 8)) as (λ t. not t ≡ not (t && true)) [ true ↦ refl | false ↦ refl ])
 
 -- ---- a buffer's chunk and a fact's
 
