@@ -1,6 +1,6 @@
 -- Delays: the sooner of two, the soonest of a state, and the delay of one buffer lowered.
 use Prim.Native.Nat.{ℕ, zero, suc, _+_, _-_, _*_, _≤_, _<_}
-use mathlib.Core.Path.{_≡_, refl, sym, ap}
+use mathlib.Core.Path.{_≡_, refl, sym, ap, ap₂, _∙_}
 use mathlib.Core.Bool.{true, false}
 use mathlib.Core.List.{List}
 use native.Mathlib.Omega.{arith}
@@ -47,14 +47,24 @@ module _ (w : List ℕ) (k ms : ℕ) where
 
 -- ---- the delay of one buffer
 
+-- nine words that are alike say the same chunk
+pub chunk-kept : (w w′ : List ℕ) (k : ℕ) → ((j : ℕ) → j < 9 → getD w′ (11 * k + j) 0 ≡ getD w (11 * k + j) 0)
+    → bufferIn w′ k ≡ record { isa = bufferIn w k .isa; slots = bufferIn w k .slots; delay = bufferIn w′ k .delay; error = bufferIn w′ k .error }
+chunk-kept w w′ k h =
+    let z : 11 * k + 0 ≡ 11 * k = omega arith in
+    ap₂ (λ (i : ℕ) (l : List ℕ). record { isa = i; slots = l; delay = bufferIn w′ k .delay; error = bufferIn w′ k .error }) (rw z at (h 0 (omega arith)))
+    (rows-same (λ b. getD w′ (11 * k + 1 + b) 0) (λ b. getD w (11 * k + 1 + b) 0) 0 8 (λ b x y.
+    let e : 11 * k + 1 + b ≡ 11 * k + (1 + b) = omega arith in
+    rw e (h (1 + b) (omega arith))))
+
 -- another delay, and the rest of the buffer as it was
-pub delay-set : (w : List ℕ) (k d : ℕ) → 11 * k + 11 ≤ length w → Remade w (set w (11 * k + 9) d) k (record { isa = bufferIn w k .isa; slots = bufferIn w k .slots; delay = d })
+delay-set : (w : List ℕ) (k d : ℕ) → 11 * k + 11 ≤ length w
+    → Remade w (set w (11 * k + 9) d) k (record { isa = bufferIn w k .isa; slots = bufferIn w k .slots; delay = d; error = bufferIn w k .error })
 delay-set w k d h =
     record {
       made =
-          rw (other (11 * k) (λ e. omega arith), getD-set-same w (11 * k + 9) d 0 (omega arith))
-          (ap (λ (l : List ℕ). record { isa = getD w (11 * k) 0; slots = l; delay = d })
-          (rows-same (λ b. getD (set w (11 * k + 9) d) (11 * k + 1 + b) 0) (λ b. getD w (11 * k + 1 + b) 0) 0 8 (λ b x y. other (11 * k + 1 + b) (λ e. omega arith))));
+          chunk-kept w (set w (11 * k + 9) d) k (λ j l. other (11 * k + j) (λ e. omega arith))
+          ∙ rw (getD-set-same w (11 * k + 9) d 0 (omega arith), other (11 * k + 10) (λ e. omega arith));
       below = λ j l. other j (λ e. omega arith);
       above = λ j l. other j (λ e. omega arith);
     }
@@ -69,7 +79,7 @@ delay-lowered w k ms d h e = rw e (delay-set w k (getD w (11 * k + 9) 0 - ms) h)
 pub delay-none : (w : List ℕ) (k ms : ℕ) → getD w (11 * k + 9) 0 ≡ 0 → Remade w w k (later ms (bufferIn w k))
 delay-none w k ms e =
     let z : getD w (11 * k + 9) 0 ≡ getD w (11 * k + 9) 0 - ms = omega arith in
-    record { made = ap (λ (d : ℕ). record { isa = bufferIn w k .isa; slots = bufferIn w k .slots; delay = d }) z; below = λ j l. refl; above = λ j l. refl }
+    record { made = ap (λ (d : ℕ). record { isa = bufferIn w k .isa; slots = bufferIn w k .slots; delay = d; error = bufferIn w k .error }) z; below = λ j l. refl; above = λ j l. refl }
 
 pub none-arrives : (b : Buffer) (ms : ℕ) → b .delay ≡ 0 → false ≡ arrives b (later ms b)
 none-arrives b ms e = rw e

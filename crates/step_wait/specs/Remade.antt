@@ -8,7 +8,7 @@ use Rattle.meaning.specs.declared.Buffer.{Buffer}
 use Rattle.meaning.specs.State.{visible}
 use Rattle.layout.specs.StateWords.{bufferIn}
 
--- buffer k is b now, and no word but its own ten has changed
+-- buffer k is b now, and no word but its own eleven has changed
 pub record Remade (w w′ : List ℕ) (k : ℕ) (b : Buffer) : Type 0 where
   pub made : bufferIn w′ k ≡ b
   pub below : (j : ℕ) → j < 11 * k → getD w′ j 0 ≡ getD w j 0

@@ -1,4 +1,4 @@
-// A wait: how long, and what it makes of a state, in place on the state's eighty words.
+// A wait: how long, and what it makes of a state, in place on the state's 88 words.
 ghost use mathlib.Core.Path.{_≡_};
 ghost use mathlib.Core.List.{[]};
 ghost use Prim.Native.Nat.{ℕ, _+_, _≤_, _<_};
