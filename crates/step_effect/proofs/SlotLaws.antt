@@ -4,6 +4,7 @@ use mathlib.Core.Path.{_≡_, refl, sym, ap, _∙_}
 use mathlib.Core.Bool.{true, false}
 use mathlib.Core.List.{List, [], _∷_, map}
 use native.Mathlib.Omega.{arith}
+use lib.Dec.{eqb}
 use lib.ListN.{length, getD, set, length-set}
 use lib.Seq.{getD-set-same, getD-set-other}
 use borrow.Author.Count.{below-more}
@@ -15,7 +16,7 @@ use Rattle.layout.specs.StateWords.{bufferIn}
 use Rattle.layout.proofs.RowLaws.{rows-same}
 use Rattle.read_terms.proofs.MaskBits.{rest, rest-start, rest-on, rest-off}
 use Rattle.step_wait.specs.Remade.{Remade}
-use Rattle.step_wait.proofs.DelayLaws.{delay-set}
+use Rattle.step_wait.proofs.DelayLaws.{chunk-kept}
 use Rattle.step_effect.specs.Deeds.{chunkIn, modified}
 
 -- no word but the eight slots of buffer k has changed
@@ -35,13 +36,36 @@ only-more {w} {w′} {k} o b v h =
       after = λ j l. getD-set-other w′ (11 * k + 1 + b) j v 0 (λ e. omega arith) ∙ o .after j l;
     }
 
--- the delay last: the type is as it was, the slots are xs
-pub only-end : {w w′ : List ℕ} {k : ℕ} → OnlySlots w w′ k → (d : ℕ) (xs : List ℕ) → 11 * k + 11 ≤ length w → bufferIn w′ k .slots ≡ xs
-    → Remade w (set w′ (11 * k + 9) d) k (record { isa = bufferIn w k .isa; slots = xs; delay = d })
-only-end {w} {w′} {k} o d xs h e =
-    let m : Remade w′ (set w′ (11 * k + 9) d) k (record { isa = bufferIn w′ k .isa; slots = bufferIn w′ k .slots; delay = d }) = delay-set w′ k d (omega (arith, o .size)) in
+-- ---- the words after the slots
+
+-- another delay and another flag, and the chunk as it was
+ends-set : (w : List ℕ) (k d e : ℕ) → 11 * k + 11 ≤ length w
+    → Remade w (set (set w (11 * k + 9) d) (11 * k + 10) e) k (record { isa = bufferIn w k .isa; slots = bufferIn w k .slots; delay = d; error = eqb e 1 })
+ends-set w k d e h =
     record {
-      made = m .made ∙ rw (o .before (11 * k) (omega arith), e);
+      made =
+          chunk-kept w (set u (11 * k + 10) e) k (λ j l. other (11 * k + j) (λ z. omega arith) (λ z. omega arith))
+          ∙ rw (getD-set-other u (11 * k + 10) (11 * k + 9) e 0 (λ z. omega arith), getD-set-same w (11 * k + 9) d 0 (omega arith), flag);
+      below = λ j l. other j (λ z. omega arith) (λ z. omega arith);
+      above = λ j l. other j (λ z. omega arith) (λ z. omega arith);
+    }
+  where
+    u : List ℕ
+    u = set w (11 * k + 9) d
+
+    flag : getD (set u (11 * k + 10) e) (11 * k + 10) 0 ≡ e
+    flag = getD-set-same u (11 * k + 10) e 0 (omega (arith, length-set w (11 * k + 9) d))
+
+    other : (j : ℕ) → (j ≡ 11 * k + 9 → ⊥) → (j ≡ 11 * k + 10 → ⊥) → getD (set u (11 * k + 10) e) j 0 ≡ getD w j 0
+    other j n m = getD-set-other u (11 * k + 10) j e 0 m ∙ getD-set-other w (11 * k + 9) j d 0 n
+
+-- the delay and the flag last: the type is as it was, the slots are xs
+pub only-end : {w w′ : List ℕ} {k : ℕ} → OnlySlots w w′ k → (d e : ℕ) (xs : List ℕ) → 11 * k + 11 ≤ length w → bufferIn w′ k .slots ≡ xs
+    → Remade w (set (set w′ (11 * k + 9) d) (11 * k + 10) e) k (record { isa = bufferIn w k .isa; slots = xs; delay = d; error = eqb e 1 })
+only-end {w} {w′} {k} o d e xs h q =
+    let m = ends-set w′ k d e (omega (arith, o .size)) in
+    record {
+      made = m .made ∙ rw (o .before (11 * k) (omega arith), q);
       below = λ j l. m .below j l ∙ o .before j (omega arith);
       above = λ j l. m .above j l ∙ o .after j (omega arith);
     }
@@ -56,15 +80,15 @@ pub copied-more : (w : List ℕ) (k : ℕ) (from : List ℕ) (at b : ℕ) → 11
 copied-more w k from at b h g =
     below-more _ _ (λ j l. getD-set-other w (11 * k + 1 + b) (11 * k + 1 + j) (getD from (at + b) 0) 0 (λ e. omega arith) ∙ g j l) (getD-set-same w (11 * k + 1 + b) (getD from (at + b) 0) 0 h)
 
--- the type and the delay last
-pub copied-end : {w w′ : List ℕ} {k : ℕ} → OnlySlots w w′ k → (isa : ℕ) (from : List ℕ) (at delay b : ℕ) → 11 * k + 11 ≤ length w → 8 ≤ b → Copied w′ k from at b
-    → Remade w (set (set w′ (11 * k) isa) (11 * k + 9) delay) k (chunkIn isa from at delay)
-copied-end {w} {w′} {k} o isa from at delay b h l g =
+-- the type, the delay and the flag last
+pub copied-end : {w w′ : List ℕ} {k : ℕ} → OnlySlots w w′ k → (isa : ℕ) (from : List ℕ) (at delay flag b : ℕ) → 11 * k + 11 ≤ length w → 8 ≤ b → Copied w′ k from at b
+    → Remade w (set (set (set w′ (11 * k) isa) (11 * k + 9) delay) (11 * k + 10) flag) k (chunkIn isa from at delay flag)
+copied-end {w} {w′} {k} o isa from at delay flag b h l g =
     record {
       made =
           m .made
           ∙ rw (getD-set-same w′ (11 * k) isa 0 (omega (arith, o .size)))
-          (ap (λ (xs : List ℕ). record { isa = isa; slots = xs; delay = delay })
+          (ap (λ (xs : List ℕ). record { isa = isa; slots = xs; delay = delay; error = eqb flag 1 })
           (rows-same (λ j. getD u (11 * k + 1 + j) 0) (λ j. getD from (at + j) 0) 0 8 (λ j x y. other (11 * k + 1 + j) (λ e. omega arith) ∙ g j (omega arith))));
       below = λ j x. m .below j x ∙ other j (λ e. omega arith) ∙ o .before j (omega arith);
       above = λ j x. m .above j x ∙ other j (λ e. omega arith) ∙ o .after j (omega arith);
@@ -76,8 +100,8 @@ copied-end {w} {w′} {k} o isa from at delay b h l g =
     other : (j : ℕ) → (j ≡ 11 * k → ⊥) → getD u j 0 ≡ getD w′ j 0
     other j n = getD-set-other w′ (11 * k) j isa 0 n
 
-    m : Remade u (set u (11 * k + 9) delay) k (record { isa = getD u (11 * k) 0; slots = bufferIn u k .slots; delay = delay })
-    m = delay-set u k delay (omega (arith, o .size, length-set w′ (11 * k) isa))
+    m : Remade u (set (set u (11 * k + 9) delay) (11 * k + 10) flag) k (record { isa = getD u (11 * k) 0; slots = bufferIn u k .slots; delay = delay; error = eqb flag 1 })
+    m = ends-set u k delay flag (omega (arith, o .size, length-set w′ (11 * k) isa))
 
 -- ---- slots that a mask names
 
@@ -131,8 +155,8 @@ module _ {words : List ℕ} {q : ℕ} {nine w w′ : List ℕ} {k b : ℕ} (p : 
           slots = ap (λ (bs : List ℕ). put (map (namedIn words q) bs) nine (bufferIn w′ k .slots)) (sym (rest-off (getD words (q + 2) 0) b h e)) ∙ p .slots;
         }
 
-  pub putting-end : rest (getD words (q + 2) 0) b ≡ [] → 11 * k + 11 ≤ length w → Remade w (set w′ (11 * k + 9) 0) k (modified (maskedIn words q) nine (bufferIn w k))
+  pub putting-end : rest (getD words (q + 2) 0) b ≡ [] → 11 * k + 11 ≤ length w → Remade w (set (set w′ (11 * k + 9) 0) (11 * k + 10) 0) k (modified (maskedIn words q) nine (bufferIn w k))
   unfolding putFrom put
   putting-end h l =
-      only-end (p .only) 0 (put (maskedIn words q) nine (bufferIn w k .slots)) l
+      only-end (p .only) 0 0 (put (maskedIn words q) nine (bufferIn w k .slots)) l
       (ap (λ (bs : List ℕ). put (map (namedIn words q) bs) nine (bufferIn w′ k .slots)) (sym h) ∙ p .slots)

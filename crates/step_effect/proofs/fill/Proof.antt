@@ -1,4 +1,4 @@
--- `step_effect::fill` meets its contract: the slots one by one, and then the type and the delay.
+-- `step_effect::fill` meets its contract: the slots one by one, and then the type, the delay and the flag.
 use borrow.Author.Needs.{needs}
 use Prim.Native.Nat.{_*_, _-_, _≤_}
 use native.Mathlib.Omega.{arith}
@@ -8,10 +8,10 @@ use Rattle.step_effect.proofs.fill.Statement.{statement}
 use Rattle.step_effect.proofs.fill.Tie as tie
 
 abbrev Inv-loop : tie.InvT-loop
-Inv-loop state₀ k isa from at delay b₀ state b = (b ≤ 8) × OnlySlots state₀ state k × Copied state k from at b
+Inv-loop state₀ k isa from at delay flag b₀ state b = (b ≤ 8) × OnlySlots state₀ state k × Copied state k from at b
 
 abbrev μ-loop : tie.MeasureT-loop
-μ-loop state₀ k isa from at delay b₀ state b = 8 - b
+μ-loop state₀ k isa from at delay flag b₀ state b = 8 - b
 
 -- ---- the places of the code, each named once
 
@@ -84,6 +84,18 @@ mul-state-7 c = search needs
 slice-write-state-3 : tie.Need-slice-write-state-3 Inv-loop μ-loop
 slice-write-state-3 c = let a = start (c .before) .args in omega (arith, length-set (c .before .loop .state) (11 * a .k) (a .isa))
 
+mul-state-8 : tie.Need-mul-state-8 Inv-loop μ-loop
+mul-state-8 c = search needs
+
+add-state-5 : tie.Need-add-state-5 Inv-loop μ-loop
+add-state-5 c = search needs
+
+mul-state-9 : tie.Need-mul-state-9 Inv-loop μ-loop
+mul-state-9 c = search needs
+
+slice-write-state-4 : tie.Need-slice-write-state-4 Inv-loop μ-loop
+slice-write-state-4 c = simp length-set (omega arith)
+
 same-length : tie.Need-same-length Inv-loop μ-loop
 same-length c = search needs
 
@@ -91,7 +103,7 @@ returns : tie.Need-returns Inv-loop μ-loop
 returns c =
     let a = start (c .before) .args in
     let l = c .before .loop in
-    copied-end (l .inv .1) (a .isa) (a .from .now) (a .at) (a .delay) (l .b) (search needs) (c .loop-test .left) (l .inv .2)
+    copied-end (l .inv .1) (a .isa) (a .from .now) (a .at) (a .delay) (a .flag) (l .b) (search needs) (c .loop-test .left) (l .inv .2)
 
 pub fill-spec : {M : Type 1} → statement M
 fill-spec =
@@ -118,5 +130,9 @@ fill-spec =
     add-state-4
     mul-state-7
     slice-write-state-3
+    mul-state-8
+    add-state-5
+    mul-state-9
+    slice-write-state-4
     same-length
     returns)

@@ -2,7 +2,7 @@
 use borrow.Author.Needs.{needs}
 use Prim.Native.Nat.{_+_, _-_, _<_}
 use mathlib.Core.Logic.{⊎-elim}
-use lib.ListN.{getD}
+use lib.ListN.{getD, length-set}
 use native.Mathlib.Omega.{arith}
 use Rattle.read_terms.proofs.MaskWalk.{Walk, walk-start, walk-next, walk-on, walk-off, walk-end}
 use Rattle.step_effect.proofs.SlotLaws.{Putting, putting-start, putting-on, putting-off, putting-end}
@@ -96,6 +96,18 @@ mul-state-4 c = search needs
 slice-write-state-2 : tie.Need-slice-write-state-2 Inv-loop μ-loop
 slice-write-state-2 c = search needs
 
+mul-state-5 : tie.Need-mul-state-5 Inv-loop μ-loop
+mul-state-5 c = search needs
+
+add-state-4 : tie.Need-add-state-4 Inv-loop μ-loop
+add-state-4 c = search needs
+
+mul-state-6 : tie.Need-mul-state-6 Inv-loop μ-loop
+mul-state-6 c = search needs
+
+slice-write-state-3 : tie.Need-slice-write-state-3 Inv-loop μ-loop
+slice-write-state-3 c = simp length-set (omega arith)
+
 same-length : tie.Need-same-length Inv-loop μ-loop
 same-length c = search needs
 
@@ -130,5 +142,9 @@ modify-spec =
     add-state-3
     mul-state-4
     slice-write-state-2
+    mul-state-5
+    add-state-4
+    mul-state-6
+    slice-write-state-3
     same-length
     returns)

@@ -1,4 +1,4 @@
--- `step_effect::request` meets its contract, by what retrieval answers: a fact is written from its row, nothing as nil.
+-- `step_effect::request` meets its contract, by what retrieval answers: a fact is written from its row, nothing as nil with the flag set.
 use borrow.Author.Needs.{needs}
 use Prim.Native.Nat.{_+_, _*_, _≤_}
 use native.Mathlib.Omega.{arith}
