@@ -1,4 +1,4 @@
-// Firing: what a rule's actions make of a state, in place on its eighty words.
+// Firing: what a rule's actions make of a state, in place on its 88 words.
 // Every delay loses 50 ms, then each action makes its buffer anew from its type and slots, the rule's nine words and the facts alone:
 // so none sees what was made of another, nor what was left of its own delay.
 ghost use mathlib.Core.Path.{_≡_};
@@ -65,7 +65,7 @@ fn perform(state: &mut [u16], k: usize, plan: Plan, tape: &[u16], q: usize, nine
         step_effect::request(state, k, plan, tape, q, nine);
         return;
     }
-    step_effect::nil(state, k, 0);
+    step_effect::nil(state, k, 0, step_effect::CLEAR);
 }
 
 // Does the m actions from o on, each on its buffer, where `acted` tells the buffers that they are on. The other buffers stay.
