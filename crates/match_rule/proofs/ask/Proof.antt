@@ -1,5 +1,6 @@
 -- `match_rule::ask` meets its contract, by the kind of the query and the words of its buffer.
 use Prim.Native.Nat.{ℕ, _+_, _*_, _/_, _%_}
+use native.Mathlib.Omega.{arith}
 use borrow.Author.Tests.{eq-eqb, ne-eqb}
 use lib.ListN.{getD}
 use Rattle.match_rule.proofs.QueryLaws.{asks-error, asked-pending}
@@ -49,7 +50,7 @@ add-t13 : tie.Need-add-t13
 add-t13 c = search needs
 
 returns-3 : tie.Need-returns-3
-returns-3 c = let a = start (c .before) .args in asked-pending (a .query / 8) (11 * (a .query % 8)) (a .state .now) (c .before .if1 .left) (c .if3 .taken)
+returns-3 c = let a = start (c .before) .args in asked-pending (a .query / 8) (11 * (a .query % 8)) (a .state .now) (c .before .if1 .left) (λ z. omega (arith, z, c .if3 .taken))
 
 returns-4 : tie.Need-returns-4
 returns-4 c = rw (c .if4 .taken, eq-eqb (word (start (c .before .before)) 9) 0 (c .before .if3 .left))

@@ -1,5 +1,5 @@
 -- `match_rule::match_queries` meets its contract: the queries that are left give what all give, and one that does not hold shuts the rule.
-use Prim.Native.Nat.{ℕ, _+_, _-_, _/_, _%_, _≤_}
+use Prim.Native.Nat.{ℕ, _+_, _-_, _/_, _%_, _≤_, _<_}
 use mathlib.Core.Path.{_≡_, sym, ap, _∙_}
 use native.Mathlib.Omega.{arith}
 use borrow.Author.Needs.{needs}
@@ -36,6 +36,9 @@ query c = let l = turn c .before in let a = start l .args in getD (a .words .now
 -- what was found is whether it holds
 holds : (c : tie.After-ask Inv-loop μ-loop) → isHit (c .ask .result) ≡ answered (askOf (query c / 8)) (start (turn c .before) .args .state .now) (query c % 8)
 holds c = ap isHit (c .ask .ensures) ∙ asked-hit (askOf (query c / 8)) (start (turn c .before) .args .state .now) (query c % 8)
+
+more : (c : tie.After-ask Inv-loop μ-loop) → let l = turn c .before in let a = start l .args in l .loop .i < getD (a .words .now) (a .o + 88) 0
+more c = omega (arith, turn c .loop-test .taken)
 
 -- ---- what is asked
 
@@ -89,7 +92,7 @@ loop-again c =
     let a = start l .args in
     let yes = sym (holds at) ∙ ap isHit (c .enum-told .given .1) in (
       search needs,
-      λ clock. queries-turn (a .words .now) (a .state .now) clock (a .o + 89) (getD (a .words .now) (a .o + 88) 0) (l .loop .i) (turn at .loop-test .taken) yes ∙ l .loop .inv .1 clock,
+      λ clock. queries-turn (a .words .now) (a .state .now) clock (a .o + 89) (getD (a .words .now) (a .o + 88) 0) (l .loop .i) (more at) yes ∙ l .loop .inv .1 clock,
     )
 
 returns : tie.Need-returns Inv-loop μ-loop
@@ -97,10 +100,9 @@ returns c =
     let at = c .before in
     let l = turn at .before in
     let a = start l .args in
-    let more = turn at .loop-test .taken in
     let missed = not-hit (at .ask .result) (c .match .keys2) in (
-      λ clock. missed ∙ sym (refused (a .words .now) (a .o) (l .loop .i) more (a .state .now) clock (sym (holds at) ∙ missed)),
-      λ n. rw (at .ask .ensures) (because-asked (a .words .now) (a .state .now) (a .o) (l .loop .i) n more),
+      λ clock. missed ∙ sym (refused (a .words .now) (a .o) (l .loop .i) (more at) (a .state .now) clock (sym (holds at) ∙ missed)),
+      λ n. rw (at .ask .ensures) (because-asked (a .words .now) (a .state .now) (a .o) (l .loop .i) n (more at)),
     )
 
 returns-2 : tie.Need-returns-2 Inv-loop μ-loop
