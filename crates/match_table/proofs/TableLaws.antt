@@ -1,20 +1,19 @@
 -- The loops over the rules: the entries below k are done, and what is left of the table gives the rest.
-use Prim.Native.Nat.{ℕ, zero, suc, _+_, _-_, _*_, _≤_, _<_}
-use mathlib.Core.Path.{_≡_, refl, sym, ap, ap₂, _∙_}
-use mathlib.Core.Bool.{Bool, true, false}
-use mathlib.Core.List.{List, [], _∷_, _++_, append-nil, append-assoc}
+use Prim.Native.Nat.{ℕ, _+_, _-_, _*_, _≤_, _<_}
+use mathlib.Core.Path.{_≡_, sym, ap, ap₂, _∙_}
+use mathlib.Core.Bool.{true, false}
+use mathlib.Core.List.{List, _∷_, _++_, append-nil, append-assoc}
 use native.Mathlib.Omega.{arith}
 use lib.Bits.{bitAnd}
 use lib.ListN.{length, getD, take, drop, length-append}
 use lib.Seq.{length-take-le, take-at, drop-at, drop-drop, take-add, take-all}
 use Rattle.meaning.specs.declared.State.{State}
-use Rattle.meaning.specs.Base.{if_then_else_, anyOf, keep, admit, bit, upFrom}
-use Rattle.meaning.specs.Model.{Rule, Test}
+use Rattle.meaning.specs.Model.{Rule}
 use Rattle.meaning.specs.Match.{entryOf, freshTable}
 use Rattle.meaning.specs.Refresh.{testsMarked, refresh, refreshCount}
 use Rattle.laws.specs.MatchLaws.{entry-length}
-use Rattle.laws.specs.RefreshLaws.{LowBuffers, meets, misses}
-use Rattle.layout.specs.Rows.{rowsIn, testIn, testsIn, ruleIn, rulesIn, Laid}
+use Rattle.laws.specs.RefreshLaws.{meets, misses}
+use Rattle.layout.specs.Rows.{rowsIn, ruleIn, Laid}
 use Rattle.layout.proofs.RowLaws.{rows-left}
 use Rattle.match_table.specs.Entries.{withEntry, doing}
 
@@ -125,19 +124,11 @@ module _ (rule : ℕ → Rule) (mark n : ℕ) where
     unfolding counting refreshCount
     counting-other m = rw (this, m)
 
--- ---- the mark against the mask of tested buffers
-
-low-tests : (w : List ℕ) (o i n : ℕ) → LowBuffers (rowsIn (λ k. testIn w (o + 11 * k)) i n)
-unfolding rowsIn
-low-tests w o i zero = tt
-low-tests w o i (suc n) = (omega arith, low-tests w o (i + 1) n)
+-- ---- the mark against the mask of the buffers that a rule tests or queries
 
 module _ (heads words : List ℕ) (n k mark : ℕ) (laid : Laid heads words n) (h : k < n) where
-  tests-low : LowBuffers (ruleIn heads words k .tests)
-  tests-low = low-tests words (185 * k) 0 (getD heads (4 * k) 0)
-
   pub mark-meets : (bitAnd (getD heads (4 * k + 3) 0) mark ≡ 0 → ⊥) → testsMarked mark (ruleIn heads words k) ≡ true
-  mark-meets z = meets mark (ruleIn heads words k .tests) tests-low (λ e. z (ap (λ (x : ℕ). bitAnd x mark) (laid .masks k h) ∙ e))
+  mark-meets z = meets mark (getD heads (4 * k + 3) 0) (ruleIn heads words k) (laid .masks k h) z
 
   pub mark-misses : bitAnd (getD heads (4 * k + 3) 0) mark ≡ 0 → testsMarked mark (ruleIn heads words k) ≡ false
-  mark-misses e = misses mark (ruleIn heads words k .tests) tests-low (ap (λ (x : ℕ). bitAnd x mark) (sym (laid .masks k h)) ∙ e)
+  mark-misses e = misses mark (getD heads (4 * k + 3) 0) (ruleIn heads words k) (laid .masks k h) e

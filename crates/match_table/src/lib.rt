@@ -34,7 +34,7 @@ pub fn fresh(table: &mut [u16], heads: &[u16], words: &[u16], n: usize, state: &
     }
 }
 
-// The entries of the rules that test a marked buffer, made afresh, and how many these are; no other entry is touched.
+// The entries of the rules that test or query a marked buffer, made afresh, and how many these are; no other entry is touched.
 pub fn refresh(
     table: &mut [u16],
     heads: &[u16],

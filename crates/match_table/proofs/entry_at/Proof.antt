@@ -7,6 +7,7 @@ use lib.ListN.{length, getD, take, drop}
 use Rattle.meaning.specs.Match.{entryOf}
 use Rattle.layout.specs.Rows.{ruleIn}
 use Rattle.layout.specs.StateWords.{stateIn}
+use Rattle.match_rule.proofs.MadeLaws.{rule-stands}
 use lib.Seq.{drop-drop, length-take-le}
 use lib.ListN.{length-drop}
 use borrow.Author.Needs.{needs}
@@ -65,7 +66,9 @@ entry-into-requires c κs =
     let fits : length (a .table .now) ≡ 9 * a .n = s .pre .2 in
     let below : a .k < a .n = s .pre .1 in (
       length-take-le (9 * a .k + 9 - 9 * a .k) (drop (9 * a .k) (a .table .now)) (omega (arith, length-drop (9 * a .k) (a .table .now))) ∙ nine,
-      omega (arith, laid .tests-few (a .k) below, laid .words-room),
+      laid .tests-few (a .k) below,
+      omega (arith, laid .words-room),
+      laid .queries-few (a .k) below,
       search needs,
     )
 
@@ -77,7 +80,7 @@ returns c clock =
     let entered = c .before .before in
     let a = begun (entered .before) .args in
     let nine : 9 * a .k + 9 - 9 * a .k ≡ 9 = omega arith in
-    ap₂ (λ (ys zs : List ℕ). take (9 * a .k) (a .table .now) ++ (ys ++ zs)) (entered .entry-into .ensures (ruleIn (a .heads .now) (a .words .now) (a .k)) clock refl)
+    ap₂ (λ (ys zs : List ℕ). take (9 * a .k) (a .table .now) ++ (ys ++ zs)) (entered .entry-into .ensures (ruleIn (a .heads .now) (a .words .now) (a .k)) clock (rule-stands (a .heads .now) (a .words .now) (a .k)))
     (ap (λ (j : ℕ). drop j (drop (9 * a .k) (a .table .now))) nine ∙ drop-drop 9 (9 * a .k) (a .table .now))
 
 pub entry-at-spec : {M : Type 1} → statement M

@@ -1,4 +1,4 @@
--- `match_table::refresh` meets its contract: the entries below k are done, and counted where their rule tests a marked buffer.
+-- `match_table::refresh` meets its contract: the entries below k are done, and counted where their rule tests or queries a marked buffer.
 use Prim.Native.Nat.{ℕ, _≤_, _<_, _-_, _+_, _*_}
 use mathlib.Core.Path.{_≡_, refl, sym, ap, _∙_}
 use mathlib.Core.List.{List, _++_}
