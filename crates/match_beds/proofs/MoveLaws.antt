@@ -1,4 +1,4 @@
--- What a rule that lies down leaves of the sets, and the rules of a word that test a marked buffer.
+-- What a rule that lies down leaves of the sets, and the rules of a word that are testers of a marked buffer.
 use Prim.Native.Nat.{ℕ, _+_, _*_, _/_, _%_, _≤_, _<_}
 use mathlib.Core.Path.{_≡_, refl, sym, ap, _∙_}
 use mathlib.Core.Bool.{Bool, true, false, _&&_, _||_, not, or-true}
@@ -74,7 +74,7 @@ module _ (s s₁ s₂ s₃ : List ℕ) (k place value : ℕ) (few : k < 256) (lo
             remove-word s₂ s₃ 0 k risen (40 + place / 11) (place % 11) (λ z. omega arith) ∙ here;
       }
 
--- ---- the rules of a word that test a marked buffer
+-- ---- the rules of a word that are testers of a marked buffer
 
 pub by-or : {C : Type 0} (a b : Bool) → (a || b) ≡ true → (a ≡ true → C) → (b ≡ true → C) → C
 by-or true b e f g = f refl

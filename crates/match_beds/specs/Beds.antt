@@ -1,4 +1,4 @@
--- The words of 64 bits in which a run keeps sets of its rules: which are awake, which match, which test a buffer,
+-- The words of 64 bits in which a run keeps sets of its rules: which are awake, which match, which test or query a buffer,
 -- and the beds in which rules sleep that were given up at a word of the state.
 use Prim.Native.Nat.{ℕ, _+_, _*_, _/_, _%_, _≤_, _<_}
 use mathlib.Core.Path.{_≡_}
@@ -14,7 +14,7 @@ use Rattle.match_sets.specs.Sets.{has, member}
 abbrev pub isAwake : List ℕ → ℕ → Bool
 isAwake sets k = has sets (k / 64) (k % 64)
 
--- rule k tests buffer b
+-- rule k tests or queries buffer b
 abbrev pub tests : List ℕ → ℕ → ℕ → Bool
 tests sets b k = has sets (8 + 8 * (k / 64) + b) (k % 64)
 
@@ -26,7 +26,7 @@ isUsed sets place = has sets (40 + place / 11) (place % 11)
 abbrev pub inBed : List ℕ → ℕ → ℕ → Bool
 inBed sets h k = has sets (52 + 256 * (k / 64) + h) (k % 64)
 
--- the entry of rule k is known to be fresh, since a step of this call marked a buffer that it tests
+-- the entry of rule k is known to be fresh, since a step of this call marked a buffer that it tests or queries
 abbrev pub isSure : List ℕ → ℕ → Bool
 isSure sets k = member sets 48 k
 

@@ -8,7 +8,7 @@ use Rattle.meaning.specs.Base.{bit}
 use Rattle.match_sets.specs.Sets.{has}
 use Rattle.match_beds.specs.Beds.{isAwake, isUsed, tests, inBed, bedOf}
 
--- a marked buffer, of the first b, that rule i of word w tests
+-- a marked buffer, of the first b, that rule i of word w tests or queries
 pub record Touch (sets : List ℕ) (w mark b i : ℕ) : Type 0 where
   pub buffer : ℕ
   pub below : buffer < b
@@ -16,7 +16,7 @@ pub record Touch (sets : List ℕ) (w mark b i : ℕ) : Type 0 where
   pub marked : bit mark buffer ≡ true
   pub tested : has sets (8 + 8 * w + buffer) i ≡ true
 
--- the bits of r are those of the rules that test a marked buffer, of the first b
+-- the bits of r are those of the testers of a marked buffer, of the first b
 pub record Touches (sets : List ℕ) (w mark b r : ℕ) : Type 0 where
   pub some : (i : ℕ) → bit r i ≡ true → Touch sets w mark b i
   pub all : (i : ℕ) → Touch sets w mark b i → bit r i ≡ true

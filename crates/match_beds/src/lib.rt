@@ -1,4 +1,4 @@
-// The sets of rules that a run keeps, in words of 64 bits: who is awake, who tests which buffer, and the beds in which rules sleep.
+// The sets of rules that a run keeps, in words of 64 bits: who is awake, the testers of each buffer, which test or query it, and the beds in which rules sleep.
 // A rule that fails at a constant sleeps in a bed for that word of the state and that value,
 // and is awake again once that word's buffer is marked, and visible, and the word has a value of the same bed.
 ghost use mathlib.Core.Path.{_≡_};
@@ -79,7 +79,7 @@ pub fn wake_all(sets: &mut [u64], n: usize, state: &[u16], mark: u16)
     }
 }
 
-// Of rules 64 w to 64 w + 63, those that test a marked buffer.
+// Of rules 64 w to 64 w + 63, the testers of a marked buffer.
 pub fn touched(sets: &[u64], w: usize, mark: u16) -> u64
     requires { ⌜ (w < 4) × (308 ≤ length (now sets)) ⌝ }
     ensures { λ r. ⌜ Touches (now (sets .entry)) w mark 8 r ⌝ }
@@ -116,7 +116,7 @@ pub fn lay_awake(sets: &mut [u64])
     }
 }
 
-// Rule k tests the buffers of a mask.
+// Rule k joins the testers of the buffers of a mask.
 fn lay_tester(sets: &mut [u64], k: usize, mask: u16)
     requires { ⌜ (k < 256) × (308 ≤ length (now sets)) ⌝ }
     ensures { λ _. ⌜ Joins k mask 8 (now (sets .entry)) (now (sets .exit)) ⌝ }

@@ -17,7 +17,7 @@ Inv-loop sets₀ n state b rest₀ sets rest = Walk (getD sets₀ (40 + b) 0 % 2
 abbrev μ-loop : tie.MeasureT-loop
 μ-loop sets₀ n state b rest₀ sets rest = rest
 
--- the words of a buffer are ten
+-- the words of a buffer are eleven
 low : (c : tie.After-lowest Inv-loop μ-loop) → c .lowest .result < 11
 low c =
     let args = c .before .before .before .before .before .before .before .before .args in
