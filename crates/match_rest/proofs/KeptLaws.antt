@@ -37,7 +37,7 @@ module _ (w w′ : List ℕ) (clock clock′ mark : ℕ) (leaves : Leaves (state
                   rw q at (ap (λ (b : Buffer). b .isa) (x .is))
               | no z ↦
                   let i : ℕ = p % 11 - 1 in
-                  let low : p % 11 - 1 < 8 = omega (arith, z, d) in
+                  let low : p % 11 - 1 < 8 = omega (arith, z) in
                   let q : 11 * (p / 11) + 1 + (p % 11 - 1) ≡ p = omega (arith, z) in
                   rw q at (sym (slot-of w′ (p / 11) (p % 11 - 1) low) ∙ ap (λ (b : Buffer). getD (b .slots) (p % 11 - 1) 0) (x .is) ∙ slot-of w (p / 11) (p % 11 - 1) low)
             ];
@@ -46,6 +46,9 @@ module _ (w w′ : List ℕ) (clock clock′ mark : ℕ) (leaves : Leaves (state
             let was : bufferIn w (p / 11) .delay ≡ 0 → ⊥ = rw q d in
             let is : bufferIn w′ (p / 11) .delay ≡ 0 = rw q gone in
             eqb-false (bufferIn w′ (p / 11) .delay) 0 (waits p h e .pending (ne-eqb (bufferIn w (p / 11) .delay) 0 was)) is;
+        flags = λ p h e ten.
+            let q : 11 * (p / 11) + 10 ≡ p = omega arith in
+            rw q at (ap (λ (b : Buffer). b .error) (waits p h e .is));
         marks = λ clock clock′ b off. waits-alike (bufferOf (stateIn w clock) b) (bufferOf (stateIn w′ clock′) b) (leaves b off);
       }
 

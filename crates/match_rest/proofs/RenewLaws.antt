@@ -1,24 +1,27 @@
--- The refresh of a run: who still sleeps after waking does not match, and who is awake and tests a marked buffer is matched again.
-use Prim.Native.Nat.{ℕ, _+_, _-_, _*_, _/_, _%_, _^_, _≤_, _<_}
-use mathlib.Core.Path.{_≡_, refl, sym, ap, ap₂, _∙_}
+-- The refresh of a run: who still sleeps after waking does not match, and who is awake and tests or queries a marked buffer is matched again.
+use Prim.Native.Nat.{ℕ, zero, suc, _+_, _-_, _*_, _/_, _%_, _^_, _≤_, _<_}
+use mathlib.Core.Path.{_≡_, refl, sym, ap, _∙_}
 use mathlib.Core.Logic.{_⊎_, inl, inr, ⊎-elim}
 use mathlib.Core.Bool.{Bool, true, false, _&&_, _||_}
-use mathlib.Core.List.{List, map}
+use mathlib.Core.List.{List}
 use native.Mathlib.Omega.{arith}
 use native.Mathlib.Decide.{ℕ-discrete}
 use lib.Bits.{bitAnd, bitOr}
-use lib.ListN.{length, getD, set, List·getD-eq-default}
+use lib.Dec.{eqb}
+use lib.ListN.{length, getD, set}
 use lib.Seq.{getD-set-same, getD-set-other}
-use Rattle.meaning.specs.Base.{bit, if_then_else_, weigh, upFrom}
+use borrow.Author.Tests.{eqb-true, eq-eqb}
+use Rattle.meaning.specs.Base.{bit, if_then_else_, anyOf}
+use Rattle.meaning.specs.Model.{Rule}
 use Rattle.meaning.specs.Image.{isTested}
 use Rattle.meaning.specs.Match.{entryOf}
 use Rattle.meaning.specs.Refresh.{testsMarked}
-use Rattle.laws.specs.BaseLaws.{no-true, and-left, and-right, by-lt, bit-zero, bit-and, bit-weigh, Place, some-place}
-use Rattle.layout.specs.Rows.{ruleIn, Laid}
+use Rattle.laws.specs.BaseLaws.{no-true, and-left, and-right, by-lt, bit-and}
+use Rattle.laws.specs.RefreshLaws.{isQueried, looksAt, sees-marked, Seen, marked-seen}
+use Rattle.layout.specs.Rows.{rowsIn, testIn, queryBy, ruleIn, Laid}
 use Rattle.layout.specs.StateWords.{stateIn}
 use Rattle.match_sets.specs.Sets.{has}
 use Rattle.match_order.specs.Order.{Ranked, Hitting, placeOf}
-use Rattle.match_table.proofs.TableLaws.{mark-meets, mark-misses}
 use Rattle.match_beds.specs.Beds.{isAwake, inBed, bedOf, tests, Testing, isSure}
 use Rattle.match_rest.specs.Rest.{entryAt, Asleep, Sleeping, Lying, Sure, Kept}
 use Rattle.match_rule.specs.Shut.{delayOf}
@@ -42,13 +45,19 @@ by-test false f g = g refl
 module _ (heads words order : List ℕ) (n mark : ℕ) (before state table sets sets′ : List ℕ) (kept : Kept before state mark) (few : n ≤ 256)
     (woke : Woke n (λ h k. CalledBy state sets mark 8 h) sets sets′) where
   -- a word that differed while its buffer was visible differs still if the buffer is not marked
-  unmarked-differs : (p v : ℕ) → p < 88 → bit mark (p / 11) ≡ false → (getD before (delayOf p) 0 ≡ 0 → getD before p 0 ≡ v → ⊥) → getD state (delayOf p) 0 ≡ 0 → getD state p 0 ≡ v → ⊥
-  unmarked-differs p v low off differs shown e =
+  unmarked-differs : (p v : ℕ) → p < 88 → bit mark (p / 11) ≡ false → (p % 11 ≡ 10 → v ≡ 1) → (getD before (delayOf p) 0 ≡ 0 → getD before p 0 ≡ v → ⊥)
+      → getD state (delayOf p) 0 ≡ 0 → getD state p 0 ≡ v → ⊥
+  unmarked-differs p v low off flag differs shown e =
       let b : delayOf p / 11 ≡ p / 11 = omega arith in
       elim (ℕ-discrete (getD before (delayOf p) 0) 0) [
         | yes was ↦ elim (ℕ-discrete (p % 11) 9) [
           | yes d ↦ let q : delayOf p ≡ p = omega arith in differs was ((rw q at was) ∙ sym (rw q at shown) ∙ e)
-          | no d ↦ differs was (sym (kept .words p low off d) ∙ e)
+          | no d ↦ elim (ℕ-discrete (p % 11) 10) [
+            | yes f ↦
+                let set : eqb (getD before p 0) 1 ≡ true = sym (kept .flags p low off f) ∙ eq-eqb (getD state p 0) 1 (e ∙ flag f) in
+                differs was (eqb-true (getD before p 0) 1 set ∙ sym (flag f))
+            | no f ↦ differs was (sym (kept .words p low off (omega (arith, d, f))) ∙ e)
+          ]
         ]
         | no was ↦ kept .delays (delayOf p) (omega arith) (rw b off) (omega arith) was shown
       ]
@@ -75,7 +84,7 @@ module _ (heads words order : List ℕ) (n mark : ℕ) (before state table sets 
         };
       } in
       no-true (sym (woke .wakes (bedOf (a .place) (a .value)) k (omega arith) h called (a .bed)) ∙ no-one))
-      (λ m. unmarked-differs (a .place) (a .value) (a .low) m (a .differs) shown e)
+      (λ m. unmarked-differs (a .place) (a .value) (a .low) m (a .flag) (a .differs) shown e)
 
   asleep-still : (k : ℕ) → k < n → isAwake sets′ k ≡ false → Asleep heads words before table sets k → Asleep heads words state table sets′ k
   asleep-still k h no-one a =
@@ -113,31 +122,39 @@ module _ (heads words order : List ℕ) (n mark : ℕ) (before state table sets 
         sleeping = sleeping-still (x .sleeping);
       }
 
--- ---- the testers of a marked buffer are the rules that test one
+-- ---- the testers of a marked buffer are the rules that test or query one
+
+-- some row is on buffer b, which is then one of eight
+rows-low : {A : Type 0} (buffer : A → ℕ) (row : ℕ → A) → ((k : ℕ) → buffer (row k) < 8) → (i n b : ℕ) → anyOf (λ x. eqb (buffer x) b) (rowsIn row i n) ≡ true → b < 8
+unfolding rowsIn
+rows-low buffer row low i zero b e = absurd (no-true (sym e))
+rows-low buffer row low i (suc n) b e =
+    by-or (eqb (buffer (row i)) b) (anyOf (λ x. eqb (buffer x) b) (rowsIn row (i + 1) n)) e
+    (λ is. omega (arith, low i, eqb-true (buffer (row i)) b is))
+    (λ later. rows-low buffer row low (i + 1) n b later)
 
 module _ (heads words : List ℕ) (n : ℕ) (sets : List ℕ) (laid : Laid heads words n) (testing : Testing heads n sets) (w mark : ℕ) (k : ℕ) (h : k < n) (here : k / 64 ≡ w) where
-  -- a mask has no bit from 8 on
-  mask-low : (b : ℕ) → bit (getD heads (4 * k + 3) 0) b ≡ true → b < 8
-  mask-low b e =
-      let flags : List Bool = map (isTested (ruleIn heads words k .tests)) (upFrom 0 8) in
-      let bits : bit (weigh flags) b ≡ true = ap (λ (x : ℕ). bit x b) (sym (laid .masks k h)) ∙ e in
-      by-lt b 8 (λ l. l) (λ l. absurd (no-true (sym bits ∙ bit-weigh flags b ∙ List·getD-eq-default flags false l)))
+  abbrev rule : Rule
+  rule = ruleIn heads words k
+
+  -- a rule looks at no buffer from 8 on
+  looks-low : (b : ℕ) → looksAt (ruleIn heads words k) b ≡ true → b < 8
+  looks-low b e =
+      by-or (isTested (rule .tests) b) (isQueried (rule .queries) b) e
+      (λ t. rows-low (λ t. t .buffer) (λ i. testIn words (185 * k + 11 * i)) (λ i. omega arith) 0 (getD heads (4 * k) 0) b t)
+      (λ q. rows-low (λ q. q .buffer) (λ i. queryBy (getD words (185 * k + 89 + i) 0)) (λ i. omega arith) 0 (getD words (185 * k + 88) 0) b q)
 
   pub touch-marked : Touch sets w mark 8 (k % 64) → testsMarked mark (ruleIn heads words k) ≡ true
   touch-marked t =
-      let tested : bit (getD heads (4 * k + 3) 0) (t .buffer) ≡ true = sym (testing .all (t .buffer) k (t .low) h) ∙ (rw here (t .tested)) in
-      mark-meets heads words n k mark laid h
-      (λ z. no-true (sym (bit-and (getD heads (4 * k + 3) 0) mark (t .buffer) ∙ ap₂ (λ (a b : Bool). a && b) tested (t .marked)) ∙ ap (λ (x : ℕ). bit x (t .buffer)) z ∙ bit-zero (t .buffer)))
+      let set : tests sets (t .buffer) k ≡ true = rw here (t .tested) in
+      sees-marked mark (t .buffer) (ruleIn heads words k) (sym (laid .masks k h (t .buffer)) ∙ sym (testing .all (t .buffer) k (t .low) h) ∙ set) (t .marked)
 
   pub marked-touch : testsMarked mark (ruleIn heads words k) ≡ true → Touch sets w mark 8 (k % 64)
   marked-touch m =
-      let both : ℕ = bitAnd (getD heads (4 * k + 3) 0) mark in
-      let p : Place (bitAnd (getD heads (4 * k + 3) 0) mark) = some-place both both (omega arith) (λ z. no-true (sym m ∙ mark-misses heads words n k mark laid h z)) in
-      let two : (bit (getD heads (4 * k + 3) 0) (p .at) && bit mark (p .at)) ≡ true = sym (bit-and (getD heads (4 * k + 3) 0) mark (p .at)) ∙ p .is-set in
-      let tested : bit (getD heads (4 * k + 3) 0) (p .at) ≡ true = and-left (bit (getD heads (4 * k + 3) 0) (p .at)) (bit mark (p .at)) two in
-      let low : p .at < 8 = mask-low (p .at) tested in
-      let set : tests sets (p .at) k ≡ true = testing .all (p .at) k low h ∙ tested in
-      record { buffer = p .at; below = low; low = low; marked = and-right (bit (getD heads (4 * k + 3) 0) (p .at)) (bit mark (p .at)) two; tested = rw here at set }
+      let s : Seen mark (ruleIn heads words k) = marked-seen mark (ruleIn heads words k) m in
+      let low : s .at < 8 = looks-low (s .at) (s .looks) in
+      let set : tests sets (s .at) k ≡ true = testing .all (s .at) k low h ∙ laid .masks k h (s .at) ∙ s .looks in
+      record { buffer = s .at; below = low; low = low; marked = s .is-marked; tested = rw here at set }
 
 -- ---- the rules of a word
 
@@ -161,7 +178,7 @@ module _ (heads words order : List ℕ) (n : ℕ) (state : List ℕ) (mark w r :
   number : (i : ℕ) → i < 64 → ((64 * w + i) / 64 ≡ w) × ((64 * w + i) % 64 ≡ i)
   number i l = (omega arith, omega arith)
 
-  -- who is in the set tests a marked buffer, so it is one of the rules
+  -- who is in the set tests or queries a marked buffer, so it is one of the rules
   one-of : (i : ℕ) → bit todo i ≡ true → 64 * w + i < n
   one-of i b =
       let low : i < 64 = bit-below 64 todo i small b in
@@ -177,6 +194,7 @@ module _ (heads words order : List ℕ) (n : ℕ) (state : List ℕ) (mark w r :
         few = omega (arith, rests .roomy .few);
         head = omega (arith, laid .heads-room);
         tests = laid .tests-few (64 * w + i) l;
+        queries = laid .queries-few (64 * w + i) l;
         rows = omega (arith, laid .words-room);
         entry = omega arith;
         bed = rests .roomy .beds (64 * w + i) l;
@@ -224,7 +242,7 @@ module _ (heads words order : List ℕ) (n : ℕ) (state : List ℕ) (mark w r :
           let m : testsMarked mark (ruleIn heads words k) ≡ true = touch-marked heads words n sets laid (rests .testing) w mark k h at-word (rw at-bit t) in
           rw m (v .made k (record { from = from; below = below; chosen = b }) clock)
 
-      -- it was not: it tests no marked buffer, or it sleeps, and does not match
+      -- it was not: it tests and queries no marked buffer, or it sleeps, and does not match
       unseen : bit todo (k - 64 * w) ≡ false → entryAt table′ k ≡ (if testsMarked mark (ruleIn heads words k) then fresh else entryAt table₀ k)
       unseen b =
           let same : entryAt table′ k ≡ entryAt table k = v .left k (λ a. no-true (sym (a .chosen) ∙ b)) in
@@ -249,7 +267,7 @@ module _ (heads words order : List ℕ) (n : ℕ) (state : List ℕ) (mark w r :
 
 -- ---- the entries that are known to be fresh
 
--- whose entry is known to be fresh was so before, or tests a marked buffer
+-- whose entry is known to be fresh was so before, or its rule tests or queries a marked buffer
 abbrev pub Surer : List ℕ → List ℕ → ℕ → ℕ → List ℕ → List ℕ → Type 0
 Surer heads words n mark sets sets′ = (k : ℕ) → k < n → isSure sets′ k ≡ true → (isSure sets k ≡ true) ⊎ (testsMarked mark (ruleIn heads words k) ≡ true)
 
@@ -276,7 +294,7 @@ lying-beside heads words order n state table s s′ size same ranked x =
           (x .sleeping k h);
     }
 
--- the rules of word w that test a marked buffer are sure from now on
+-- the rules of word w that test or query a marked buffer are sure from now on
 module _ (heads words : List ℕ) (n : ℕ) (mark w r : ℕ) (sets₀ sets : List ℕ) (laid : Laid heads words n) (testing : Testing heads n sets) (touches : Touches sets w mark 8 r)
     (surer : Surer heads words n mark sets₀ sets) (sets′ : List ℕ) (same : (j i : ℕ) → 48 ≤ j → j < 52 → has sets′ j i ≡ has sets j i) (room : 48 + w < length sets′) where
   abbrev pub joined : List ℕ

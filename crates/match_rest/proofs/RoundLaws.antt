@@ -18,7 +18,9 @@ use Rattle.layout.specs.StateWords.{stateIn}
 use Rattle.match_sets.specs.Sets.{member}
 use Rattle.match_rule.specs.declared.Tried.{Tried}
 use Rattle.match_rule.specs.declared.Tried.the-variants.{Hit, Differs, Varies}
+use Rattle.match_rule.specs.Words.{StandsAt}
 use Rattle.match_rule.specs.Shut.{isHit, Because, Made}
+use Rattle.match_rule.proofs.MadeLaws.{rule-stands}
 use Rattle.match_choice.specs.Ranks.{Matching}
 use Rattle.match_order.specs.Order.{Ranked, Hitting, HitAt, ruleAt, placeOf}
 use Rattle.match_table.specs.Entries.{withEntry}
@@ -40,6 +42,9 @@ said true = refl
 said false = refl
 
 module _ (heads words order state : List ℕ) (k : ℕ) (table nine sets sets′ : List ℕ) (size : length nine ≡ 9) (room : 9 * k + 9 ≤ length table) where
+  stands : StandsAt (ruleIn heads words k) words (185 * k) (getD heads (4 * k) 0)
+  stands = rule-stands heads words k
+
   -- it sleeps, or is as awake as it was
   lying : (t : Tried) → Made t nine words (185 * k) (getD heads (4 * k) 0) state → Lies t k sets sets′
       → (isAwake sets′ k ≡ isAwake sets k) ⊎ Asleep heads words state (withEntry table k nine) sets′ k
@@ -50,12 +55,13 @@ module _ (heads words order state : List ℕ) (k : ℕ) (table nine sets sets′
         place = p;
         value = v;
         low = m .because .low;
-        shuts = m .because .shuts (ruleIn heads words k) refl;
-        hidden = m .because .hidden (ruleIn heads words k) refl;
+        flag = m .because .flag;
+        shuts = m .because .shuts (ruleIn heads words k) stands;
+        hidden = m .because .hidden (ruleIn heads words k) stands;
         differs = λ _. m .because .differs;
         bed = lies .0;
         used = lies .1;
-        zeros = entry-own table k nine size room ∙ m .fresh (ruleIn heads words k) 0 refl ∙ m .because .shuts (ruleIn heads words k) refl state 0 (m .because .differs);
+        zeros = entry-own table k nine size room ∙ m .fresh (ruleIn heads words k) 0 stands ∙ m .because .shuts (ruleIn heads words k) stands state 0 (m .because .differs);
       })
   lying Varies m lies = inl lies
 
@@ -63,7 +69,7 @@ module _ (heads words order state : List ℕ) (k : ℕ) (table nine sets sets′
       → Visited heads words order state k table table′ sets sets′
   visited t table′ e m s =
       record {
-        fresh = λ clock. e ∙ ap (withEntry table k) (m .fresh (ruleIn heads words k) clock refl);
+        fresh = λ clock. e ∙ ap (withEntry table k) (m .fresh (ruleIn heads words k) clock stands);
         besides = s .besides;
         others = s .others;
         own = s .own ∙ sym (said (isHit t)) ∙ ap (λ (x : ℕ). eqb x 1) (sym (m .first) ∙ sym (first-own table k nine size room) ∙ ap (λ (l : List ℕ). getD l (9 * k) 0) (sym e));

@@ -20,4 +20,4 @@ module _ {heads words state table sets : List ℕ} {k : ℕ} (a : Asleep heads w
   pub asleep-as : {state′ table′ sets′ : List ℕ} → (getD state′ (delayOf (a .place)) 0 ≡ 0 → getD state′ (a .place) 0 ≡ a .value → ⊥)
       → inBed sets′ (bedOf (a .place) (a .value)) k ≡ true → isUsed sets′ (a .place) ≡ true → entryAt table′ k ≡ entryAt table k → Asleep heads words state′ table′ sets′ k
   asleep-as differs bed used same =
-      record { place = a .place; value = a .value; low = a .low; shuts = a .shuts; hidden = a .hidden; differs = differs; bed = bed; used = used; zeros = same ∙ a .zeros }
+      record { place = a .place; value = a .value; low = a .low; flag = a .flag; shuts = a .shuts; hidden = a .hidden; differs = differs; bed = bed; used = used; zeros = same ∙ a .zeros }

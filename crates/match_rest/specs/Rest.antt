@@ -1,10 +1,11 @@
--- What a run keeps of its rules between two steps, in words of 64 bits: which are awake, which match, which test a buffer,
+-- What a run keeps of its rules between two steps, in words of 64 bits: which are awake, which match, which test or query a buffer,
 -- and the beds in which rules sleep that were given up at a word of the state.
 use Prim.Native.Nat.{ℕ, _*_, _/_, _%_, _≤_, _<_}
 use mathlib.Core.Path.{_≡_}
 use mathlib.Core.Logic.{_⊎_}
 use mathlib.Core.Bool.{true, false}
 use mathlib.Core.List.{List}
+use lib.Dec.{eqb}
 use lib.ListN.{length, getD, take, drop, replicate}
 use Rattle.meaning.specs.Base.{bit}
 use Rattle.meaning.specs.Match.{entryOf}
@@ -21,11 +22,13 @@ use Rattle.match_order.specs.Order.{Ranked, Hitting}
 abbrev pub entryAt : List ℕ → ℕ → List ℕ
 entryAt table k = take 9 (drop (9 * k) table)
 
--- rule k does not match, as its entry says, and it sleeps in the bed of a word that is another than the one it wants, or whose buffer is not visible
+-- rule k does not match, as its entry says, and it sleeps in the bed of a word that is another than the one it wants, or whose buffer is not visible;
+-- who sleeps by an error flag wants it set
 pub record Asleep (heads words state table sets : List ℕ) (k : ℕ) : Type 0 where
   pub place : ℕ
   pub value : ℕ
   pub low : place < 88
+  pub flag : place % 11 ≡ 10 → value ≡ 1
   pub shuts : Shuts (ruleIn heads words k) place value
   pub hidden : Shuts (ruleIn heads words k) (delayOf place) 0
   pub differs : getD state (delayOf place) 0 ≡ 0 → getD state place 0 ≡ value → ⊥
@@ -37,7 +40,7 @@ pub record Asleep (heads words state table sets : List ℕ) (k : ℕ) : Type 0 w
 abbrev pub Sleeping : List ℕ → List ℕ → ℕ → List ℕ → List ℕ → List ℕ → Type 0
 Sleeping heads words n state table sets = (k : ℕ) → k < n → (isAwake sets k ≡ true) ⊎ Asleep heads words state table sets k
 
--- who sleeps, who matches and who tests what
+-- who sleeps, who matches and who tests or queries what
 pub record Lying (heads words order : List ℕ) (n : ℕ) (state table sets : List ℕ) : Type 0 where
   pub roomy : Roomy n sets
   pub testing : Testing heads n sets
@@ -53,10 +56,12 @@ pub record Resting (heads words order : List ℕ) (n : ℕ) (state table sets : 
   pub lying : Lying heads words order n state table sets
   pub sure : Sure heads words n state table sets
 
--- ---- what a step leaves of the buffers that it does not mark: their words but the delay, a delay above 0 stays above 0, and no test tells them from what they were
+-- ---- what a step leaves of the buffers that it does not mark: their type and slots, a delay above 0 stays above 0, an error flag is set, or clear, as it was,
+-- and no test or query tells them from what they were
 pub record Kept (before after : List ℕ) (mark : ℕ) : Type 0 where
-  pub words : (p : ℕ) → p < 88 → bit mark (p / 11) ≡ false → (p % 11 ≡ 9 → ⊥) → getD after p 0 ≡ getD before p 0
+  pub words : (p : ℕ) → p < 88 → bit mark (p / 11) ≡ false → p % 11 < 9 → getD after p 0 ≡ getD before p 0
   pub delays : (p : ℕ) → p < 88 → bit mark (p / 11) ≡ false → p % 11 ≡ 9 → (getD before p 0 ≡ 0 → ⊥) → getD after p 0 ≡ 0 → ⊥
+  pub flags : (p : ℕ) → p < 88 → bit mark (p / 11) ≡ false → p % 11 ≡ 10 → eqb (getD after p 0) 1 ≡ eqb (getD before p 0) 1
   pub marks : (clock clock′ : ℕ) → Marks (stateIn before clock) (stateIn after clock′) mark
 
 -- after a step with that mark, before the refresh

@@ -44,6 +44,7 @@ pub record Visitable (heads words order : List ℕ) (entries sets k : ℕ) : Typ
   pub few : k < 256
   pub head : 4 * k + 4 ≤ length heads
   pub tests : getD heads (4 * k) 0 ≤ 8
+  pub queries : getD words (185 * k + 88) 0 ≤ 8
   pub rows : 185 * k + 185 ≤ length words
   pub entry : 9 * k + 9 ≤ entries
   pub bed : 308 + 256 * (k / 64) ≤ sets

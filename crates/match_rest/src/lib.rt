@@ -79,7 +79,7 @@ fn visit_all(
     }
 }
 
-// The refresh of n rules after a step with that mark: of the rules that test a marked buffer, those that are awake are matched again.
+// The refresh of n rules after a step with that mark: of the rules that test or query a marked buffer, those that are awake are matched again.
 pub fn renew(
     table: &mut [u16],
     sets: &mut [u64],

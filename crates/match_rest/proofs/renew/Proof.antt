@@ -53,7 +53,7 @@ small c =
 four : (c : tie.In-loop Inv-loop μ-loop) → c .before .loop .w < 4
 four c = omega (arith, c .before .loop .inv .3 .roomy .few, c .loop-test .taken)
 
--- who is sure was so when the call began, or tests a marked buffer: waking makes nobody sure
+-- who is sure was so when the call began, or tests or queries a marked buffer: waking makes nobody sure
 surer-woken : (c : tie.At-loop Inv-loop μ-loop) → let a = begun c .args in Surer (a .heads .now) (a .words .now) (a .n) (a .mark) (a .sets .now) (c .loop .sets)
 surer-woken c k h is =
     let woke = woken c .wake-all .ensures in

@@ -1,7 +1,7 @@
 -- `match_rest::visit` meets its contract: the part of the table that starts at nine times the rule's number is the rule's entry.
 use Rattle.match_rest.proofs.RoundLaws.{low-place, visited}
 use lib.Seq.{drop-drop, length-take-le}
-use lib.ListN.{getD, take, drop, length-drop}
+use lib.ListN.{take, drop, length-drop}
 use native.Mathlib.Omega.{arith}
 use mathlib.Core.List.{List, _++_}
 use mathlib.Core.Path.{_≡_, ap, _∙_}
@@ -59,17 +59,18 @@ try-into-requires c κs =
     let args = start .args in
     let nine : 9 * args .k + 9 - 9 * args .k ≡ 9 = omega arith in (
       length-take-le (9 * args .k + 9 - 9 * args .k) (drop (9 * args .k) (args .table .now)) (omega (arith, length-drop (9 * args .k) (args .table .now), start .pre .0 .entry)) ∙ nine,
-      omega (arith, start .pre .0 .tests, start .pre .0 .rows),
+      omega (arith, start .pre .0 .tests),
+      omega (arith, start .pre .0 .rows),
+      start .pre .0 .queries,
       start .pre .1,
     )
 
 settle-requires : tie.Need-settle-requires
 settle-requires c κs =
     let start = c .before .before .before .before .before .before .before .before .before .before .before .before in
-    let args = start .args in
     let tried = c .before .before .before .try-into in
     let v = start .pre .0 in
-    (v .few, v .ordered, v .place, v .bed, low-place (tried .result) (args .words .now) (185 * args .k) (getD (args .heads .now) (4 * args .k) 0) (args .state .now) (tried .ensures .because))
+    (v .few, v .ordered, v .place, v .bed, low-place (tried .result) _ _ _ _ (tried .ensures .because))
 
 same-length : tie.Need-same-length
 same-length c = search needs
