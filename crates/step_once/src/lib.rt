@@ -1,15 +1,15 @@
-// One step, in place on a state's eighty words: the chosen rule fires, or time passes, or no step is made.
+// One step, in place on a state's 88 words: the chosen rule fires, or time passes, or no step is made.
 ghost use mathlib.Core.Path.{_≡_};
 ghost use Prim.Native.Nat.{ℕ, _+_, _*_, _≤_, _<_};
-ghost use lib.ListN.{length};
+ghost use lib.ListN.{length, getD};
 ghost use Rattle.meaning.specs.Base.{same};
 ghost use Rattle.meaning.specs.Model.{Rule};
 ghost use Rattle.meaning.specs.Match.{entryOf};
 ghost use Rattle.meaning.specs.Wait.{soonest};
 ghost use Rattle.meaning.specs.Step.{fireStep, waitStep, stepOf};
-ghost use Rattle.layout.specs.Rows.{testsIn};
 ghost use Rattle.layout.specs.StateWords.{buffersIn, stateIn};
 ghost use Rattle.layout.specs.Plans.{factsOn, headsOn, rowsOn, modelOn, Planned};
+ghost use Rattle.match_rule.specs.Words.{StandsAt};
 ghost use Rattle.match_choice.specs.Chosen.{candidateAt};
 ghost use Rattle.step_retrieve.specs.Chains.{ChainsOn};
 ghost use Rattle.step_once.specs.Done.{placed, StepMet, Joins, Unfired};
@@ -34,10 +34,10 @@ pub enum StepDone {
     Waited(u16, u16),
 }
 
-// Whether nine words are the fresh entry of the rule whose n tests stand in words from o on.
+// Whether nine words are the fresh entry of the rule whose words start at o, with n tests.
 fn is_fresh(nine: &[u16], words: &[u16], o: usize, n: usize, state: &[u16]) -> bool
-    requires { ⌜ (length (now nine) ≡ 9) × (o + 11 * n ≤ length (now words)) × (88 ≤ length (now state)) ⌝ }
-    ensures { λ b. ⌜ ((r : Rule) (clock : ℕ) → r .tests ≡ testsIn (now (words .entry)) o n → b ≡ same (now (nine .entry)) (entryOf r (stateIn (now (state .entry)) clock))) ⌝ }
+    requires { ⌜ (length (now nine) ≡ 9) × (n ≤ 8) × (o + 97 ≤ length (now words)) × (getD (now words) (o + 88) 0 ≤ 8) × (88 ≤ length (now state)) ⌝ }
+    ensures { λ b. ⌜ ((r : Rule) (clock : ℕ) → StandsAt r (now (words .entry)) o n → b ≡ same (now (nine .entry)) (entryOf r (stateIn (now (state .entry)) clock))) ⌝ }
 {
     let mut fresh = [0u16; ENTRY_WORDS];
     match_rule::entry_into(&mut fresh, words, o, n, state);

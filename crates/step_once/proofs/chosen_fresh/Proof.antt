@@ -1,6 +1,6 @@
 -- `step_once::chosen_fresh` meets its contract: what is known to be fresh is, and else the rule's part of the table is held against the fresh entry.
 use Prim.Native.Nat.{_*_, _+_}
-use mathlib.Core.Path.{_≡_, sym, ap, _∙_}
+use mathlib.Core.Path.{_≡_, refl, sym, ap, _∙_}
 use native.Mathlib.Omega.{arith}
 use borrow.Author.Needs.{needs}
 use lib.ListN.{getD, length-take, length-drop}
@@ -12,6 +12,7 @@ use Rattle.layout.specs.Plans.{headsOn, rowsOn}
 use Rattle.layout.specs.StateWords.{stateIn}
 use Rattle.laws.specs.PartLaws.{to-end}
 use Rattle.layout.proofs.PlanLaws.{Sections, sections}
+use Rattle.match_rule.specs.Words.{StandsAt}
 use Rattle.match_rule.proofs.Agree.{same-refl}
 use Rattle.match_rest.specs.Rest.{entryAt}
 use Rattle.step_once.specs.Choosing.{ruleOn}
@@ -36,6 +37,11 @@ sections-of c = sections (begun c .pre .0)
 -- how many tests there are
 tests-at : (c : tie.Start) → let a = c .args in getD (headsOn (a .plan) (a .tape .now)) (4 * a .k) 0 ≡ getD (a .tape .now) (a .plan .heads + 4 * a .k) 0
 tests-at c = let a = c .args in getD-drop (a .plan .heads) (a .tape .now) (4 * a .k) 0
+
+-- they are the rule's, with its queries
+stands : (c : tie.Start) → let a = c .args in
+    StandsAt (ruleOn (a .plan) (a .tape .now) (a .k)) (rowsOn (a .plan) (a .tape .now)) (185 * a .k) (getD (a .tape .now) (a .plan .heads + 4 * a .k) 0)
+stands c = let a = c .args in record { tests = ap (testsIn (rowsOn (a .plan) (a .tape .now)) (185 * a .k)) (tests-at c); queries = refl }
 
 -- ---- what is asked
 
@@ -102,14 +108,16 @@ is-fresh-requires c κs =
     let s = compared c in
     let laid = s .pre .0 .laid in
     let few = laid .tests-few (s .args .k) (s .pre .1) in
-    simp to-end (simp (length-take, length-drop) (omega (arith, s .pre .1, s .pre .2)), omega (arith, few, tests-at s, laid .words-room), s .pre .3)
+    let asked = laid .queries-few (s .args .k) (s .pre .1) in
+    simp to-end
+    (simp (length-take, length-drop) (omega (arith, s .pre .1, s .pre .2)), omega (arith, few, tests-at s), omega (arith, s .pre .1, laid .words-room), asked, s .pre .3)
 
 returns-2 : tie.Need-returns-2
 returns-2 c clock =
     let s = compared (c .before) in
     let a = s .args in
     let rule = ruleOn (a .plan) (a .tape .now) (a .k) in
-    let held = c .is-fresh .ensures rule clock (simp to-end (ap (testsIn (rowsOn (a .plan) (a .tape .now)) (185 * a .k)) (tests-at s))) in
+    let held = c .is-fresh .ensures rule clock (simp to-end (stands s)) in
     held ∙ ap (λ nine. same nine (entryOf rule (stateIn (a .state .now) clock))) (part-is (a .k) (a .table .now))
 
 pub chosen-fresh-spec : {M : Type 1} → statement M
