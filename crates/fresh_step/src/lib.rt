@@ -1,4 +1,4 @@
-// One step with nothing kept, in place on a state's eighty words: the best of the matching rules fires, or time passes, or no step is made.
+// One step with nothing kept, in place on a state's 88 words: the best of the matching rules fires, or time passes, or no step is made.
 ghost use mathlib.Core.Path.{_≡_};
 ghost use Prim.Native.Nat.{_≤_, _<_};
 ghost use lib.ListN.{length};
