@@ -15,8 +15,8 @@ use Rattle.layout.specs.declared.PlanRead.{PlanRead}
 use Rattle.layout.specs.Walks.{answer, Within}
 use Rattle.layout.specs.Plans.{placesFor, planOf}
 
-abbrev pub aHeader : ℕ → ℕ → ℕ → ℕ → ℕ → Header
-aHeader buffers declared rules facts failure = record { buffers = buffers; declared = declared; rules = rules; facts = facts; failure = failure }
+abbrev pub aHeader : ℕ → ℕ → ℕ → ℕ → ℕ → ℕ → Header
+aHeader version buffers declared rules facts failure = record { version = version; buffers = buffers; declared = declared; rules = rules; facts = facts; failure = failure }
 
 -- 1 to 8 buffers, and at most 63 declared types, 256 rules and 512 facts
 pub record Bounds (buffers declared rules facts : ℕ) : Type 0 where
@@ -28,11 +28,11 @@ pub record Bounds (buffers declared rules facts : ℕ) : Type 0 where
 
 -- the header that a plan is made for
 abbrev pub headerIn : Plan → Header
-headerIn p = aHeader (p .buffers) (p .declared) (p .rules) (p .facts) (p .failure)
+headerIn p = aHeader (p .version) (p .buffers) (p .declared) (p .rules) (p .facts) (p .failure)
 
 -- a plan whose sections follow each other, with a place for each of its facts, and for a store's if one is lent
 abbrev pub Placed : Plan → Type 0
-Placed p = p ≡ planOf (p .buffers) (p .declared) (p .rules) (p .facts) (p .failure) (placesFor (p .facts) (p .learns)) (p .learns)
+Placed p = p ≡ planOf (p .version) (p .buffers) (p .declared) (p .rules) (p .facts) (p .failure) (placesFor (p .facts) (p .learns)) (p .learns)
 
 -- a header that was read as a plan: the definition's header or refusal; a place within the image; sections one after the other;
 -- of a header that was not refused, that its counts are within their bounds, and the plan is with a store if one is lent; of a refused one, that it has no plan
@@ -42,7 +42,7 @@ pub record HeaderMet (r : PlanRead) (image : List ℕ) (learns : Bool) : Type 0 
   pub starts : Placed (r .plan)
   pub bounds : (q : ℕ) → r .walk ≡ Next q → Bounds (r .plan .buffers) (r .plan .declared) (r .plan .rules) (r .plan .facts)
   pub learning : (q : ℕ) → r .walk ≡ Next q → r .plan .learns ≡ learns
-  pub nothing : (n p : ℕ) → r .walk ≡ Bad n p → r .plan ≡ planOf 0 0 0 0 0 0 false
+  pub nothing : (n p : ℕ) → r .walk ≡ Bad n p → r .plan ≡ planOf 0 0 0 0 0 0 0 false
 
 -- n opening chunks in the first n buffers, nil in the others, and clock 0
 abbrev pub openingState : ℕ → List Chunk → State

@@ -32,21 +32,21 @@ pub struct OpeningRead {
 
 // No plan: a refusal, with nothing to lay out.
 pub fn no_plan(number: u8, at: usize) -> PlanRead
-    ensures { λ r. ⌜ (r .walk ≡ Walk.Bad number at) × (r .plan ≡ planOf 0 0 0 0 0 0 false) ⌝ }
+    ensures { λ r. ⌜ (r .walk ≡ Walk.Bad number at) × (r .plan ≡ planOf 0 0 0 0 0 0 0 false) ⌝ }
 {
-    let nothing = layout::plan_for(0, 0, 0, 0, 0, false);
+    let nothing = layout::plan_for(0, 0, 0, 0, 0, 0, false);
     PlanRead {
         walk: Walk::Bad(number, at),
         plan: nothing,
     }
 }
 
-// The six fields of the header, the version (which is 1) first, as a plan: with places for a store if one is lent.
+// The six fields of the header, the version (1 or 2) first, as a plan: with places for a store if one is lent.
 pub fn header(image: &[u8], learns: bool) -> PlanRead
     requires { ⌜ length (now image) ≤ 65536 ⌝ }
     ensures { λ r. ⌜ HeaderMet r (now (image .entry)) learns ⌝ }
 {
-    let version = read_ranges::ranged(image, 0, 8, 1, 2, BAD_NUMBER);
+    let version = read_ranges::ranged(image, 0, 8, 1, 3, BAD_NUMBER);
     let first = version.walk;
     let buffers = read_ranges::ranged_after(image, first, 4, 1, 9, BAD_NUMBER);
     let second = buffers.walk;
@@ -62,6 +62,7 @@ pub fn header(image: &[u8], learns: bool) -> PlanRead
         return no_plan(number, at);
     }
     let plan = layout::plan_for(
+        version.value,
         buffers.value,
         declared.value,
         rules.value,
@@ -108,7 +109,7 @@ pub fn slot_counts(image: &[u8], p: usize, declared: u16) -> TypesRead
     }
 }
 
-// A buffer that holds a chunk of such a type with such slot values, visible at once.
+// A buffer that holds a chunk of such a type with such slot values, visible at once, its flag clear.
 fn opens(isa: u16, slots: [u16; 8]) -> Buffer
     ensures { λ r. ⌜ r ≡ opens (aChunk isa slots) ⌝ }
 {
@@ -116,6 +117,7 @@ fn opens(isa: u16, slots: [u16; 8]) -> Buffer
         isa: isa,
         slots: slots,
         delay: 0,
+        error: false,
     }
 }
 

@@ -32,7 +32,7 @@ module _ (c : tie.After-any-after) where
   abbrev made : Header
   made =
       let d = c .before .before .before in
-      aHeader (d .before .ranged-after .result .value) (d .ranged-after2 .result .value) (c .before .before .ranged-after3 .result .value)
+      aHeader (d .before .before .ranged .result .value) (d .before .ranged-after .result .value) (d .ranged-after2 .result .value) (c .before .before .ranged-after3 .result .value)
       (c .before .ranged-after4 .result .value) (c .any-after .result .value)
 
   read : answer (c .any-after .result .walk) made ≡ header finer image 0
