@@ -2,7 +2,6 @@
 use Prim.Native.Nat.{ℕ, zero, suc, _+_, _-_, _*_, _/_, _%_, _^_, _<_}
 use mathlib.Core.Path.{_≡_, refl, sym, ap, ap₂, _∙_}
 use mathlib.Core.Bool.{Bool, true, false, _&&_, _||_}
-use mathlib.Core.List.{List, _∷_, map}
 use native.Mathlib.Omega.{arith}
 use native.Mathlib.Nat.{pow-suc}
 use native.Mathlib.Numerals.{add-one}
@@ -10,11 +9,8 @@ use lib.Bits.{bitOr, or-zero-l, or-mod, or-shr}
 use lib.Pow.{pow-pos, mod-pow-add}
 use lib.Dec.{eqb, eqb·zero-suc, eqb·suc-zero, eqb·suc-suc}
 use borrow.Author.Tests.{eqb-true, eqb-false, eq-eqb, ne-eqb}
-use Rattle.meaning.specs.Base.{if_then_else_, every, upFrom, weigh, bit}
-
-pub bit-zero : (b : ℕ) → bit 0 b ≡ false
-bit-zero zero = refl
-bit-zero (suc b) = bit-zero b
+use Rattle.meaning.specs.Base.{every, upFrom, bit}
+use Rattle.laws.specs.BaseLaws.{bit-zero}
 
 -- ---- one place more
 
@@ -49,25 +45,9 @@ module _ (m : ℕ) where
   bit-half : (b : ℕ) → bit m (b + 1) ≡ bit (m / 2) b
   bit-half b = rw (add-one b)
 
-  map-half : (i n : ℕ) → map (bit m) (upFrom (i + 1) n) ≡ map (bit (m / 2)) (upFrom i n)
-  map-half i zero = refl
-  map-half i (suc n) = ap₂ (λ (x : Bool) (l : List Bool). x ∷ l) (bit-half i) (map-half (i + 1) n)
-
   all-half : (i n : ℕ) → every (bit m) (upFrom (i + 1) n) ≡ every (bit (m / 2)) (upFrom i n)
   all-half i zero = refl
   all-half i (suc n) = ap₂ (λ (x : Bool) (t : Bool). x && t) (bit-half i) (all-half (i + 1) n)
-
-last-is : (x : ℕ) → x < 2 → (if eqb x 1 then 1 else 0) ≡ x
-last-is zero h = refl
-last-is (suc zero) h = refl
-last-is (suc (suc x)) h = absurd (omega arith)
-
-pub weigh-bits : (k m : ℕ) → m < 2 ^ k → weigh (map (bit m) (upFrom 0 k)) ≡ m
-weigh-bits zero m h = omega arith
-weigh-bits (suc k) m h =
-    let g : m / 2 < 2 ^ k = omega (arith, pow-suc 2 k) in
-    let e : m % 2 + 2 * (m / 2) ≡ m = omega arith in
-    ap₂ (λ (x : ℕ) (y : ℕ). x + 2 * y) (last-is (m % 2) (omega arith)) (ap weigh (map-half m 0 k) ∙ weigh-bits k (m / 2) g) ∙ e
 
 ones-and : (p x y : ℕ) → 0 < p → y < 2 → eqb (x * 2 + y) (p * 2 - 1) ≡ (eqb y 1 && eqb x (p - 1))
 ones-and p x zero h g = ne-eqb (x * 2 + 0) (p * 2 - 1) (λ e. omega arith)

@@ -1,22 +1,23 @@
 -- What masks hold as the loops go on: one number more, one slot more, one row more.
-use Prim.Native.Nat.{ℕ, _+_, _-_, _*_, _%_, _^_, _≤_, _<_}
-use mathlib.Core.Path.{_≡_, refl, sym, ap, _∙_, fun-ext}
+use Prim.Native.Nat.{ℕ, zero, suc, _+_, _-_, _*_, _%_, _^_, _≤_, _<_}
+use mathlib.Core.Path.{_≡_, refl, sym, ap, ap₂, _∙_, fun-ext}
 use mathlib.Core.Bool.{Bool, true, false, _||_, or-false, or-assoc}
 use mathlib.Core.List.{List, [], _∷_, _++_, map, map-append}
 use native.Mathlib.Omega.{arith}
 use lib.ListN.{getD}
-use lib.Bits.{bitAnd, bitOr, and-mask, or-lt}
+use lib.Bits.{bitAnd, bitOr, and-mask}
 use lib.Pow.{pow-mono}
 use lib.Dec.{eqb}
 use borrow.Author.Tests.{lt-ltb, le-ltb}
-use Rattle.meaning.specs.Base.{every, anyOf, upFrom, weigh, bit}
-use Rattle.meaning.specs.Model.{Test}
-use Rattle.meaning.specs.Image.{isVariable, names}
-use Rattle.layout.specs.Rows.{rowsIn, wordTerm, namedIn, testIn, testsIn}
-use Rattle.layout.proofs.RowLaws.{rows-more}
+use Rattle.meaning.specs.Base.{every, anyOf, upFrom, bit}
+use Rattle.meaning.specs.Image.{isVariable, names, isTested}
+use Rattle.laws.specs.BaseLaws.{bit-zero}
+use Rattle.laws.specs.RefreshLaws.{isQueried}
+use Rattle.layout.specs.Rows.{rowsIn, wordTerm, namedIn, testIn, testsIn, queryBy, queriesIn, queriesAt}
+use Rattle.layout.proofs.RowLaws.{rows-more, rows-same}
 use Rattle.read_terms.proofs.MaskBits.{rest, below, below-on, below-off, below-all}
-use Rattle.read_named.specs.Masks.{Holds, standsAt}
-use Rattle.read_named.proofs.Places.{bit-zero, bit-or, bit-power, eqb-swap, weigh-bits, ones-all}
+use Rattle.read_named.specs.Masks.{Holds, standsAt, namesBuffer}
+use Rattle.read_named.proofs.Places.{bit-or, bit-power, eqb-swap, ones-all}
 
 any-last : {A : Type 0} (p : A → Bool) (xs : List A) (x : A) → anyOf p (xs ++ (x ∷ [])) ≡ (anyOf p xs || p x)
 any-last p [] x = or-false (p x)
@@ -30,9 +31,6 @@ one-is k h = omega (arith, pow-mono {i = k} {j = 8} h)
 module _ (mask k : ℕ) (h : k < 8) where
   one-more : Holds (λ b. bit mask b || eqb b k) (bitOr mask (1 * 2 ^ k % 65536))
   one-more b = ap (λ (n : ℕ). bit (bitOr mask n) b) (one-is k (omega arith)) ∙ bit-or mask (2 ^ k) b ∙ ap (λ (t : Bool). bit mask b || t) (bit-power k b)
-
-  pub one-more-small : mask < 256 → bitOr mask (1 * 2 ^ k % 65536) < 256
-  one-more-small l = or-lt 8 mask (1 * 2 ^ k % 65536) l (omega (arith, one-is k (omega arith), pow-mono {i = k} {j = 7} (omega arith)))
 
 -- ---- a term
 
@@ -73,28 +71,46 @@ module _ (w : List ℕ) (q mask : ℕ) where
 
 -- ---- the loop over rows: the numbers that pass in one of the first i
 
-module _ (p : ℕ → Test → Bool) (w : List ℕ) (o : ℕ) where
-  pub tests-start : Holds (λ v. anyOf (p v) (testsIn w o 0)) 0
+module _ {A : Type 0} (p : ℕ → A → Bool) (thing : ℕ → A) where
+  pub rows-start : Holds (λ v. anyOf (p v) (rowsIn thing 0 0)) 0
   unfolding rowsIn
-  tests-start v = bit-zero v
+  rows-start v = bit-zero v
 
-  pub tests-turn : (i m m′ : ℕ) → Holds (λ v. anyOf (p v) (testsIn w o i)) m → Holds (λ v. bit m v || p v (testIn w (o + 11 * i))) m′
-      → Holds (λ v. anyOf (p v) (testsIn w o (i + 1))) m′
-  tests-turn i m m′ h g v =
+  pub rows-turn : (i m m′ : ℕ) → Holds (λ v. anyOf (p v) (rowsIn thing 0 i)) m → Holds (λ v. bit m v || p v (thing i)) m′
+      → Holds (λ v. anyOf (p v) (rowsIn thing 0 (i + 1))) m′
+  rows-turn i m m′ h g v =
       let z : 0 + i ≡ i = omega arith in
       g v
-      ∙ ap (λ (t : Bool). t || p v (testIn w (o + 11 * i))) (h v)
-      ∙ sym (any-last (p v) (testsIn w o i) (testIn w (o + 11 * i)))
-      ∙ ap (anyOf (p v)) (ap (λ (k : ℕ). testsIn w o i ++ (testIn w (o + 11 * k) ∷ [])) (sym z) ∙ sym (rows-more (λ k. testIn w (o + 11 * k)) 0 i))
+      ∙ ap (λ (t : Bool). t || p v (thing i)) (h v)
+      ∙ sym (any-last (p v) (rowsIn thing 0 i) (thing i))
+      ∙ ap (anyOf (p v)) (ap (λ (k : ℕ). rowsIn thing 0 i ++ (thing k ∷ [])) (sym z) ∙ sym (rows-more thing 0 i))
 
--- a row tests its buffer
-pub buffer-more : (w : List ℕ) (q m : ℕ) → Holds (λ b. bit m b || eqb (testIn w q .buffer) b) (bitOr m (1 * 2 ^ (getD w q 0 % 8) % 65536))
-buffer-more w q m b = one-more m (getD w q 0 % 8) (omega arith) b ∙ ap (λ (t : Bool). bit m b || t) (eqb-swap b (getD w q 0 % 8))
+-- a word names its buffer
+pub buffer-more : (word m : ℕ) → Holds (λ b. bit m b || eqb (word % 8) b) (bitOr m (1 * 2 ^ (word % 8) % 65536))
+buffer-more word m b = one-more m (word % 8) (omega arith) b ∙ ap (λ (t : Bool). bit m b || t) (eqb-swap b (word % 8))
 
--- ---- a mask of eight, by what it holds
+-- ---- the buffers of tests and of queries, by their words
 
-pub holds-weigh : (m : ℕ) (p : ℕ → Bool) → m < 256 → Holds p m → m ≡ weigh (map p (upFrom 0 8))
-holds-weigh m p h g = sym (weigh-bits 8 m h) ∙ ap (λ (f : ℕ → Bool). weigh (map f (upFrom 0 8))) (fun-ext g)
+any-on : {A B : Type 0} (p : B → Bool) (on : A → B) (thing : ℕ → A) (i n : ℕ) → anyOf p (rowsIn (λ k. on (thing k)) i n) ≡ anyOf (λ x. p (on x)) (rowsIn thing i n)
+unfolding rowsIn
+any-on p on thing i zero = refl
+any-on p on thing i (suc n) = ap (λ (t : Bool). p (on (thing i)) || t) (any-on p on thing (i + 1) n)
+
+module _ (w : List ℕ) (o n b : ℕ) where
+  tests-on : namesBuffer w o 11 n b ≡ isTested (testsIn w o n) b
+  tests-on = any-on (λ x. eqb x b) (λ t. t .buffer) (λ k. testIn w (o + 11 * k)) 0 n
+
+  queries-on : namesBuffer w o 1 n b ≡ isQueried (queriesIn w o n) b
+  queries-on =
+      let word : (k : ℕ) → getD w (o + 1 * k) 0 % 8 ≡ getD w (o + k) 0 % 8 = λ k. let e : o + 1 * k ≡ o + k = omega arith in rw e in
+      ap (anyOf (λ x. eqb x b)) (rows-same (λ k. getD w (o + 1 * k) 0 % 8) (λ k. getD w (o + k) 0 % 8) 0 n (λ k low high. word k))
+      ∙ any-on (λ x. eqb x b) (λ q. q .buffer) (λ k. queryBy (getD w (o + k) 0)) 0 n
+
+-- both masks together
+pub both-hold : (w : List ℕ) (o n tested queried : ℕ) → Holds (namesBuffer w o 11 n) tested → Holds (namesBuffer w (o + 89) 1 (getD w (o + 88) 0)) queried
+    → Holds (λ b. isTested (testsIn w o n) b || isQueried (queriesAt w o) b) (bitOr tested queried)
+both-hold w o n tested queried h g b =
+    bit-or tested queried b ∙ ap₂ (λ (x y : Bool). x || y) (h b ∙ tests-on w o n b) (g b ∙ queries-on w (o + 89) (getD w (o + 88) 0) b)
 
 -- whether the mask has every number below k, as the machine tests it
 pub holds-every : (m k : ℕ) (p : ℕ → Bool) → k ≤ 8 → Holds p m → eqb (bitAnd m (1 * 2 ^ k % 65536 - 1)) (1 * 2 ^ k % 65536 - 1) ≡ every p (upFrom 0 k)

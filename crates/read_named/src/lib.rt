@@ -1,14 +1,16 @@
-// What the rows of a rule's tests name: the variables that stand in them and the buffers that they test.
+// What a rule's words name: the variables that stand in its tests, and the buffers that it tests or queries.
 // Each set of numbers below eight is a mask, in which number b has weight 2 to the power b.
 ghost use mathlib.Core.Path.{_≡_};
 ghost use mathlib.Core.Bool.{_||_};
-ghost use mathlib.Core.List.{map};
 ghost use Prim.Native.Nat.{_+_, _*_, _≤_};
-ghost use lib.ListN.{length};
-ghost use Rattle.meaning.specs.Base.{every, upFrom, weigh, bit};
+ghost use lib.ListN.{length, getD};
+ghost use Rattle.meaning.specs.Base.{every, upFrom, bit};
 ghost use Rattle.meaning.specs.Image.{isVariable, standsIn, isTested};
-ghost use Rattle.layout.specs.Rows.{wordTerm, testsIn};
-ghost use Rattle.read_named.specs.Masks.{Holds, standsAt};
+ghost use Rattle.laws.specs.RefreshLaws.{isQueried};
+ghost use Rattle.layout.specs.Rows.{wordTerm, testsIn, queriesAt};
+ghost use Rattle.read_named.specs.Masks.{Holds, standsAt, namesBuffer};
+use layout::ASKED_AT;
+use layout::QUERIES_AT;
 use layout::ROW_WORDS;
 
 // The mask with the variable that the term is, if it is one.
@@ -64,16 +66,26 @@ pub fn stood(words: &[u16], o: usize, n: usize, variables: u16) -> bool
     variables_in(words, o, n) & every == every
 }
 
-// The buffers that the n tests from o on test.
-pub fn tested(words: &[u16], o: usize, n: usize) -> u16
-    requires { ⌜ (o + 11 * n ≤ length (now words)) × (n ≤ 8) ⌝ }
-    ensures { λ r. ⌜ r ≡ weigh (map (isTested (testsIn (now (words .entry)) o n)) (upFrom 0 8)) ⌝ }
+// The buffers that n words name, the first at o and each `step` words after the one before it.
+fn buffers_in(words: &[u16], o: usize, step: usize, n: usize) -> u16
+    requires { ⌜ (o + step * n ≤ length (now words)) × (1 ≤ step) ⌝ }
+    ensures { λ r. ⌜ Holds (namesBuffer (now (words .entry)) o step n) r ⌝ }
 {
     let mut mask = 0;
     let mut i = 0;
     while i < n {
-        mask |= 1u16 << (words[o + ROW_WORDS * i] % 8);
+        mask |= 1u16 << (words[o + step * i] % 8);
         i += 1;
     }
     mask
+}
+
+// The buffers that the rule whose words begin at o looks at: those that its n tests test, and those that its queries ask about.
+pub fn looked_at(words: &[u16], o: usize, n: usize) -> u16
+    requires { ⌜ (o + 97 ≤ length (now words)) × (n ≤ 8) × (getD (now words) (o + 88) 0 ≤ 8) ⌝ }
+    ensures { λ r. ⌜ Holds (λ b. isTested (testsIn (now (words .entry)) o n) b || isQueried (queriesAt (now (words .entry)) o) b) r ⌝ }
+{
+    let asked = words[o + ASKED_AT] as usize;
+    let tested = buffers_in(words, o, ROW_WORDS, n);
+    tested | buffers_in(words, o + QUERIES_AT, 1, asked)
 }

@@ -1,12 +1,12 @@
 -- `read_named::variables_in` meets its contract: after i rows the mask holds the variables of the first i tests.
-use Prim.Native.Nat.{_≤_, _-_}
+use Prim.Native.Nat.{_≤_, _-_, _+_, _*_}
 use mathlib.Core.Path.{_≡_}
 use native.Mathlib.Omega.{arith}
 use Rattle.meaning.specs.Base.{anyOf}
 use Rattle.meaning.specs.Image.{isVariable, standsIn}
-use Rattle.layout.specs.Rows.{testsIn}
+use Rattle.layout.specs.Rows.{testIn, testsIn}
 use Rattle.read_named.specs.Masks.{Holds}
-use Rattle.read_named.proofs.SeenLaws.{tests-start, tests-turn}
+use Rattle.read_named.proofs.SeenLaws.{rows-start, rows-turn}
 use borrow.Author.Needs.{needs}
 use Rattle.read_named.proofs.variables_in.Statement.{statement}
 use Rattle.read_named.proofs.variables_in.Tie as tie
@@ -18,7 +18,7 @@ abbrev μ-loop : tie.MeasureT-loop
 μ-loop words o n seen₀ i₀ seen i = n - i
 
 loop-holds : tie.Need-loop-holds Inv-loop μ-loop
-loop-holds c = let a = c .before .args in (search needs, tests-start (λ v t. anyOf (λ n. isVariable v (n .term)) (t .named)) (a .words .now) (a .o))
+loop-holds c = let a = c .before .args in (search needs, rows-start (λ v t. anyOf (λ n. isVariable v (n .term)) (t .named)) (λ k. testIn (a .words .now) (a .o + 11 * k)))
 
 mul-with-test : tie.Need-mul-with-test Inv-loop μ-loop
 mul-with-test c = search needs
@@ -39,7 +39,7 @@ loop-again : tie.Need-loop-again Inv-loop μ-loop
 loop-again c =
     let l = c .before .before .loop in
     let a = c .before .before .before .before .args in
-    (search needs, tests-turn (λ v t. anyOf (λ n. isVariable v (n .term)) (t .named)) (a .words .now) (a .o) (l .i) (l .seen) _ (l .inv .1) (c .with-test .ensures))
+    (search needs, rows-turn (λ v t. anyOf (λ n. isVariable v (n .term)) (t .named)) (λ k. testIn (a .words .now) (a .o + 11 * k)) (l .i) (l .seen) _ (l .inv .1) (c .with-test .ensures))
 
 returns : tie.Need-returns Inv-loop μ-loop
 returns c =
