@@ -1,0 +1,2 @@
+-- What is said of the number of a rule's queries.
+pub mod Asked
