@@ -1,2 +1,3 @@
 -- Laws of a match by itself.
 pub mod SymbolLaws
+pub mod PlainLaws

@@ -14,6 +14,7 @@ use Rattle.layout.specs.StateWords.{stateIn}
 use Rattle.match_best.specs.declared.Chosen.{Chosen}
 use Rattle.match_best.specs.Chosen.{candidateWith}
 use Rattle.match_best.proofs.TurnLaws.{Leads, leads-below, chosenFrom, chosen-end, chosen-skip, chosen-turn, chosen-kept}
+use Rattle.match_rule.proofs.MadeLaws.{rule-stands}
 use Rattle.layout.proofs.WordLaws.{all-copied}
 use Rattle.fresh_best.specs.Matched.{entryIn, Entered}
 use Rattle.fresh_best.proofs.FreshLaws.{fresh-start}
@@ -50,7 +51,10 @@ loop-of c = turned c .before
 -- rule k, matched: whether its entry counts
 counted : (c : tie.After-hits Inv-loop μ-loop) → let l = loop-of c .loop in let a = start (loop-of c) .args in (clock : ℕ)
     → c .hits .result ≡ counts (candidateWith (a .heads .now) (a .words .now) (entryIn (a .heads .now) (a .words .now) (stateIn (a .state .now) clock)) (l .k))
-counted c clock = let a = start (loop-of c) .args in c .hits .ensures .counted (ruleIn (a .heads .now) (a .words .now) (loop-of c .loop .k)) clock refl
+counted c clock =
+    let a = start (loop-of c) .args in
+    let k = loop-of c .loop .k in
+    c .hits .ensures .counted (ruleIn (a .heads .now) (a .words .now) k) clock (rule-stands (a .heads .now) (a .words .now) k)
 
 -- ---- what is asked
 
@@ -92,8 +96,9 @@ hits-requires : tie.Need-hits-requires Inv-loop μ-loop
 hits-requires c κs =
     let turn = c .before .before in
     let pre = start (turn .before) .pre in
-    let few = pre .0 .tests-few (turn .before .loop .k) (turn .loop-test .taken) in
-    (turn .before .loop .inv .trial-words, omega (arith, few, pre .0 .words-room, turn .loop-test .taken), pre .1)
+    let k = turn .before .loop .k in
+    let below = turn .loop-test .taken in
+    (turn .before .loop .inv .trial-words, pre .0 .tests-few k below, omega (arith, pre .0 .words-room, below), pre .0 .queries-few k below, pre .1)
 
 mul-key : tie.Need-mul-key Inv-loop μ-loop
 mul-key c = search needs
@@ -153,7 +158,7 @@ loop-again c =
       nine-words = w .6 .kept .0 ∙ l .inv .nine-words;
       trial-words = tried;
       leads = (more, w .2 .ensures);
-      entered = λ clock. copied ∙ h .hits .ensures .entered (w .0 .taken) (ruleIn heads words (l .k)) clock refl;
+      entered = λ clock. copied ∙ h .hits .ensures .entered (w .0 .taken) (ruleIn heads words (l .k)) clock (rule-stands heads words (l .k));
       so-far = λ clock. chosen-turn heads words (at clock) (a .n) (l .k) (l .best) more (matches clock) (λ i. omega (arith, w .1 .given i)) (l .top) _ (l .inv .leads) (w .2 .ensures) (w .3 .taken)
           ∙ l .inv .so-far clock;
     }))

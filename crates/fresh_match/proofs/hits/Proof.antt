@@ -1,10 +1,11 @@
 -- `fresh_match::hits` meets its contract, by what the look found.
-use mathlib.Core.Path.{sym, ap, _∙_}
+use mathlib.Core.Path.{sym, ap}
 use mathlib.Core.List.{List}
 use Prim.Native.Nat.{ℕ}
 use lib.Dec.{eqb}
 use lib.ListN.{getD}
 use borrow.Author.Needs.{needs}
+use Rattle.fresh_match.proofs.PlainLaws.{plain-met}
 use Rattle.fresh_match.proofs.hits.Statement.{statement}
 use Rattle.fresh_match.proofs.hits.Tie as tie
 
@@ -21,6 +22,9 @@ enum-told-2 c = search needs
 
 plain-entry-requires : tie.Need-plain-entry-requires
 plain-entry-requires c κs = search needs
+
+held-requires : tie.Need-held-requires
+held-requires c κs = search needs
 
 enum-told-3 : tie.Need-enum-told-3
 enum-told-3 c = search needs
@@ -41,13 +45,11 @@ same-length c = search needs
 
 returns-2 : tie.Need-returns-2
 returns-2 c =
-    let p = c .before .before in
+    let p = c .before .before .before in
     let told = p .before .before in
+    let a = told .before .before .before .before .before .before .args in
     let all = rw (told .enum-told2 .given .1) at (told .before .before .look .ensures) in
-    record {
-      counted = λ r clock is. sym (ap (λ (nine : List ℕ). eqb (getD nine 0 0) 1) (all r clock is));
-      entered = λ e r clock is. p .plain-entry .ensures ∙ sym (all r clock is);
-    }
+    plain-met (c .held .result) (p .plain-entry .last .0) (a .words .now) (a .o) (a .n) (a .state .now) (p .plain-entry .ensures) all (c .held .ensures)
 
 same-length-2 : tie.Need-same-length-2
 same-length-2 c = search needs
@@ -63,6 +65,7 @@ hits-spec =
     enum-told
     enum-told-2
     plain-entry-requires
+    held-requires
     enum-told-3
     whole-match-requires
     returns

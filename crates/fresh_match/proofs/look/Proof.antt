@@ -1,6 +1,6 @@
 -- `fresh_match::look` meets its contract: each word at which it gives up shuts the rule; and as long as no variable is met, what is left of the tests gives what all give.
 use Prim.Native.Nat.{ℕ, _≤_, _<_, _-_, _*_, _+_, _%_}
-use mathlib.Core.Path.{_≡_, refl, sym, ap, _∙_}
+use mathlib.Core.Path.{_≡_, refl, sym, _∙_}
 use mathlib.Core.Bool.{true}
 use mathlib.Core.List.{List}
 use mathlib.Core.Logic.{⊎-elim}
@@ -8,15 +8,17 @@ use borrow.Author.Needs.{needs}
 use native.Mathlib.Omega.{arith}
 use lib.ListN.{getD}
 use Rattle.meaning.specs.State.{nothing}
-use Rattle.layout.specs.Rows.{testsIn}
+use Rattle.meaning.specs.Match.{queriesHold}
+use Rattle.layout.specs.Rows.{testsIn, queriesAt}
 use Rattle.layout.specs.StateWords.{buffersIn, stateIn}
 use Rattle.read_terms.proofs.MaskWalk.{Walk, walk-start, walk-next, walk-on, walk-off, walk-end}
-use Rattle.match_rule.specs.Run.{Vars, Run, on, thenOn, termsRun, testsRun, noVars, entryWords}
+use Rattle.match_rule.specs.Run.{Vars, Run, on, thenOn, termsRun, testsRun, noVars}
 use Rattle.match_rule.proofs.TestLaws.{left, testsFrom, slots-end, tests-end}
 use Rattle.match_rule.proofs.WordMatch.{flat-on, flat-slot, flat-skip}
 use Rattle.match_rule.proofs.Link.{entry-words}
 use Rattle.match_rule.proofs.ShutLaws.{delay-shuts, type-shuts, symbol-shuts}
 use Rattle.fresh_match.proofs.SymbolLaws.{symbol-on}
+use Rattle.fresh_match.proofs.PlainLaws.{plain-words}
 use Rattle.fresh_match.proofs.look.Statement.{statement}
 use Rattle.fresh_match.proofs.look.Tie as tie
 
@@ -236,7 +238,9 @@ returns-5 c =
     let w = a .words .now in
     let all : on noVars ≡ testsRun (buffersIn (a .state .now)) (testsIn w (a .o) (a .n)) noVars =
     tests-end w (buffersIn (a .state .now)) (a .o) (a .n) (l .i) (l .q) noVars (c .loop-test .left) ∙ l .inv .2 in
-    λ r clock is. sym (entry-words w (a .o) (a .n) r (stateIn (a .state .now) clock) is) ∙ ap entryWords (sym all)
+    λ r clock is.
+    let s = stateIn (a .state .now) clock in
+    sym (entry-words w (a .o) (a .n) r s is) ∙ plain-words (testsRun (buffersIn (a .state .now)) (testsIn w (a .o) (a .n)) noVars) (queriesHold (queriesAt w (a .o)) s) all
 
 pub look-spec : {M : Type 1} → statement M
 look-spec =
