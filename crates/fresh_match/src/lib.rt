@@ -81,12 +81,12 @@ fn held(words: &[u16], o: usize, state: &[u16]) -> bool
     ensures { λ r. ⌜ ((clock : ℕ) → r ≡ queriesHold (queriesAt (now (words .entry)) o) (stateIn (now (state .entry)) clock)) ⌝ }
 {
     let m = words[o + ASKED_AT] as usize;
-    let mut i = 0;
-    while i < m {
-        if !answers(words[o + QUERIES_AT + i], state) {
+    let mut asked = 0;
+    while asked < m {
+        if !answers(words[o + QUERIES_AT + asked], state) {
             return false;
         }
-        i += 1;
+        asked += 1;
     }
     true
 }

@@ -13,11 +13,11 @@ use Rattle.fresh_match.proofs.held.Statement.{statement}
 use Rattle.fresh_match.proofs.held.Tie as tie
 
 abbrev Inv-loop : tie.InvT-loop
-Inv-loop words o state m i₀ i = (i ≤ m)
-    × ((clock : ℕ) → queriesHold (queriesFrom words (o + 89) i (m - i)) (stateIn state clock) ≡ queriesHold (queriesAt words o) (stateIn state clock))
+Inv-loop words o state m asked₀ asked = (asked ≤ m)
+    × ((clock : ℕ) → queriesHold (queriesFrom words (o + 89) asked (m - asked)) (stateIn state clock) ≡ queriesHold (queriesAt words o) (stateIn state clock))
 
 abbrev μ-loop : tie.MeasureT-loop
-μ-loop words o state m i₀ i = m - i
+μ-loop words o state m asked₀ asked = m - asked
 
 -- ---- the places of the code, each named once
 
@@ -68,10 +68,10 @@ returns c clock =
     let at = c .before in
     let l = turn at .before in
     let a = start l .args in
-    sym (refused (a .words .now) (a .o) (l .loop .i) (turn at .loop-test .taken) (a .state .now) clock (sym (at .answers .ensures) ∙ not-true _ (c .if1 .taken)))
+    sym (refused (a .words .now) (a .o) (l .loop .asked) (turn at .loop-test .taken) (a .state .now) clock (sym (at .answers .ensures) ∙ not-true _ (c .if1 .taken)))
 
-add-i : tie.Need-add-i Inv-loop μ-loop
-add-i c = search needs
+add-asked : tie.Need-add-asked Inv-loop μ-loop
+add-asked c = search needs
 
 loop-less : tie.Need-loop-less Inv-loop μ-loop
 loop-less c = search needs
@@ -83,14 +83,14 @@ loop-again c =
     let a = start l .args in
     let yes = sym (at .answers .ensures) ∙ not-false _ (c .if1 .left) in (
       search needs,
-      λ clock. queries-turn (a .words .now) (a .state .now) clock (a .o + 89) (getD (a .words .now) (a .o + 88) 0) (l .loop .i) (turn at .loop-test .taken) yes ∙ l .loop .inv .1 clock,
+      λ clock. queries-turn (a .words .now) (a .state .now) clock (a .o + 89) (getD (a .words .now) (a .o + 88) 0) (l .loop .asked) (turn at .loop-test .taken) yes ∙ l .loop .inv .1 clock,
     )
 
 returns-2 : tie.Need-returns-2 Inv-loop μ-loop
 returns-2 c clock =
     let l = c .before in
     let a = start l .args in
-    sym (queries-end (a .words .now) (a .state .now) clock (a .o + 89) (getD (a .words .now) (a .o + 88) 0) (l .loop .i) (c .loop-test .left)) ∙ l .loop .inv .1 clock
+    sym (queries-end (a .words .now) (a .state .now) clock (a .o + 89) (getD (a .words .now) (a .o + 88) 0) (l .loop .asked) (c .loop-test .left)) ∙ l .loop .inv .1 clock
 
 pub held-spec : {M : Type 1} → statement M
 held-spec =
@@ -109,7 +109,7 @@ held-spec =
     shared-slice-read-answers
     answers-requires
     returns
-    add-i
+    add-asked
     loop-less
     loop-again
     returns-2)
