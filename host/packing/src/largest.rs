@@ -24,6 +24,7 @@ pub fn largest() -> ModelSpec {
         opening: vec![ChunkSpec::new(1, &values); usize::from(BUFFERS)],
         facts: (0..512).map(fact).collect(),
         rules: (0..RULES).map(rule).collect(),
+        ..ModelSpec::default()
     }
 }
 
@@ -39,5 +40,6 @@ fn rule(number: usize) -> RuleSpec {
         variables: SLOTS as u8,
         tests: (0..BUFFERS).map(|buffer| TestSpec::new(buffer, 1, &named(SLOTS))).collect(),
         actions: (0..BUFFERS).map(request).collect(),
+        ..RuleSpec::default()
     }
 }

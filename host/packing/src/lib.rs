@@ -12,5 +12,7 @@ mod writer;
 pub use largest::largest;
 pub use model_a::model_a;
 pub use pack::{pack, pack_under, pack_with_fields, Packed};
-pub use spec::{ActionSpec, ChunkSpec, Deed, FactSpec, Header, ModelSpec, PatternSpec, RuleSpec, Term, TestSpec};
+pub use spec::{
+    ActionSpec, ChunkSpec, Deed, FactSpec, Header, ModelSpec, PatternSpec, QuerySpec, RuleSpec, Term, TestSpec,
+};
 pub use writer::{Field, Role, Writer};

@@ -17,6 +17,7 @@ pub fn model_a() -> ModelSpec {
         opening: vec![ChunkSpec::new(2, &[1, 3]), ChunkSpec::nil()],
         facts: vec![successor(1, 2), successor(2, 3)],
         rules: vec![start(), go_on(), stop()],
+        ..ModelSpec::default()
     }
 }
 
@@ -27,6 +28,7 @@ fn start() -> RuleSpec {
         variables: 1,
         tests: vec![TestSpec::new(GOAL, 2, &[(0, V0)]), TestSpec::new(RETRIEVAL, 0, &[])],
         actions: vec![ActionSpec::request(RETRIEVAL, 1, &[(0, V0)])],
+        ..RuleSpec::default()
     }
 }
 
@@ -37,6 +39,7 @@ fn go_on() -> RuleSpec {
         variables: 2,
         tests: vec![TestSpec::new(GOAL, 2, &[(0, V0)]), TestSpec::new(RETRIEVAL, 1, &[(0, V0), (1, V1)])],
         actions: vec![ActionSpec::modify(GOAL, &[(0, V1)]), ActionSpec::request(RETRIEVAL, 1, &[(0, V1)])],
+        ..RuleSpec::default()
     }
 }
 
@@ -47,5 +50,6 @@ fn stop() -> RuleSpec {
         variables: 1,
         tests: vec![TestSpec::new(GOAL, 2, &[(0, V0), (1, V0)])],
         actions: vec![ActionSpec::clear(GOAL)],
+        ..RuleSpec::default()
     }
 }

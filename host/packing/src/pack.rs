@@ -1,7 +1,10 @@
 //! From a model to the bytes of its image.
 
-use crate::spec::{ActionSpec, ChunkSpec, Deed, Header, ModelSpec, PatternSpec, RuleSpec, Term};
+use crate::spec::{ActionSpec, ChunkSpec, Deed, Header, ModelSpec, PatternSpec, QuerySpec, RuleSpec, Term};
 use crate::writer::{Field, Role, Writer};
+
+/// The version whose rules have queries.
+const WITH_QUERIES: u16 = 2;
 
 /// An image and where its fields lie.
 #[derive(Clone, Debug)]
@@ -67,7 +70,7 @@ pub fn pack_under(header: &Header, spec: &ModelSpec) -> Packed {
         writer.put(Role::Latency, 16, fact.latency);
     }
     for rule in &spec.rules {
-        put_rule(&mut writer, rule);
+        put_rule(&mut writer, header.version == WITH_QUERIES, rule);
     }
     Packed { bytes: writer.bytes, fields: writer.fields }
 }
@@ -80,8 +83,8 @@ fn put_chunk(writer: &mut Writer, isa: Role, slot: Role, chunk: &ChunkSpec) {
     }
 }
 
-/// A rule with its tests and actions.
-fn put_rule(writer: &mut Writer, rule: &RuleSpec) {
+/// A rule with its tests, its queries where the version has them, and its actions.
+fn put_rule(writer: &mut Writer, with_queries: bool, rule: &RuleSpec) {
     writer.put(Role::Utility, 16, rule.utility);
     writer.put(Role::Tests, 4, rule.tests.len() as u16);
     writer.put(Role::Actions, 4, rule.actions.len() as u16);
@@ -91,8 +94,20 @@ fn put_rule(writer: &mut Writer, rule: &RuleSpec) {
         writer.put(Role::TestType, 6, u16::from(test.isa));
         put_pattern(writer, Role::TestMask, Role::TestTerm, &test.pattern);
     }
+    if with_queries {
+        put_queries(writer, &rule.queries);
+    }
     for action in &rule.actions {
         put_action(writer, action);
+    }
+}
+
+/// The number of queries, and each of them.
+fn put_queries(writer: &mut Writer, queries: &[QuerySpec]) {
+    writer.put(Role::Queries, 4, queries.len() as u16);
+    for query in queries {
+        writer.put(Role::QueryBuffer, 3, u16::from(query.buffer));
+        writer.put(Role::QueryKind, 2, u16::from(query.kind));
     }
 }
 

@@ -49,6 +49,15 @@ pub struct TestSpec {
     pub pattern: PatternSpec,
 }
 
+/// A query.
+#[derive(Clone, Copy, PartialEq, Eq, Debug, Default)]
+pub struct QuerySpec {
+    /// Buffer number.
+    pub buffer: u8,
+    /// The kind field: 0 busy, 1 free, 2 error; 3 is not allowed.
+    pub kind: u8,
+}
+
 /// What an action does.
 #[derive(Clone, PartialEq, Eq, Debug)]
 pub enum Deed {
@@ -80,6 +89,8 @@ pub struct RuleSpec {
     pub variables: u8,
     /// Tests.
     pub tests: Vec<TestSpec>,
+    /// Queries, which version 2 alone has.
+    pub queries: Vec<QuerySpec>,
     /// Actions.
     pub actions: Vec<ActionSpec>,
 }
@@ -87,6 +98,8 @@ pub struct RuleSpec {
 /// A whole model.
 #[derive(Clone, PartialEq, Eq, Debug, Default)]
 pub struct ModelSpec {
+    /// The version to pack; if none is set, 2 where a rule needs it, else 1.
+    pub version: Option<u8>,
     /// Failure latency in ms.
     pub failure: u16,
     /// Slot counts of types 1 to T.
@@ -102,7 +115,7 @@ pub struct ModelSpec {
 /// The first six fields of an image.
 #[derive(Clone, Copy, PartialEq, Eq, Debug)]
 pub struct Header {
-    /// Version, 1 in a valid image.
+    /// Version, 1 or 2 in a valid image.
     pub version: u16,
     /// Number of buffers.
     pub buffers: u16,
@@ -120,13 +133,19 @@ impl ModelSpec {
     /// The header that tells the truth about this model.
     pub fn header(&self) -> Header {
         Header {
-            version: 1,
+            version: u16::from(self.packed_version()),
             buffers: self.opening.len() as u16,
             types: self.types.len() as u16,
             rules: self.rules.len() as u16,
             facts: self.facts.len() as u16,
             failure: self.failure,
         }
+    }
+
+    /// The version that is packed: the one that was set, or the first that holds every rule.
+    fn packed_version(&self) -> u8 {
+        let plain = self.rules.iter().all(|rule| rule.queries.is_empty() && !rule.tests.is_empty());
+        self.version.unwrap_or(if plain { 1 } else { 2 })
     }
 
     /// Slots of a type; 0 for type 0 and for a type that is not declared.
@@ -170,6 +189,23 @@ impl TestSpec {
     /// A test of a buffer for a type and named slots.
     pub fn new(buffer: u8, isa: u8, named: &[(usize, Term)]) -> TestSpec {
         TestSpec { buffer, isa, pattern: PatternSpec::new(named) }
+    }
+}
+
+impl QuerySpec {
+    /// Whether a chunk is on its way.
+    pub fn busy(buffer: u8) -> QuerySpec {
+        QuerySpec { buffer, kind: 0 }
+    }
+
+    /// Whether nothing is on its way.
+    pub fn free(buffer: u8) -> QuerySpec {
+        QuerySpec { buffer, kind: 1 }
+    }
+
+    /// Whether the last request found no fact, and that is seen by now.
+    pub fn error(buffer: u8) -> QuerySpec {
+        QuerySpec { buffer, kind: 2 }
     }
 }
 

@@ -25,6 +25,9 @@ pub enum Role {
     TestType,
     TestMask,
     TestTerm,
+    Queries,
+    QueryBuffer,
+    QueryKind,
     ActionBuffer,
     ActionKind,
     RequestType,
@@ -35,11 +38,11 @@ pub enum Role {
 impl Role {
     /// Whether all other fields stay where they are if such a field gets another value: it says neither how much follows, nor what.
     pub fn keeps_places(self) -> bool {
-        let of_image = matches!(self, Role::Buffers | Role::Types | Role::Rules | Role::Facts | Role::SlotCount);
-        let of_chunk = matches!(self, Role::OpeningType | Role::FactType);
-        let of_rule =
-            matches!(self, Role::Tests | Role::Actions | Role::TestMask | Role::ActionKind | Role::ActionMask);
-        !(of_image || of_chunk || of_rule)
+        let of_header = matches!(self, Role::Version | Role::Buffers | Role::Types | Role::Rules | Role::Facts);
+        let of_chunk = matches!(self, Role::SlotCount | Role::OpeningType | Role::FactType);
+        let counts = matches!(self, Role::Tests | Role::Queries | Role::Actions);
+        let of_rule = matches!(self, Role::TestMask | Role::ActionKind | Role::ActionMask);
+        !(of_header || of_chunk || counts || of_rule)
     }
 
     /// Whether it is a term of a test or of an action.

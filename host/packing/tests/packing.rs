@@ -1,7 +1,8 @@
 //! The packed bytes of small models, by hand.
 
 use jirvuntsag_packing::{
-    largest, model_a, pack, pack_under, pack_with_fields, ChunkSpec, Header, ModelSpec, PatternSpec, Role, Term,
+    largest, model_a, pack, pack_under, pack_with_fields, ChunkSpec, Header, ModelSpec, PatternSpec, QuerySpec, Role,
+    RuleSpec, Term,
 };
 
 #[test]
@@ -81,6 +82,69 @@ fn some_fields_say_where_others_are() {
     other.rules[0].tests[1].pattern = PatternSpec::new(&[(0, Term::Symbol(1))]);
     assert_ne!(places(&one), places(&other));
     assert!(!Role::TestMask.keeps_places());
+}
+
+/// The version says whether there are queries, their number how many; a query is always as long.
+#[test]
+fn queries_that_differ_leave_the_others_in_their_places() {
+    let ends = |spec: &ModelSpec| pack_with_fields(spec).fields.last().map(|field| field.at + field.width);
+    let (one, mut other, mut more) = (asks(), asks(), asks());
+    other.rules[0].queries = vec![QuerySpec::error(5)];
+    more.rules[0].queries.push(QuerySpec::free(1));
+    assert_eq!(ends(&one), ends(&other));
+    assert!([Role::QueryBuffer, Role::QueryKind].iter().all(|role| role.keeps_places()));
+    assert!(ends(&one) != ends(&more) && ends(&one) != ends(&ModelSpec { version: Some(1), ..asks() }));
+    assert!([Role::Queries, Role::Version].iter().all(|role| !role.keeps_places()));
+}
+
+/// One buffer and a rule without tests that asks whether it is free.
+fn asks() -> ModelSpec {
+    let rule = RuleSpec { queries: vec![QuerySpec::free(0)], ..RuleSpec::default() };
+    ModelSpec { opening: vec![ChunkSpec::nil()], rules: vec![rule], ..ModelSpec::default() }
+}
+
+#[test]
+fn queries_lie_between_tests_and_actions() {
+    let packed = pack_with_fields(&asks());
+    assert_eq!(packed.bytes, [2, 0x10, 0, 0x20, 0, 0, 0, 0, 0, 0, 0, 0x21]);
+    let last: Vec<_> = packed.fields.iter().rev().take(4).map(|field| (field.role, field.at, field.width)).collect();
+    let queries = [(Role::QueryKind, 94, 2), (Role::QueryBuffer, 91, 3), (Role::Queries, 87, 4)];
+    assert_eq!(last, [queries[0], queries[1], queries[2], (Role::Variables, 83, 4)]);
+}
+
+#[test]
+fn a_version_is_the_one_that_is_set_or_the_first_that_will_do() {
+    let version = |spec: &ModelSpec| pack(spec)[0];
+    let set = |version| ModelSpec { version: Some(version), ..model_a() };
+    assert_eq!([version(&model_a()), version(&set(2)), version(&set(4))], [1, 2, 4]);
+    let (mut asking, mut untested) = (model_a(), model_a());
+    asking.rules[1].queries.push(QuerySpec::busy(1));
+    untested.rules[2].tests.clear();
+    assert_eq!([version(&asking), version(&untested)], [2, 2]);
+}
+
+#[test]
+fn only_version_2_has_queries() {
+    let count = |version, role| {
+        let packed = pack_with_fields(&ModelSpec { version: Some(version), ..asks() });
+        packed.fields.iter().filter(|field| field.role == role).count()
+    };
+    assert_eq!([count(2, Role::Queries), count(2, Role::QueryKind)], [1, 1]);
+    assert_eq!([count(1, Role::Queries), count(1, Role::QueryKind)], [0, 0]);
+    let plain = pack_with_fields(&ModelSpec { version: Some(2), ..model_a() });
+    assert_eq!(plain.nth(Role::Queries, 2).map(|field| field.get(&plain.bytes)), Some(0));
+}
+
+#[test]
+fn kinds_are_packed_as_they_stand() {
+    let kinds = [QuerySpec::busy(1), QuerySpec::free(1), QuerySpec::error(1), QuerySpec { buffer: 1, kind: 3 }];
+    for (number, query) in kinds.into_iter().enumerate() {
+        let mut spec = asks();
+        spec.rules[0].queries = vec![query];
+        let packed = pack_with_fields(&spec);
+        let value = |role| packed.nth(role, 0).map(|field| field.get(&packed.bytes));
+        assert_eq!((value(Role::QueryBuffer), value(Role::QueryKind)), (Some(1), Some(number as u16)));
+    }
 }
 
 #[test]
