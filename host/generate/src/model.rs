@@ -162,7 +162,7 @@ impl Draft<'_> {
         if self.shape.actions > 0 && self.rng.chance(self.shape.lively) {
             self.enliven(&tests, &mut actions);
         }
-        RuleSpec { utility, variables: variables as u8, tests, actions }
+        RuleSpec { utility, variables: variables as u8, tests, actions, ..RuleSpec::default() }
     }
 
     /// A rule that fills a slot for another, where that has a variable; any rule if it has none.
@@ -176,7 +176,7 @@ impl Draft<'_> {
         }
         let variables = renumber(&mut tests) as u8;
         let actions = vec![ActionSpec::modify(buffer, &[(slot, Term::Symbol(self.filled()))])];
-        RuleSpec { utility: other.utility, variables, tests, actions }
+        RuleSpec { utility: other.utility, variables, tests, actions, ..RuleSpec::default() }
     }
 
     /// Lets the rule change a buffer that it tests, so that it mostly does not match again at once.
