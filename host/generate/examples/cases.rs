@@ -1,6 +1,6 @@
 //! Writes calls for the drivers in `host/c` to standard output: `cargo run --example cases -- COUNT [SEED]`.
 //!
-//! A case is, in little-endian words of 32 bits: the image's length and its bytes; the 81 words of a state; the table's
+//! A case is, in little-endian words of 32 bits: the image's length and its bytes; the 89 words of a state; the table's
 //! length and its words of 16 bits; the mark; the steps; the store's length and its words of 16 bits. The first case is
 //! model A from its opening, the second the largest image; then come each cut and each flipped bit of model A, and COUNT
 //! random cases.
@@ -25,6 +25,9 @@ fn opening(image: Vec<u8>) -> Case {
     Case { image, state, table, mark: 1, steps: STEPS, store: vec![0; STORE_WORDS] }
 }
 
+/// Words of a buffer in a state's words: type, slots, delay, error flag.
+const BUFFER_WORDS: usize = 11;
+
 /// The words of a case's state, one of them too large for its field in about one case of ten.
 fn state_words(rng: &mut Rng, case: &Case) -> Vec<u32> {
     let mut words = vec![case.state.clock];
@@ -32,9 +35,13 @@ fn state_words(rng: &mut Rng, case: &Case) -> Vec<u32> {
         words.push(u32::from(buffer.isa));
         words.extend(buffer.slots.map(u32::from));
         words.push(u32::from(buffer.delay));
+        words.push(u32::from(buffer.error));
     }
     if rng.chance(10) {
-        words[rng.from_to(1, 80)] |= 1 << rng.from_to(16, 31);
+        let at = rng.from_to(1, words.len() - 1);
+        // An error flag is one bit, every other word of a buffer sixteen.
+        let bits = if at % BUFFER_WORDS == 0 { 1 } else { 16 };
+        words[at] |= 1 << rng.from_to(bits, 31);
     }
     words
 }

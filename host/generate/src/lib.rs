@@ -7,6 +7,7 @@ mod case;
 mod image;
 mod model;
 mod places;
+mod queries;
 mod rng;
 mod seeds;
 mod shape;

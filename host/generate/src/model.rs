@@ -1,10 +1,11 @@
 //! Random valid models.
 
 use jirvuntsag_packing::{
-    pack, ActionSpec, ChunkSpec, Deed, FactSpec, ModelSpec, PatternSpec, RuleSpec, Term, TestSpec,
+    pack, ActionSpec, ChunkSpec, Deed, FactSpec, ModelSpec, PatternSpec, QuerySpec, RuleSpec, Term, TestSpec,
 };
 
 use crate::places::{variable_places, Place};
+use crate::queries::query;
 use crate::rng::Rng;
 use crate::shape::Shape;
 
@@ -60,8 +61,9 @@ pub fn model_of(rng: &mut Rng, shape: Shape) -> ModelSpec {
 }
 
 impl Draft<'_> {
-    /// Failure latency, slot counts and lanes.
+    /// Version, failure latency, slot counts and lanes.
     fn declare(&mut self) {
+        self.spec.version = Some(self.shape.version);
         self.spec.failure = self.time();
         for _ in 0..self.shape.types {
             let most = self.shape.slots;
@@ -150,19 +152,44 @@ impl Draft<'_> {
     /// A rule whose variables all stand in its tests.
     fn rule(&mut self) -> RuleSpec {
         let utility = if self.rng.chance(75) { self.rng.pick(&UTILITIES) } else { self.rng.word() as u16 };
+        // Seldom no tests: such a rule matches in most states, and runs would stay at it.
+        let untested = self.has_queries() && self.rng.chance(8);
+        let (tests, variables) = if untested { (Vec::new(), 0) } else { self.tests() };
+        let queries = self.queries(&tests);
+        let size = self.count(0, self.shape.actions.min(self.shape.buffers));
+        let buffers = self.rng.subset(self.shape.buffers, size);
+        let mut actions = buffers.iter().map(|&buffer| self.action(buffer, &tests, variables)).collect();
+        if self.shape.actions > 0 && self.rng.chance(self.shape.lively) {
+            self.enliven(&tests, &queries, &mut actions);
+        }
+        RuleSpec { utility, variables: variables as u8, tests, queries, actions }
+    }
+
+    /// Whether the rules have queries.
+    fn has_queries(&self) -> bool {
+        self.shape.version == 2
+    }
+
+    /// The tests of a rule, at least one, and how many variables stand in them.
+    fn tests(&mut self) -> (Vec<TestSpec>, u16) {
         let least = if self.rng.chance(60) { self.shape.variables.min(1) } else { 0 };
         let variables = self.rng.from_to(least, self.shape.variables) as u16;
         let size = self.count(1, self.shape.tests.clamp(1, self.shape.buffers));
         let buffers = self.rng.subset(self.shape.buffers, size);
         let mut tests: Vec<TestSpec> = buffers.iter().map(|&buffer| self.test(buffer, variables)).collect();
         let variables = renumber(&mut tests);
-        let size = self.count(0, self.shape.actions.min(self.shape.buffers));
-        let buffers = self.rng.subset(self.shape.buffers, size);
-        let mut actions = buffers.iter().map(|&buffer| self.action(buffer, &tests, variables)).collect();
-        if self.shape.actions > 0 && self.rng.chance(self.shape.lively) {
-            self.enliven(&tests, &mut actions);
+        (tests, variables)
+    }
+
+    /// The queries of a rule: none in about half of the rules, at least one if it has no tests.
+    fn queries(&mut self, tests: &[TestSpec]) -> Vec<QuerySpec> {
+        let least = usize::from(tests.is_empty());
+        if !self.has_queries() || least == 0 && self.rng.chance(50) {
+            return Vec::new();
         }
-        RuleSpec { utility, variables: variables as u8, tests, actions, ..RuleSpec::default() }
+        let size = self.count(least, self.shape.queries.clamp(least, self.shape.buffers));
+        let buffers = self.rng.subset(self.shape.buffers, size);
+        buffers.into_iter().map(|buffer| query(self.rng, buffer as u8, tests)).collect()
     }
 
     /// A rule that fills a slot for another, where that has a variable; any rule if it has none.
@@ -176,11 +203,30 @@ impl Draft<'_> {
         }
         let variables = renumber(&mut tests) as u8;
         let actions = vec![ActionSpec::modify(buffer, &[(slot, Term::Symbol(self.filled()))])];
-        RuleSpec { utility: other.utility, variables, tests, actions, ..RuleSpec::default() }
+        RuleSpec { utility: other.utility, variables, tests, queries: other.queries.clone(), actions }
     }
 
-    /// Lets the rule change a buffer that it tests, so that it mostly does not match again at once.
-    fn enliven(&mut self, tests: &[TestSpec], actions: &mut Vec<ActionSpec>) {
+    /// Lets the rule change a buffer that it tests, or asks if it tests none, so that it mostly does not match again at once.
+    fn enliven(&mut self, tests: &[TestSpec], queries: &[QuerySpec], actions: &mut Vec<ActionSpec>) {
+        let change = if tests.is_empty() { self.change_asked(queries) } else { self.change_tested(tests) };
+        // One action for each buffer, and buffers rise.
+        actions.retain(|action| action.buffer != change.buffer);
+        actions.push(change);
+        actions.sort_by_key(|action| action.buffer);
+    }
+
+    /// An action that mostly ends a query: a request makes its buffer busy, or free of an error.
+    fn change_asked(&mut self, queries: &[QuerySpec]) -> ActionSpec {
+        let QuerySpec { buffer, .. } = self.rng.pick(queries);
+        if self.shape.types == 0 || self.rng.chance(20) {
+            return ActionSpec::clear(buffer);
+        }
+        let isa = self.type_for(usize::from(buffer)).max(1);
+        ActionSpec { buffer, deed: Deed::Request(isa, self.pattern(isa, 0, 0)) }
+    }
+
+    /// An action that mostly ends a test.
+    fn change_tested(&mut self, tests: &[TestSpec]) -> ActionSpec {
         let test = &tests[self.rng.below(tests.len())];
         let named: Vec<(usize, Term)> = test.pattern.named().collect();
         let deed = if !named.is_empty() && self.rng.chance(80) {
@@ -198,10 +244,7 @@ impl Draft<'_> {
         } else {
             Deed::Clear
         };
-        // One action for each buffer, and buffers rise.
-        actions.retain(|action| action.buffer != test.buffer);
-        actions.push(ActionSpec { buffer: test.buffer, deed });
-        actions.sort_by_key(|action| action.buffer);
+        ActionSpec { buffer: test.buffer, deed }
     }
 
     /// A test of a buffer.

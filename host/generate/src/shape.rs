@@ -2,9 +2,14 @@
 
 use crate::rng::Rng;
 
+/// Versions that open.
+const VERSIONS: [u8; 2] = [1, 2];
+
 /// Counts of a model and limits for what they leave open.
 #[derive(Clone, Copy, PartialEq, Eq, Debug)]
 pub struct Shape {
+    /// Version of the image, 1 or 2.
+    pub version: u8,
     /// Buffers, 1 to 8.
     pub buffers: usize,
     /// Declared types, 0 to 63.
@@ -19,6 +24,8 @@ pub struct Shape {
     pub variables: usize,
     /// Most tests of a rule, 1 to 8.
     pub tests: usize,
+    /// Most queries of a rule, 0 to 8; version 1 has none.
+    pub queries: usize,
     /// Most actions of a rule, 0 to 8.
     pub actions: usize,
     /// Symbols used, 1 to 4,096; few of them give many matches.
@@ -35,6 +42,7 @@ impl Shape {
     /// A few buffers, types and rules: the common case.
     pub fn small(rng: &mut Rng) -> Shape {
         Shape {
+            version: rng.pick(&VERSIONS),
             buffers: rng.from_to(1, 3),
             types: rng.from_to(1, 4),
             slots: rng.from_to(1, 4),
@@ -42,6 +50,7 @@ impl Shape {
             rules: rng.from_to(1, 20),
             variables: rng.below(5),
             tests: rng.from_to(1, 3),
+            queries: rng.from_to(1, 3),
             actions: rng.below(4),
             symbols: rng.from_to(2, 5),
             full: rng.pick(&[0, 10, 30]),
@@ -54,6 +63,7 @@ impl Shape {
     pub fn bare(rng: &mut Rng) -> Shape {
         let buffers = rng.from_to(1, 8);
         Shape {
+            version: rng.pick(&VERSIONS),
             buffers,
             types: 0,
             slots: 0,
@@ -61,6 +71,7 @@ impl Shape {
             rules: rng.below(6),
             variables: 0,
             tests: 8,
+            queries: 8,
             actions: 8,
             symbols: 1,
             full: 0,
@@ -72,6 +83,7 @@ impl Shape {
     /// All eight buffers, slots and variables.
     pub fn wide(rng: &mut Rng) -> Shape {
         Shape {
+            version: rng.pick(&VERSIONS),
             buffers: 8,
             types: rng.from_to(1, 6),
             slots: 8,
@@ -79,6 +91,7 @@ impl Shape {
             rules: rng.from_to(1, 30),
             variables: 8,
             tests: 8,
+            queries: 8,
             actions: 8,
             symbols: rng.from_to(2, 4),
             full: 20,
@@ -108,8 +121,9 @@ impl Shape {
     }
 
     /// 256 rules, 512 facts, 8 buffers and 63 types: about as much as an image can hold.
-    pub fn largest() -> Shape {
+    pub fn largest(rng: &mut Rng) -> Shape {
         Shape {
+            version: rng.pick(&VERSIONS),
             buffers: 8,
             types: 63,
             slots: 8,
@@ -117,6 +131,7 @@ impl Shape {
             rules: 256,
             variables: 8,
             tests: 8,
+            queries: 8,
             actions: 8,
             symbols: 4_096,
             full: 85,
@@ -135,7 +150,7 @@ impl Shape {
             87..=92 => Shape::all_types(rng),
             93..=95 => Shape::many_rules(rng),
             96..=98 => Shape::many_facts(rng),
-            _ => Shape::largest(),
+            _ => Shape::largest(rng),
         }
     }
 }

@@ -1,6 +1,6 @@
 //! Random states, clocks, marks and step counts.
 
-use jirvuntsag_packing::{ModelSpec, RuleSpec, Term};
+use jirvuntsag_packing::{ModelSpec, QuerySpec, RuleSpec, Term};
 use jirvuntsag_reference::{Buffer, State};
 
 use crate::places::variable_places;
@@ -33,8 +33,10 @@ pub enum BrokenBy {
     Value,
     /// A value past the type's slots.
     Past,
-    /// A type, value or delay in a buffer past the count.
+    /// A type, value, delay or error flag in a buffer past the count.
     Unused,
+    /// An error flag beside a chunk that is not nil.
+    Flag,
 }
 
 /// A well-formed state, often one in which some rule matches.
@@ -59,7 +61,7 @@ pub fn state(rng: &mut Rng, spec: &ModelSpec) -> State {
     state
 }
 
-/// A buffer with a chunk of this type, sometimes pending.
+/// A buffer with a chunk of this type, sometimes pending; nil sometimes with its error flag.
 fn buffer(rng: &mut Rng, spec: &ModelSpec, isa: u8) -> Buffer {
     let mut buffer = Buffer { isa: u16::from(isa), ..Buffer::default() };
     for slot in 0..spec.slot_count(isa) {
@@ -68,6 +70,7 @@ fn buffer(rng: &mut Rng, spec: &ModelSpec, isa: u8) -> Buffer {
     if rng.chance(35) {
         buffer.delay = rng.pick(&DELAYS);
     }
+    buffer.error = isa == 0 && rng.chance(40);
     buffer
 }
 
@@ -92,7 +95,7 @@ fn filled(rng: &mut Rng, spec: &ModelSpec) -> u16 {
     }
 }
 
-/// Changes the tested buffers so that the rule matches.
+/// Changes the tested and the queried buffers so that the rule matches, if its queries can hold beside its tests.
 fn satisfy(rng: &mut Rng, rule: &RuleSpec, spec: &ModelSpec, state: &mut State) {
     let values: Vec<u16> = (0..8).map(|_| filled(rng, spec)).collect();
     for test in &rule.tests {
@@ -105,6 +108,21 @@ fn satisfy(rng: &mut Rng, rule: &RuleSpec, spec: &ModelSpec, state: &mut State) 
             };
         }
         state.buffers[usize::from(test.buffer)] = fitting;
+    }
+    for query in &rule.queries {
+        let tested = rule.tests.iter().any(|test| test.buffer == query.buffer);
+        answer(rng, query, tested, &mut state.buffers[usize::from(query.buffer)]);
+    }
+}
+
+/// Changes a buffer so that a query of it holds; the chunk of a tested one stays.
+fn answer(rng: &mut Rng, query: &QuerySpec, tested: bool, buffer: &mut Buffer) {
+    match query.kind {
+        0 if !tested => buffer.delay = rng.pick(&DELAYS),
+        1 => buffer.delay = 0,
+        2 if !tested => *buffer = Buffer { error: true, ..Buffer::default() },
+        2 => buffer.error = buffer.isa == 0,
+        _ => (),
     }
 }
 
@@ -126,10 +144,12 @@ pub fn broken_state(rng: &mut Rng, spec: &ModelSpec) -> (BrokenBy, State) {
     let used = spec.opening.len();
     let b = rng.below(used);
     let count = spec.slot_count(state.buffers[b].isa as u8);
-    let way = match rng.below(4) {
+    let held: Vec<usize> = (0..used).filter(|&b| state.buffers[b].isa != 0).collect();
+    let way = match rng.below(5) {
         0 if count > 0 => BrokenBy::Value,
         1 if count < 8 => BrokenBy::Past,
         2 if used < 8 => BrokenBy::Unused,
+        3 if !held.is_empty() => BrokenBy::Flag,
         _ => BrokenBy::Type,
     };
     let bad_value = rng.pick(&[4_096, 4_097, 8_192, 65_535]);
@@ -137,6 +157,7 @@ pub fn broken_state(rng: &mut Rng, spec: &ModelSpec) -> (BrokenBy, State) {
         BrokenBy::Value => state.buffers[b].slots[rng.below(count)] = bad_value,
         BrokenBy::Past => state.buffers[b].slots[rng.from_to(count, 7)] = rng.pick(&[1, 4_095, 65_535]),
         BrokenBy::Unused => spoil_unused(rng, &mut state.buffers[used..]),
+        BrokenBy::Flag => state.buffers[rng.pick(&held)].error = true,
         BrokenBy::Type => {
             let above = spec.types.len() as u16 + 1;
             state.buffers[b].isa = rng.pick(&[above, above + 1, above | 64, above | 256, 65_535]);
@@ -148,10 +169,11 @@ pub fn broken_state(rng: &mut Rng, spec: &ModelSpec) -> (BrokenBy, State) {
 /// Puts something into one of the buffers past the count.
 fn spoil_unused(rng: &mut Rng, unused: &mut [Buffer]) {
     let buffer = &mut unused[rng.below(unused.len())];
-    match rng.below(3) {
+    match rng.below(4) {
         0 => buffer.isa = rng.pick(&[1, 2, 65_535]),
         1 => buffer.slots[rng.below(8)] = rng.pick(&[1, 4_095, 65_535]),
-        _ => buffer.delay = rng.pick(&DELAYS),
+        2 => buffer.delay = rng.pick(&DELAYS),
+        _ => buffer.error = true,
     }
 }
 

@@ -6,11 +6,23 @@ use crate::plan::Plan;
 use crate::state::{Buffer, State};
 use crate::{BUFFERS, SLOTS};
 
+/// What queries see of a buffer: pending, visible, or visible after a request that found no fact.
+#[derive(Clone, Copy)]
+pub(crate) enum Standing {
+    Busy,
+    Free,
+    Failed,
+}
+
+/// How many ways to stand there are.
+pub(crate) const STANDINGS: usize = 3;
+
 /// A state of which slots are one list and delays one vector.
 pub(crate) struct Board {
     slots: [u16; BUFFERS * SLOTS],
     isas: [u16; BUFFERS],
     delays: [u16; BUFFERS],
+    errors: [bool; BUFFERS],
     pub clock: u32,
     /// For each buffer its index in the plan's `fits`.
     pub shown: [u16; BUFFERS],
@@ -23,6 +35,7 @@ impl Board {
             slots: [0; BUFFERS * SLOTS],
             isas: state.buffers.map(|buffer| buffer.isa),
             delays: state.buffers.map(|buffer| buffer.delay),
+            errors: state.buffers.map(|buffer| buffer.error),
             clock: state.clock,
             shown: [0; BUFFERS],
         };
@@ -39,7 +52,8 @@ impl Board {
     /// The state by value.
     pub fn state(&self) -> State {
         let (rows, _) = self.slots.as_chunks::<SLOTS>();
-        let buffer = |b: usize| Buffer { isa: self.isas[b], slots: rows[b], delay: self.delays[b] };
+        let buffer =
+            |b: usize| Buffer { isa: self.isas[b], slots: rows[b], delay: self.delays[b], error: self.errors[b] };
         State { buffers: std::array::from_fn(buffer), clock: self.clock }
     }
 
@@ -66,6 +80,23 @@ impl Board {
         (self.delays[b] == 0 && self.isas[b] != 0).then(|| Chunk { isa: self.isas[b] as u8, slots: rows[b] })
     }
 
+    /// What queries see of a buffer.
+    #[inline]
+    pub fn standing(&self, buffer: usize) -> Standing {
+        let b = buffer & (BUFFERS - 1);
+        match (self.delays[b], self.errors[b]) {
+            (0, false) => Standing::Free,
+            (0, true) => Standing::Failed,
+            _ => Standing::Busy,
+        }
+    }
+
+    /// Clears the error flag of a buffer that keeps its chunk.
+    #[inline]
+    pub fn clear_error(&mut self, buffer: u8) {
+        self.errors[usize::from(buffer) & (BUFFERS - 1)] = false;
+    }
+
     /// Sets one slot of a buffer that stays visible.
     #[inline]
     pub fn set(&mut self, place: Place, value: u16) {
@@ -80,6 +111,7 @@ impl Board {
         rows[b] = chunk.slots;
         self.isas[b] = chunk.isa;
         self.delays[b] = chunk.delay;
+        self.errors[b] = chunk.error;
     }
 
     /// Takes `ms` from every delay, not below 0; gives the buffers that became visible.

@@ -70,7 +70,7 @@ pub fn run_lent(
     }
 }
 
-/// Refreshes the entries of rules that test a marked buffer: the number, the position and how many these are.
+/// Refreshes the entries of rules that test or query a marked buffer: the number, the position and how many these are.
 pub fn refresh(image: &[u8], state: &State, mark: u16, table: &mut [u16]) -> (u8, u32, u16) {
     match Model::decode(image) {
         Ok(model) => {
@@ -104,11 +104,11 @@ pub fn trace_lent(
 }
 
 impl Model {
-    /// The opening chunks, all visible, at clock 0.
+    /// The opening chunks, all visible, with clear error flags, at clock 0.
     pub fn open_state(&self) -> State {
         let mut state = State::default();
         for (buffer, chunk) in state.buffers.iter_mut().zip(self.opening()) {
-            *buffer = Buffer { isa: u16::from(chunk.isa), slots: chunk.slots, delay: 0 };
+            *buffer = Buffer { isa: u16::from(chunk.isa), slots: chunk.slots, ..Buffer::default() };
         }
         state
     }

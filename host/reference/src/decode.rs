@@ -3,10 +3,13 @@
 use crate::bits::Reader;
 use crate::memory::Memory;
 use crate::model::Model;
-use crate::parts::{Action, Chunk, Deed, Fact, PackedTerm, Parts, Pattern, RuleHead, Test, Types};
+use crate::parts::{Action, Ask, Chunk, Deed, Fact, PackedTerm, Parts, Pattern, Query, RuleHead, Test, Types};
 use crate::plan::Plan;
 use crate::refusal::{Refusal, BROKEN, BUFFER, MASK, TOO_LONG, VARIABLE};
 use crate::{BUFFERS, IMAGE_LIMIT};
+
+/// The version whose rules have queries; the one before has none.
+const WITH_QUERIES: u8 = 2;
 
 impl Model {
     /// Decodes an image, or says why it is refused.
@@ -67,7 +70,7 @@ fn read_all(reader: &mut Reader, parts: &mut Parts) -> Option<()> {
 
 /// Version, counts and failure latency; gives the number of rules and of facts.
 fn header(reader: &mut Reader, parts: &mut Parts) -> Option<(usize, usize)> {
-    reader.judged(8, BROKEN, |version| version == 1)?;
+    parts.version = reader.judged(8, BROKEN, |version| (1..=WITH_QUERIES.into()).contains(&version))? as u8;
     parts.buffers = reader.judged(4, BROKEN, |count| (1..=8).contains(&count))? as u8;
     parts.types.count = reader.take(6)? as u8;
     let rules = reader.judged(9, BROKEN, |count| count <= 256)?;
@@ -93,15 +96,17 @@ fn read_chunk(reader: &mut Reader, types: &Types, lowest: u16, chunk: &mut Chunk
     Some(())
 }
 
-/// A rule with its tests and actions.
+/// A rule with its tests, queries and actions.
 fn read_rule(reader: &mut Reader, parts: &mut Parts) -> Option<()> {
     let buffers = u16::from(parts.buffers);
     let utility = reader.take(16)? as i16;
-    let tests = reader.judged(4, BROKEN, |count| (1..=buffers).contains(&count))?;
+    // Without queries a rule has a test; with them that is judged where they are counted.
+    let least = u16::from(parts.version != WITH_QUERIES);
+    let tests = reader.judged(4, BROKEN, |count| (least..=buffers).contains(&count))?;
     let actions = reader.judged(4, BROKEN, |count| count <= buffers)?;
     let variables = reader.judged(4, BROKEN, |count| count <= 8)? as u8;
     let mut scope = Scope { variables, bound: 0, tested: [None; BUFFERS] };
-    let (first_test, first_action) = (parts.tests.len(), parts.actions.len());
+    let (first_test, first_query, first_action) = (parts.tests.len(), parts.queries.len(), parts.actions.len());
 
     let mut open_buffers = 0..buffers;
     for _ in 0..tests {
@@ -109,9 +114,12 @@ fn read_rule(reader: &mut Reader, parts: &mut Parts) -> Option<()> {
         let test = parts.tests.last_mut()?;
         read_test(reader, &parts.types, &mut scope, &mut open_buffers, test)?;
     }
-    // A variable that stood in no test has no value; this comes before any action field.
+    // A variable that stood in no test has no value; this comes before any field of a query or an action.
     if scope.bound != (1 << variables) - 1 {
         return reader.refuse(VARIABLE, reader.at());
+    }
+    if parts.version == WITH_QUERIES {
+        read_queries(reader, buffers, u16::from(tests == 0), &mut parts.queries)?;
     }
     let mut open_buffers = 0..buffers;
     for _ in 0..actions {
@@ -123,6 +131,7 @@ fn read_rule(reader: &mut Reader, parts: &mut Parts) -> Option<()> {
         utility,
         variables,
         tests: (first_test as u16, parts.tests.len() as u16),
+        queries: (first_query as u16, parts.queries.len() as u16),
         actions: (first_action as u16, parts.actions.len() as u16),
     });
     Some(())
@@ -148,6 +157,22 @@ fn read_test(
     test.isa = read_type(reader, types, 0)?;
     scope.tested[usize::from(test.buffer)] = Some(test.isa);
     read_pattern(reader, types, scope, test.isa, &mut test.pattern)
+}
+
+/// The queries of a rule, at least so many: their number, then of each its buffer and its kind.
+fn read_queries(reader: &mut Reader, buffers: u16, least: u16, queries: &mut Vec<Query>) -> Option<()> {
+    let count = reader.judged(4, BROKEN, |count| (least..=buffers).contains(&count))?;
+    let mut open_buffers = 0..buffers;
+    for _ in 0..count {
+        let buffer = read_buffer(reader, &mut open_buffers)?;
+        let asks = match reader.judged(2, BROKEN, |kind| kind < 3)? {
+            0 => Ask::Busy,
+            1 => Ask::Free,
+            _ => Ask::Error,
+        };
+        queries.push(Query { buffer, asks });
+    }
+    Some(())
 }
 
 /// One action.

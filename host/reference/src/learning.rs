@@ -67,7 +67,7 @@ impl<'a> Learner<'a> {
     #[inline]
     pub fn answer(&self, isa: u8, wanted: &Wanted) -> Option<Buffer> {
         let found = self.find(isa, wanted.named())?;
-        Some(Buffer { isa: u16::from(isa), slots: self.slots[found], delay: LEARNED_LATENCY })
+        Some(Buffer { isa: u16::from(isa), slots: self.slots[found], delay: LEARNED_LATENCY, error: false })
     }
 
     /// The first learned fact of a type that holds the wanted values.

@@ -1,8 +1,8 @@
-//! An independent engine for document 01 with change requests 2026-01 to 2026-05; 2026-04 changes no answer.
+//! An independent engine for document 01 with change requests 2026-01 to 2026-06; 2026-04 changes no answer.
 //!
 //! An image is decoded once into ordinary structs ([`Model`]); a run keeps the
-//! matches from step to step and matches again only the rules that test a marked
-//! buffer. A fresh run ([`run_fresh`]) keeps nothing, and is written by itself.
+//! matches from step to step and matches again only the rules that test or query a
+//! marked buffer. A fresh run ([`run_fresh`]) keeps nothing, and is written by itself.
 //! Both runs can be lent a store, where cleared chunks are learned ([`run_lent`], [`run_fresh_lent`]).
 //! Every call is total: any bytes, state, table, mark, step count and store. A call on an
 //! image answers its number and the position that goes with it: the first bit of the
@@ -31,7 +31,7 @@ mod well_formed;
 pub use calls::{open, refresh, run, run_lent, table_len, trace, trace_lent, Event, Kind};
 pub use fresh::{run_fresh, run_fresh_lent, trace_fresh, trace_fresh_lent};
 pub use model::Model;
-pub use parts::{Action, Chunk, Deed, Fact, Pattern, Rule, Term, Test};
+pub use parts::{Action, Ask, Chunk, Deed, Fact, Pattern, Query, Rule, Term, Test};
 pub use print::{print, PRINTED_STEPS};
 pub use refusal::Refusal;
 pub use state::{Buffer, State};

@@ -41,9 +41,10 @@ impl Plan {
     /// Of the rules in a word, those that match; `visit` meets each of them.
     #[inline]
     pub fn matches(&self, word: usize, among: u64, board: &Board, mut visit: impl FnMut(&Ranked)) -> u64 {
-        // Types, visibility and empty slots first, for 64 rules at a time.
+        // Types, visibility, queries and empty slots first, for 64 rules at a time.
         let sets = board.shown.iter().take(self.buffers).map(|&shown| &self.fits[usize::from(shown)]);
-        let mut left = sets.fold(among, |fit, set| fit & set.word(word)) & !self.unbound(word, board);
+        let fit = sets.fold(among, |fit, set| fit & set.word(word));
+        let mut left = fit & self.answered(word, board) & !self.unbound(word, board);
         let mut matched = 0;
         while left != 0 {
             let rank = member(word, left);
@@ -55,6 +56,18 @@ impl Plan {
             left &= left - 1;
         }
         matched
+    }
+
+    /// Rules of a word of which all queries hold.
+    #[inline]
+    fn answered(&self, word: usize, board: &Board) -> u64 {
+        let (mut answered, mut left) = (u64::MAX, self.queried);
+        while left != 0 {
+            let buffer = left.trailing_zeros() as usize & 7;
+            answered &= self.answers[buffer][board.standing(buffer) as usize].word(word);
+            left &= left - 1;
+        }
+        answered
     }
 
     /// Rules of a word of which a variable stands on an empty slot. A slot test with a variable fails when the slot holds
@@ -96,18 +109,19 @@ impl Plan {
         entry
     }
 
-    /// Rules of a word that test a buffer of the mark.
+    /// Rules of a word that test or query a buffer of the mark.
     #[inline]
     fn touched(&self, word: usize, mark: u8) -> u64 {
         let (mut touched, mut left) = (0, mark);
         while left != 0 {
-            touched |= self.testers[left.trailing_zeros() as usize & 7].word(word);
+            let buffer = left.trailing_zeros() as usize & 7;
+            touched |= self.testers[buffer].word(word) | self.askers[buffer].word(word);
             left &= left - 1;
         }
         touched
     }
 
-    /// Writes the fresh entries of the rules that test a buffer of the mark; gives their number.
+    /// Writes the fresh entries of the rules that test or query a buffer of the mark; gives their number.
     #[inline]
     pub fn refresh(&self, board: &Board, mark: u8, entries: &mut [[u16; WORDS]], known: &mut Known) -> u16 {
         let mut count = 0;
@@ -169,7 +183,7 @@ impl Model {
     /// Writes the fresh table over one of the right length.
     pub(crate) fn write_fresh(&self, state: &State, table: &mut [u16]) {
         let (entries, _) = table.as_chunks_mut::<WORDS>();
-        // Every rule tests a buffer, so the full mark touches them all.
+        // Every rule tests or queries a buffer, so the full mark touches them all.
         self.plan.refresh(&Board::new(&self.plan, state), u8::MAX, entries, &mut Known::default());
     }
 }

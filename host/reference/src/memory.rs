@@ -72,13 +72,13 @@ impl Memory {
     #[inline]
     pub fn answer(&self, isa: u8, wanted: &Wanted) -> Option<Buffer> {
         let found = self.find(isa, wanted.named())?;
-        Some(Buffer { isa: u16::from(isa), slots: self.slots[found], delay: self.latencies[found] })
+        Some(Buffer { isa: u16::from(isa), slots: self.slots[found], delay: self.latencies[found], error: false })
     }
 
-    /// What a request leaves that no fact fits: nil, late.
+    /// What a request leaves that no fact fits: nil, late, with the error flag set.
     #[inline]
     pub fn nothing(&self) -> Buffer {
-        Buffer { delay: self.failure, ..Buffer::default() }
+        Buffer { delay: self.failure, error: true, ..Buffer::default() }
     }
 
     /// The first fact of a type that holds the wanted values.

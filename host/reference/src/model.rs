@@ -13,6 +13,11 @@ pub struct Model {
 }
 
 impl Model {
+    /// The version of the image, 1 or 2.
+    pub fn version(&self) -> u8 {
+        self.parts.version
+    }
+
     /// Number of buffers, 1 to 8.
     pub fn buffers(&self) -> usize {
         usize::from(self.parts.buffers)
@@ -54,6 +59,7 @@ impl Model {
             utility: head.utility,
             variables: head.variables,
             tests: self.parts.tests(head),
+            queries: self.parts.queries(head),
             actions: self.parts.actions(head),
         })
     }

@@ -55,6 +55,26 @@ pub struct Test {
     pub pattern: Pattern,
 }
 
+/// What a query asks of its buffer (request 2026-06).
+#[derive(Clone, Copy, PartialEq, Eq, Debug)]
+pub enum Ask {
+    /// Whether its chunk is pending.
+    Busy,
+    /// Whether its chunk is visible.
+    Free,
+    /// Whether it is visible with its error flag set.
+    Error,
+}
+
+/// A question to one buffer, whatever chunk it holds.
+#[derive(Clone, Copy, PartialEq, Eq, Debug)]
+pub struct Query {
+    /// The buffer that is asked.
+    pub buffer: u8,
+    /// What is asked.
+    pub asks: Ask,
+}
+
 /// What an action does to its buffer.
 #[derive(Clone, Copy, PartialEq, Eq, Debug)]
 pub enum Deed {
@@ -86,16 +106,19 @@ pub struct Rule<'m> {
     pub variables: u8,
     /// Tests, by rising buffer.
     pub tests: &'m [Test],
+    /// Queries, by rising buffer; none in version 1.
+    pub queries: &'m [Query],
     /// Actions, by rising buffer.
     pub actions: &'m [Action],
 }
 
-/// A rule's own fields and where its tests and actions lie in the common lists.
+/// A rule's own fields and where its tests, queries and actions lie in the common lists.
 #[derive(Clone, Copy, Debug)]
 pub(crate) struct RuleHead {
     pub utility: i16,
     pub variables: u8,
     pub tests: (u16, u16),
+    pub queries: (u16, u16),
     pub actions: (u16, u16),
 }
 
@@ -111,6 +134,7 @@ pub(crate) struct Types {
 /// The fields of an accepted image.
 #[derive(Clone, Debug, Default)]
 pub(crate) struct Parts {
+    pub version: u8,
     pub buffers: u8,
     pub types: Types,
     pub failure: u16,
@@ -119,6 +143,8 @@ pub(crate) struct Parts {
     pub rules: Vec<RuleHead>,
     /// Tests of all rules, so that a model is a handful of allocations.
     pub tests: Vec<Test>,
+    /// Queries of all rules.
+    pub queries: Vec<Query>,
     /// Actions of all rules.
     pub actions: Vec<Action>,
 }
@@ -207,6 +233,11 @@ impl Parts {
     /// Tests of a rule.
     pub fn tests(&self, rule: &RuleHead) -> &[Test] {
         &self.tests[usize::from(rule.tests.0)..usize::from(rule.tests.1)]
+    }
+
+    /// Queries of a rule.
+    pub fn queries(&self, rule: &RuleHead) -> &[Query] {
+        &self.queries[usize::from(rule.queries.0)..usize::from(rule.queries.1)]
     }
 
     /// Actions of a rule.

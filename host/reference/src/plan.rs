@@ -1,6 +1,7 @@
 //! The rules rearranged for matching: by preference, with their comparisons in flat lists.
 
-use crate::parts::{Parts, RuleHead};
+use crate::board::{Standing, STANDINGS};
+use crate::parts::{Ask, Parts, Query, RuleHead};
 use crate::place::{place, Place};
 use crate::set::Set;
 use crate::{BUFFERS, SLOTS};
@@ -17,6 +18,12 @@ pub(crate) struct Plan {
     pub ranks: Vec<u16>,
     /// For each buffer the ranks of the rules that test it.
     pub testers: [Set; BUFFERS],
+    /// For each buffer the ranks of the rules that query it.
+    pub askers: [Set; BUFFERS],
+    /// The buffers that some rule queries, bit b for buffer b.
+    pub queried: u8,
+    /// For each buffer and how it stands, the ranks of the rules whose query of it holds or that do not query it.
+    pub answers: [[Set; STANDINGS]; BUFFERS],
     /// For each buffer and what it shows, the ranks of the rules that can still match.
     pub fits: Vec<Set>,
     /// What a buffer can show: types 0 to T, or nothing.
@@ -93,6 +100,9 @@ impl Plan {
             buffers: usize::from(parts.buffers),
             ranks: vec![0; order.len()],
             testers: [Set::default(); BUFFERS],
+            askers: [Set::default(); BUFFERS],
+            queried: 0,
+            answers: [[Set::default(); STANDINGS]; BUFFERS],
             fits: vec![Set::default(); usize::from(parts.buffers) * shows],
             shows,
             binders: vec![Set::default(); usize::from(parts.buffers) * SLOTS],
@@ -104,8 +114,10 @@ impl Plan {
             let number = key as u16;
             plan.ranks[usize::from(number)] = rank as u16;
             plan.add(parts, number);
+            plan.add_queries(rank, parts.queries(&parts.rules[usize::from(number)]));
         }
         plan.admit_untested();
+        plan.admit_unasked();
         plan
     }
 
@@ -141,6 +153,25 @@ impl Plan {
         rule.sames = (first_same as u16, sames.len() as u16);
     }
 
+    /// Lists the queries of the rule at a rank.
+    fn add_queries(&mut self, rank: usize, queries: &[Query]) {
+        for query in queries {
+            let buffer = usize::from(query.buffer);
+            self.queried |= 1 << buffer;
+            self.askers[buffer].insert(rank);
+            for &standing in held_by(query.asks) {
+                self.answers[buffer][standing as usize].insert(rank);
+            }
+        }
+    }
+
+    /// A rule that does not query a buffer fits however that buffer stands.
+    fn admit_unasked(&mut self) {
+        for (answers, askers) in self.answers.iter_mut().zip(&self.askers) {
+            answers.iter_mut().for_each(|set| set.join_all_but(askers));
+        }
+    }
+
     /// A rule that does not test a buffer fits whatever that buffer shows.
     fn admit_untested(&mut self) {
         for (buffer, fits) in self.fits.chunks_exact_mut(self.shows).enumerate() {
@@ -148,6 +179,15 @@ impl Plan {
                 set.join_all_but(&self.testers[buffer]);
             }
         }
+    }
+}
+
+/// How a buffer stands when a query of it holds.
+fn held_by(asks: Ask) -> &'static [Standing] {
+    match asks {
+        Ask::Busy => &[Standing::Busy],
+        Ask::Free => &[Standing::Free, Standing::Failed],
+        Ask::Error => &[Standing::Failed],
     }
 }
 

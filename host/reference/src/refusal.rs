@@ -13,7 +13,7 @@ pub struct Refusal {
 pub(crate) const TOO_LONG: u8 = 1;
 /// A field is not wholly there.
 pub(crate) const MISSING: u8 = 2;
-/// A version, count, type or action kind breaks its rule.
+/// A version, count, type, query kind or action kind breaks its rule.
 pub(crate) const BROKEN: u8 = 3;
 /// A pad bit is 1, or a byte follows.
 pub(crate) const FOLLOWS: u8 = 4;

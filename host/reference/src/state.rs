@@ -2,7 +2,7 @@
 
 use crate::{BUFFERS, SLOTS};
 
-/// One buffer: a chunk and the ms until it is visible (0: visible now).
+/// One buffer: a chunk, the ms until it is visible (0: visible now), and whether the last request found no fact.
 #[derive(Clone, Copy, PartialEq, Eq, Debug, Default)]
 pub struct Buffer {
     /// Type of the chunk, 0 for nil.
@@ -11,6 +11,8 @@ pub struct Buffer {
     pub slots: [u16; SLOTS],
     /// Milliseconds until the chunk is visible.
     pub delay: u16,
+    /// The error flag (request 2026-06): set when a request finds no fact, cleared by any other action on the buffer.
+    pub error: bool,
 }
 
 /// Eight buffers and the clock in ms.

@@ -119,6 +119,7 @@ fn act(model: &Model, action: &Action, entry: &[u16; WORDS], board: &mut Board, 
             for (slot, term) in action.pattern.packed() {
                 board.set(place(action.buffer, slot), term.value(entry));
             }
+            board.clear_error(action.buffer);
         }
         Deed::Request(isa) => board.put(action.buffer, request(model, learned, isa, &action.pattern, entry)),
         Deed::Clear => board.put(action.buffer, Buffer::default()),

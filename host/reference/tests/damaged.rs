@@ -107,7 +107,7 @@ type Sides = (Role, usize, u8, &'static [u16], &'static [u16]);
 
 /// The fields of model A that have a rule: the nearest values on its other side, and farther ones.
 const SIDES: [Sides; 22] = [
-    (Role::Version, 0, 3, &[0, 2, 255], &[1]),
+    (Role::Version, 0, 3, &[0, 3, 4, 255], &[1]),
     (Role::Buffers, 0, 3, &[0, 9, 15], &[2]),
     (Role::Rules, 0, 3, &[257, 511], &[3]),
     (Role::Facts, 0, 3, &[513, 1_023], &[2]),

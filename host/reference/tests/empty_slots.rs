@@ -2,7 +2,7 @@
 
 mod common;
 
-use common::{buffer, model, rule, state, V0, V1};
+use common::{buffer, failed, model, rule, state, V0, V1};
 use jirvuntsag_packing::{ActionSpec, RuleSpec, Term, TestSpec};
 use jirvuntsag_reference::{Buffer, Kind, Model};
 
@@ -10,7 +10,7 @@ const NIL: Term = Term::Symbol(0);
 /// The first words of an entry that does not match.
 const NONE: [u16; 3] = [0; 3];
 /// A goal with its first slot filled alone.
-const HALF: Buffer = Buffer { isa: 1, slots: [3, 0, 0, 0, 0, 0, 0, 0], delay: 0 };
+const HALF: Buffer = Buffer { isa: 1, slots: [3, 0, 0, 0, 0, 0, 0, 0], delay: 0, error: false };
 
 /// A rule that tests the goal, buffer 0, for type 1 and these terms.
 fn goal_rule(utility: i16, named: &[(usize, Term)], actions: Vec<ActionSpec>) -> RuleSpec {
@@ -87,7 +87,7 @@ fn a_request_still_finds_facts_with_empty_slots() {
     assert_eq!(asked(2, &[(0, V0)]), buffer(2, 3, 4, 60));
     assert_eq!(asked(2, &[(0, V0), (1, NIL)]), buffer(2, 3, 0, 100));
     assert_eq!(asked(2, &[(0, NIL)]), buffer(2, 0, 3, 70));
-    assert_eq!(asked(2, &[(0, NIL), (1, NIL)]), buffer(0, 0, 0, 200));
+    assert_eq!(asked(2, &[(0, NIL), (1, NIL)]), failed(200));
 }
 
 /// Rule 0 empties the second slot of a full goal, rule 1 fills that of a half-filled one.

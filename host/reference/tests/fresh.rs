@@ -2,7 +2,7 @@
 
 mod common;
 
-use common::{buffer, model, rule, state, P1, V0, V1};
+use common::{buffer, failed, model, rule, state, P1, V0, V1};
 use jirvuntsag_generate::{case, each_seed, Case};
 use jirvuntsag_packing::{model_a, pack, ActionSpec, Term, TestSpec};
 use jirvuntsag_reference::{run_fresh, trace, trace_fresh, Event, Kind, Model, State};
@@ -50,7 +50,7 @@ fn model_a_is_told_step_by_step() {
     let (fire, wait) = (Kind::Fire, Kind::Wait);
     let by_hand = [(50, fire(0)), (150, wait(100)), (200, fire(1)), (300, wait(100)), (350, fire(1)), (400, fire(2))];
     assert_eq!(told, [&by_hand[..], &[(550, wait(150))]].concat());
-    assert_eq!((number, at, after), (9, 0, state(550, &[buffer(0, 0, 0, 0)])));
+    assert_eq!((number, at, after), (9, 0, state(550, &[buffer(0, 0, 0, 0), failed(0)])));
 }
 
 #[test]

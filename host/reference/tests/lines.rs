@@ -46,8 +46,9 @@ fn p1_to_p5_opening() {
     assert_eq!(refused(&[1, 0x10, 0, 0, 0, 0, 0, 0x10]), (4, 0));
     assert_eq!(refused(&[1, 0x10, 0, 0, 0, 0, 0, 0x20]), (3, 53));
     assert_eq!(refused(&[]), (2, 0));
-    assert_eq!(refused(&[2, 0x10, 0, 0, 0, 0, 0, 0]), (3, 0));
-    assert_eq!(refused(&[2]), (3, 0));
+    assert_eq!(open(&[2, 0x10, 0, 0, 0, 0, 0, 0], &mut []), (0, 0, State::default()));
+    assert_eq!(refused(&[4, 0x10, 0, 0, 0, 0, 0, 0]), (3, 0));
+    assert_eq!(refused(&[4]), (3, 0));
     assert_eq!(refused(&[1]), (2, 8));
     assert_eq!(refused(&[1, 0x00]), (3, 8));
     assert_eq!(refused(&[0; 65_537]), (1, 0));
@@ -140,7 +141,8 @@ fn model_a_prints_what_document_01_has() {
 fn refused_openings_print_one_line() {
     assert_eq!(print(&P1), "end 9 0\n");
     assert_eq!(print(&[]), "end 2 0\n");
-    assert_eq!(print(&[2]), "end 3 0\n");
+    assert_eq!(print(&[2]), "end 2 0\n");
+    assert_eq!(print(&[4]), "end 3 0\n");
     assert_eq!(print(&[1, 0x10, 0, 0, 0, 0, 0, 0, 0]), "end 4 0\n");
     assert_eq!(print(&vec![0; 65_537]), "end 1 0\n");
     assert_eq!(print(&vec![0; 65_536]), "end 3 0\n");

@@ -4,7 +4,7 @@ mod common;
 
 use common::{entry_by_definition, spec_of};
 use jirvuntsag_generate::{case, each_seed, mark, model, state, steps, table, Rng};
-use jirvuntsag_packing::{pack, ModelSpec};
+use jirvuntsag_packing::{pack, ModelSpec, RuleSpec};
 use jirvuntsag_reference::{open, refresh, run, table_len, trace, Kind, Model, State};
 
 /// A valid model with its specification.
@@ -126,7 +126,11 @@ fn a_refresh_writes_the_touched_entries_and_no_others() {
             assert_eq!(after, before);
             return;
         }
-        let touched = |rule: usize| spec.rules[rule].tests.iter().any(|test| mark >> test.buffer & 1 == 1);
+        let watched = |rule: &RuleSpec| {
+            let tested = rule.tests.iter().map(|test| test.buffer);
+            tested.chain(rule.queries.iter().map(|query| query.buffer)).collect::<Vec<u8>>()
+        };
+        let touched = |rule: usize| watched(&spec.rules[rule]).iter().any(|buffer| mark >> buffer & 1 == 1);
         assert_eq!(usize::from(count), (0..spec.rules.len()).filter(|&rule| touched(rule)).count());
         for (rule, (new, old)) in after.chunks_exact(9).zip(before.chunks_exact(9)).enumerate() {
             if touched(rule) {

@@ -2,7 +2,7 @@
 
 mod common;
 
-use common::{buffer, model, rule, state, V0, V1};
+use common::{buffer, failed, model, rule, state, V0, V1};
 use jirvuntsag_packing::{model_a, pack, ActionSpec, RuleSpec, Term, TestSpec};
 use jirvuntsag_reference::{Buffer, Model, State};
 
@@ -23,7 +23,7 @@ fn asks(named: &[(usize, Term)]) -> RuleSpec {
     rule(0, 1, vec![TestSpec::new(0, 2, &[(0, V0)])], vec![ActionSpec::request(1, 1, named)])
 }
 
-const GOAL: Buffer = Buffer { isa: 2, slots: [1, 9, 0, 0, 0, 0, 0, 0], delay: 0 };
+const GOAL: Buffer = Buffer { isa: 2, slots: [1, 9, 0, 0, 0, 0, 0, 0], delay: 0, error: false };
 
 /// What buffer 1 gets when asked for type 1 with first slot v0 = 1.
 fn answer(facts: &[(u8, [u16; 2], u16, u16)]) -> Buffer {
@@ -42,9 +42,9 @@ fn requests_prefer_activation_then_the_lowest_number() {
 }
 
 #[test]
-fn a_request_that_nothing_fits_gives_nil_late() {
-    assert_eq!(answer(&[]), buffer(0, 0, 0, 200));
-    assert_eq!(answer(&[(1, [2, 1], 5, 1), (2, [1, 1], 5, 1)]), buffer(0, 0, 0, 200));
+fn a_request_that_nothing_fits_gives_nil_late_and_sets_the_flag() {
+    assert_eq!(answer(&[]), failed(200));
+    assert_eq!(answer(&[(1, [2, 1], 5, 1), (2, [1, 1], 5, 1)]), failed(200));
 }
 
 #[test]

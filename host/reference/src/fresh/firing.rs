@@ -25,18 +25,19 @@ fn change(parts: &Parts, learned: &[Fact], action: &Action, values: &Values, buf
                 buffer.slots[slot] = value(term, values);
             }
             buffer.delay = 0;
+            buffer.error = false;
         }
         Deed::Request(isa) => *buffer = answer(parts, learned, isa, &action.pattern, values),
         Deed::Clear => *buffer = Buffer::default(),
     }
 }
 
-/// What a request leaves in its buffer: the best fact that fits, or nil late.
+/// What a request leaves in its buffer: the best fact that fits, or nil late and the error flag.
 #[inline]
 fn answer(parts: &Parts, learned: &[Fact], isa: u8, pattern: &Pattern, values: &Values) -> Buffer {
     match retrieve([&parts.facts, learned], isa, &Wanted::new(pattern, values)) {
-        Some(fact) => Buffer { isa: u16::from(isa), slots: fact.chunk.slots, delay: fact.latency },
-        None => Buffer { delay: parts.failure, ..Buffer::default() },
+        Some(fact) => Buffer { isa: u16::from(isa), slots: fact.chunk.slots, delay: fact.latency, error: false },
+        None => Buffer { delay: parts.failure, error: true, ..Buffer::default() },
     }
 }
 

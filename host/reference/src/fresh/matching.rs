@@ -1,7 +1,7 @@
 //! Which rule fires: each is matched by the letter of document 01's definition.
 
-use crate::parts::{Parts, Test};
-use crate::state::State;
+use crate::parts::{Ask, Parts, Query, Test};
+use crate::state::{Buffer, State};
 
 /// The values of variables 0 to 7, nil for those that are not bound: no variable takes nil (request 2026-01).
 pub type Values = [u16; 8];
@@ -24,6 +24,9 @@ pub fn choose(parts: &Parts, state: &State) -> Option<Chosen> {
     let mut chosen = None;
     for (number, rule) in parts.rules.iter().enumerate() {
         let Some(values) = bind(parts.tests(rule), state) else { continue };
+        if !parts.queries(rule).iter().all(|query| holds(query, state)) {
+            continue;
+        }
         if best < Some(rule.utility) {
             best = Some(rule.utility);
             chosen = Some(Chosen { number: number as u16, values });
@@ -50,6 +53,17 @@ fn bind(tests: &[Test], state: &State) -> Option<Values> {
         }
     }
     Some(values)
+}
+
+/// Whether a query holds: busy with a delay above 0, free without one, error if the flag of a visible buffer is set.
+#[inline]
+fn holds(query: &Query, state: &State) -> bool {
+    let Buffer { delay, error, .. } = state.buffers[usize::from(query.buffer)];
+    match query.asks {
+        Ask::Busy => delay > 0,
+        Ask::Free => delay == 0,
+        Ask::Error => delay == 0 && error,
+    }
 }
 
 /// A variable takes what it finds at its first place, and must find the same at the others; nil it never takes.

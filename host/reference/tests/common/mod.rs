@@ -2,8 +2,8 @@
 #![allow(dead_code)] // Not every file uses all of it.
 
 use jirvuntsag_packing as packing;
-use jirvuntsag_packing::{ActionSpec, ChunkSpec, FactSpec, ModelSpec, RuleSpec, TestSpec};
-use jirvuntsag_reference::{Buffer, Chunk, Deed, Model, Pattern, Rule, State, Term};
+use jirvuntsag_packing::{ActionSpec, ChunkSpec, FactSpec, ModelSpec, QuerySpec, RuleSpec, TestSpec};
+use jirvuntsag_reference::{Ask, Buffer, Chunk, Deed, Model, Pattern, Query, Rule, State, Term};
 
 /// Image P1: one buffer and nothing else.
 pub const P1: [u8; 8] = [1, 0x10, 0, 0, 0, 0, 0, 0];
@@ -25,18 +25,24 @@ pub fn model(buffers: usize, facts: &[(u8, [u16; 2], u16, u16)], rules: Vec<Rule
         opening: vec![ChunkSpec::nil(); buffers],
         facts: facts.iter().map(fact).collect(),
         rules,
+        ..ModelSpec::default()
     };
     Model::decode(&packing::pack(&spec)).expect("a valid model")
 }
 
 /// A rule from its parts.
 pub fn rule(utility: i16, variables: u8, tests: Vec<TestSpec>, actions: Vec<ActionSpec>) -> RuleSpec {
-    RuleSpec { utility: utility as u16, variables, tests, actions }
+    RuleSpec { utility: utility as u16, variables, tests, actions, ..RuleSpec::default() }
 }
 
 /// A buffer with a chunk of two slots.
 pub fn buffer(isa: u16, first: u16, second: u16, delay: u16) -> Buffer {
-    Buffer { isa, slots: [first, second, 0, 0, 0, 0, 0, 0], delay }
+    Buffer { isa, slots: [first, second, 0, 0, 0, 0, 0, 0], delay, error: false }
+}
+
+/// What a request leaves that no fact fits, or what is left of it: nil with the error flag set, so many ms from visible.
+pub fn failed(delay: u16) -> Buffer {
+    Buffer { delay, error: true, ..Buffer::default() }
 }
 
 /// A state with these buffers first.
@@ -58,6 +64,7 @@ pub fn spec_of(model: &Model) -> ModelSpec {
         ChunkSpec::new(chunk.isa, &chunk.slots[..count])
     };
     ModelSpec {
+        version: Some(model.version()),
         failure: model.failure_latency(),
         types: (1..=model.types()).map(|isa| model.slot_count(isa as u16) as u8).collect(),
         opening: model.opening().iter().map(chunk).collect(),
@@ -89,7 +96,17 @@ fn rule_spec(rule: Rule) -> RuleSpec {
         utility: rule.utility as u16,
         variables: rule.variables,
         tests: rule.tests.iter().map(test).collect(),
+        queries: rule.queries.iter().map(query_spec).collect(),
         actions: rule.actions.iter().map(action).collect(),
+    }
+}
+
+/// A decoded query as a specification.
+fn query_spec(&Query { buffer, asks }: &Query) -> QuerySpec {
+    match asks {
+        Ask::Busy => QuerySpec::busy(buffer),
+        Ask::Free => QuerySpec::free(buffer),
+        Ask::Error => QuerySpec::error(buffer),
     }
 }
 
@@ -102,8 +119,22 @@ fn pattern_spec(pattern: &Pattern) -> packing::PatternSpec {
     packing::PatternSpec { mask: pattern.mask(), terms: pattern.named().map(term).collect() }
 }
 
-/// The entry of a rule by the letter of document 01's definition of a match, as request 2026-01 has it.
+/// Whether a query holds, by the letter of request 2026-06.
+fn holds_by_definition(query: &QuerySpec, state: &State) -> bool {
+    let buffer = &state.buffers[usize::from(query.buffer)];
+    match query.kind {
+        0 => buffer.delay > 0,
+        1 => buffer.delay == 0,
+        2 => buffer.delay == 0 && buffer.error,
+        kind => panic!("a query of kind {kind}"),
+    }
+}
+
+/// The entry of a rule by the letter of document 01's definition of a match, as requests 2026-01 and 2026-06 have it.
 pub fn entry_by_definition(spec: &ModelSpec, rule: usize, state: &State) -> [u16; 9] {
+    if !spec.rules[rule].queries.iter().all(|query| holds_by_definition(query, state)) {
+        return [0; 9];
+    }
     let mut values: [Option<u16>; 8] = [None; 8];
     for test in &spec.rules[rule].tests {
         let buffer = &state.buffers[usize::from(test.buffer)];
