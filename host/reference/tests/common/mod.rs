@@ -35,6 +35,11 @@ pub fn rule(utility: i16, variables: u8, tests: Vec<TestSpec>, actions: Vec<Acti
     RuleSpec { utility: utility as u16, variables, tests, actions, ..RuleSpec::default() }
 }
 
+/// A rule of queries alone, with these actions.
+pub fn asks(queries: &[QuerySpec], actions: Vec<ActionSpec>) -> RuleSpec {
+    RuleSpec { queries: queries.to_vec(), ..rule(0, 0, vec![], actions) }
+}
+
 /// A buffer with a chunk of two slots.
 pub fn buffer(isa: u16, first: u16, second: u16, delay: u16) -> Buffer {
     Buffer { isa, slots: [first, second, 0, 0, 0, 0, 0, 0], delay, error: false }
