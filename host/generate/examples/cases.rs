@@ -8,7 +8,7 @@
 use std::io::{self, Write};
 use std::process::ExitCode;
 
-use jirvuntsag_generate::{case, Case, Rng};
+use jirvuntsag_generate::{case, overfill, state_words, Case, Rng};
 use jirvuntsag_packing::{largest, model_a, pack};
 use jirvuntsag_reference::{open, table_len, STORE_WORDS};
 
@@ -25,23 +25,11 @@ fn opening(image: Vec<u8>) -> Case {
     Case { image, state, table, mark: 1, steps: STEPS, store: vec![0; STORE_WORDS] }
 }
 
-/// Words of a buffer in a state's words: type, slots, delay, error flag.
-const BUFFER_WORDS: usize = 11;
-
 /// The words of a case's state, one of them too large for its field in about one case of ten.
-fn state_words(rng: &mut Rng, case: &Case) -> Vec<u32> {
-    let mut words = vec![case.state.clock];
-    for buffer in &case.state.buffers {
-        words.push(u32::from(buffer.isa));
-        words.extend(buffer.slots.map(u32::from));
-        words.push(u32::from(buffer.delay));
-        words.push(u32::from(buffer.error));
-    }
+fn words(rng: &mut Rng, case: &Case) -> Vec<u32> {
+    let mut words = state_words(&case.state);
     if rng.chance(10) {
-        let at = rng.from_to(1, words.len() - 1);
-        // An error flag is one bit, every other word of a buffer sixteen.
-        let bits = if at % BUFFER_WORDS == 0 { 1 } else { 16 };
-        words[at] |= 1 << rng.from_to(bits, 31);
+        overfill(rng, &mut words);
     }
     words
 }
@@ -50,7 +38,7 @@ fn state_words(rng: &mut Rng, case: &Case) -> Vec<u32> {
 fn bytes(rng: &mut Rng, case: &Case) -> Vec<u8> {
     let word = |word: usize| (word as u32).to_le_bytes();
     let mut bytes = [&word(case.image.len())[..], &case.image].concat();
-    bytes.extend(state_words(rng, case).into_iter().flat_map(u32::to_le_bytes));
+    bytes.extend(words(rng, case).into_iter().flat_map(u32::to_le_bytes));
     bytes.extend(word(case.table.len()));
     bytes.extend(case.table.iter().flat_map(|word| word.to_le_bytes()));
     bytes.extend(word(usize::from(case.mark)));

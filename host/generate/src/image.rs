@@ -65,5 +65,15 @@ fn any_field(rng: &mut Rng, packed: &Packed) -> usize {
     }
     let role = rng.pick(&roles);
     let numbers: Vec<usize> = (0..packed.fields.len()).filter(|&number| packed.fields[number].role == role).collect();
+    // Few rules have no tests, and there alone a count of queries may not be 0.
+    let lone: Vec<usize> = numbers.iter().copied().filter(|&number| counts_alone(packed, number)).collect();
+    if !lone.is_empty() && rng.chance(80) {
+        return rng.pick(&lone);
+    }
     rng.pick(&numbers)
+}
+
+/// Whether a field counts the queries of a rule without tests: it follows the number of variables.
+fn counts_alone(packed: &Packed, number: usize) -> bool {
+    packed.fields[number].role == Role::Queries && packed.fields[number - 1].role == Role::Variables
 }

@@ -14,6 +14,7 @@ mod shape;
 mod state;
 mod store;
 mod table;
+mod words;
 
 pub use case::{case, Case};
 pub use image::{damage, Damage};
@@ -24,3 +25,4 @@ pub use shape::Shape;
 pub use state::{broken_state, clock, mark, state, steps, BrokenBy};
 pub use store::{store, StoreKind};
 pub use table::{guessed_table, table, TableKind};
+pub use words::{is_flag, overfill, state_words, STATE_WORDS};

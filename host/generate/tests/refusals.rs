@@ -8,7 +8,7 @@ use jirvuntsag_reference::{Model, Refusal};
 
 /// The rules that a field set to another value can break there: the number, and what is refused. A field of a role that is not
 /// here has none.
-const RULES: [(u8, &str); 23] = [
+const RULES: [(u8, &str); 28] = [
     (3, "Version"),
     (3, "Buffers"),
     (3, "Rules"),
@@ -20,6 +20,9 @@ const RULES: [(u8, &str); 23] = [
     (3, "Actions"),
     (3, "Variables"),
     (3, "TestType"),
+    (3, "Queries over the buffers"),
+    (3, "Queries of none without tests"),
+    (3, "QueryKind"),
     (3, "ActionKind"),
     (3, "RequestType"),
     (11, "TestMask"),
@@ -29,6 +32,8 @@ const RULES: [(u8, &str); 23] = [
     (12, "a variable in no test"),
     (13, "TestBuffer that is not there"),
     (13, "TestBuffer that does not rise"),
+    (13, "QueryBuffer that is not there"),
+    (13, "QueryBuffer that does not rise"),
     (13, "ActionBuffer that is not there"),
     (13, "ActionBuffer that does not rise"),
     (13, "ActionKind of a modify untested"),
@@ -46,10 +51,12 @@ fn broken(packed: &Packed, image: &[u8], set: &Field, refusal: Refusal) -> Optio
     let Some(field) = refused else { return Some("a variable in no test".into()) };
     Some(match (field.role, field.get(image)) {
         (Role::ActionKind, 0) => "ActionKind of a modify untested".into(),
-        (role @ (Role::TestBuffer | Role::ActionBuffer), value) if value < buffers => {
-            format!("{role:?} that does not rise")
+        (Role::Queries, 0) => "Queries of none without tests".into(),
+        (Role::Queries, _) => "Queries over the buffers".into(),
+        (role @ (Role::TestBuffer | Role::QueryBuffer | Role::ActionBuffer), value) => {
+            let why = if value < buffers { "does not rise" } else { "is not there" };
+            format!("{role:?} that {why}")
         }
-        (role @ (Role::TestBuffer | Role::ActionBuffer), _) => format!("{role:?} that is not there"),
         (role, _) => format!("{role:?}"),
     })
 }
