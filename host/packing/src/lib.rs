@@ -6,12 +6,14 @@
 mod largest;
 mod model_a;
 mod pack;
+mod retries;
 mod spec;
 mod writer;
 
 pub use largest::largest;
 pub use model_a::model_a;
 pub use pack::{pack, pack_under, pack_with_fields, Packed};
+pub use retries::retries;
 pub use spec::{
     ActionSpec, ChunkSpec, Deed, FactSpec, Header, ModelSpec, PatternSpec, QuerySpec, RuleSpec, Term, TestSpec,
 };

@@ -3,9 +3,9 @@
 mod common;
 
 use common::{asks, buffer, failed, model, rule, state, V0};
-use jirvuntsag_packing::{model_a, pack, ActionSpec, ModelSpec, QuerySpec, RuleSpec, Term, TestSpec};
+use jirvuntsag_packing::{model_a, pack, retries, ActionSpec, ModelSpec, QuerySpec, RuleSpec, Term, TestSpec};
 use jirvuntsag_reference::{
-    open, refresh, run, run_fresh, run_lent, table_len, Buffer, Kind, Model, State, STORE_WORDS,
+    open, print, refresh, run, run_fresh, run_lent, table_len, Buffer, Kind, Model, State, STORE_WORDS,
 };
 
 /// What a request brings that the memory has a fact for.
@@ -337,4 +337,22 @@ fn a_model_without_queries_runs_alike_in_both_versions() {
     let told = one.trace(from, &mut one.fresh_table(&from), 100);
     assert_eq!(two.trace(from, &mut two.fresh_table(&from), 100), told);
     assert_eq!(two.trace_fresh(from, 100), told);
+}
+
+/// A request that fails, the time that passes, another that finds its fact, and the end.
+#[test]
+fn the_model_that_asks_again_prints_its_steps() {
+    let lines = "\
+50 fire 0
+100 fire 1
+150 fire 1
+200 fire 1
+250 fire 1
+300 fire 2
+350 fire 1
+400 fire 1
+450 fire 3
+end 9 9
+";
+    assert_eq!(print(&pack(&retries())), lines);
 }
