@@ -33,7 +33,7 @@ pub fn trace(image: &[u8], state: &State, table: &mut [u16], steps: u16) -> (Num
     (number, state_of(&words), events(&noted, made))
 }
 
-/// Makes the entries of the rules that test a marked buffer afresh: the number and how many rules these are.
+/// Makes the entries of the rules that test or query a marked buffer afresh: the number and how many rules these are.
 /// Buffer b has weight 2 to the power b in `mark`.
 pub fn refresh(image: &[u8], state: &State, mark: u16, table: &mut [u16]) -> (Number, u16) {
     number_and_count(linked::refresh(image, &words_of(state), mark, table))

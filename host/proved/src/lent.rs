@@ -2,7 +2,7 @@
 
 use crate::linked::{self, Lent};
 use crate::store::Store;
-use crate::words::{EVENT, STATE};
+use crate::words::{BUFFER, EVENT, STATE};
 
 /// What a word holds that is not to be written.
 const UNTOUCHED: u32 = 0xdead_beef;
@@ -36,7 +36,7 @@ fn a_refused_image_leaves_every_word() {
     // The mask of the first test lies at bit 258, so that its last bit, which is past the type's slots, is bit 265.
     let mut masked = image.clone();
     masked[33] |= 0x40;
-    let images = [(&[0; 65_537][..], 1, 0), (&image[..70], 2, 558), (&[2], 3, 0), (&follows, 4, 0), (&masked, 11, 258)];
+    let images = [(&[0; 65_537][..], 1, 0), (&image[..70], 2, 558), (&[4], 3, 0), (&follows, 4, 0), (&masked, 11, 258)];
     for (image, number, position) in images {
         assert_refused(image, &state, number, position);
     }
@@ -46,9 +46,28 @@ fn a_refused_image_leaves_every_word() {
 fn a_word_too_large_for_its_field_is_an_unfit_state() {
     let (image, opening) = counting();
     for word in 1..STATE {
-        for bit in 16..32 {
+        // An error flag, the last word of a buffer, is one bit; the others are sixteen.
+        let bits = if word % BUFFER == 0 { 1 } else { 16 };
+        for bit in bits..32 {
             let mut state = opening;
             state[word] |= 1 << bit;
+            assert_refused(&image, &state, 6, 0);
+        }
+    }
+}
+
+#[test]
+fn a_flag_is_taken_beside_nil_alone() {
+    let (image, opening) = counting();
+    for buffer in 0..8 {
+        let mut state = opening;
+        state[BUFFER * (buffer + 1)] = 1;
+        if buffer == 1 {
+            let (mut ran, mut events) = (state, []);
+            assert_eq!(linked::trace_fresh(&image, &mut ran, 0, &mut events), 0);
+            assert_eq!(ran, state);
+        } else {
+            // The first holds the goal, and those from the third on are not the model's.
             assert_refused(&image, &state, 6, 0);
         }
     }
@@ -133,7 +152,7 @@ fn a_refused_run_leaves_every_word_of_the_store() {
     let fit = vec![0; Store::WORDS];
     let mut over = fit.clone();
     over[0] = 257;
-    let other: &[u8] = &[2];
+    let other: &[u8] = &[4];
     let cases = [
         (other, opening, fit.clone(), 3),
         (&image, large, fit.clone(), 6),

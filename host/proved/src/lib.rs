@@ -30,7 +30,7 @@
 //! # Matches that are kept, and matches that are made afresh
 //!
 //! [`Model::run`] and [`Model::trace`] keep the matches of all rules in the table from step to step and from call to call,
-//! and match again only the rules that test a buffer that a step changed. They are for who runs a model of many rules in
+//! and match again only the rules that test or query a buffer that a step changed. They are for who runs a model of many rules in
 //! short calls and has to be quick, as the author of a tutor has, who answers a pupil between two keystrokes.
 //!
 //! [`Model::run_fresh`] and [`Model::trace_fresh`] take no table and match every rule at each step. They are for who wants
@@ -73,6 +73,26 @@
 //! // what it has learned it need not work out again
 //! let again = model.run_fresh_lent(state, 1_000, Some(&mut store))?;
 //! assert_eq!((again.end, again.made, store.len()), (End::Halted, 3, 1));
+//! # Ok::<(), Box<dyn std::error::Error>>(())
+//! ```
+
+//!
+//! # What a request leaves that finds no fact
+//!
+//! Nil, late, and the buffer's error flag, [`Buffer::error`]. Any other action on the buffer clears it. Rules of an image of version
+//! 2 can ask a buffer whether it is busy, free, or in error, which it is once the flag can be seen ([`Buffer::has_failed`]).
+//!
+//! ```
+//! use jirvuntsag_proved::Model;
+//!
+//! # let path = concat!(env!("CARGO_MANIFEST_DIR"), "/../../examples/counting.image");
+//! # let image = std::fs::read(path)?;
+//! let (model, state, _) = Model::open(&image)?;
+//! // the fifth step asks for what follows 3, and no fact says that
+//! let asked = model.run_fresh(state, 5)?.state;
+//! assert_eq!((asked.buffers[1].delay, asked.buffers[1].error, asked.buffers[1].has_failed()), (200, true, false));
+//! let seen = model.run_fresh(asked, 2)?.state;
+//! assert!(seen.buffers[1].has_failed());
 //! # Ok::<(), Box<dyn std::error::Error>>(())
 //! ```
 

@@ -46,7 +46,7 @@ impl<'a> Model<'a> {
         told(calls::trace(self.image, &state, table.words_mut(), steps))
     }
 
-    /// Makes the entries of the rules that test a marked buffer afresh, and gives how many these are.
+    /// Makes the entries of the rules that test or query a marked buffer afresh, and gives how many these are.
     /// Buffer b has weight 2 to the power b in `mark`. A refused refresh leaves the table as it was.
     pub fn refresh(&self, state: &State, mark: u16, table: &mut Table) -> Result<u16, Refusal> {
         let (number, count) = calls::refresh(self.image, state, mark, table.words_mut());

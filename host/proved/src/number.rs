@@ -14,7 +14,7 @@ pub enum Refusal {
         /// Where the field begins.
         at: u32,
     },
-    /// 3: a version, count, type or action kind breaks its rule.
+    /// 3: a version, count, type or kind, of a query or an action, breaks its rule.
     Broken {
         /// Where the field begins.
         at: u32,
@@ -115,7 +115,7 @@ impl Refusal {
         match self {
             Refusal::TooLong => "the image is over 65,536 bytes",
             Refusal::Missing { .. } => "a field of the image is not wholly there",
-            Refusal::Broken { .. } => "a version, count, type or action kind breaks its rule",
+            Refusal::Broken { .. } => "a version, count, type or kind breaks its rule",
             Refusal::Follows => "a pad bit of the image is 1, or a byte follows",
             Refusal::TableLength => "the table's length is not nine words for each rule",
             Refusal::State => "the state is not well formed",

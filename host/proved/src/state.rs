@@ -1,6 +1,6 @@
 //! States and steps, as values.
 
-/// A buffer: a chunk, and the ms until it is visible.
+/// A buffer: a chunk, the ms until it is visible, and whether the last request found no fact.
 #[derive(Clone, Copy, PartialEq, Eq, Hash, Debug, Default)]
 pub struct Buffer {
     /// Type of the chunk, 0 for nil.
@@ -9,6 +9,9 @@ pub struct Buffer {
     pub slots: [u16; 8],
     /// 0 if the chunk is visible, otherwise the ms until it is.
     pub delay: u16,
+    /// The error flag: set when a request finds no fact, cleared by any other action on the buffer. A state is refused
+    /// ([`crate::Refusal::State`]) that has it beside a chunk, or in a buffer past the image's count.
+    pub error: bool,
 }
 
 /// Eight buffers and the clock. [`State::default`] holds nil in each buffer, at clock 0.
@@ -48,5 +51,10 @@ impl Buffer {
     /// Whether rules can see the chunk.
     pub fn is_visible(&self) -> bool {
         self.delay == 0
+    }
+
+    /// Whether rules can see that a request found no fact: the error flag is set, and nothing is on its way.
+    pub fn has_failed(&self) -> bool {
+        self.is_visible() && self.error
     }
 }

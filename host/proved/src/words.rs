@@ -3,10 +3,10 @@
 use crate::number::Number;
 use crate::state::{Buffer, Event, State, Step};
 
-/// Words of a state: the clock, then type, eight slot values and delay of each buffer.
-pub const STATE: usize = 81;
+/// Words of a state: the clock, then type, eight slot values, delay and error flag of each buffer.
+pub const STATE: usize = 89;
 /// Words of a buffer.
-const BUFFER: usize = 10;
+pub const BUFFER: usize = 11;
 /// Words of a step that was made: the clock after it, its kind, its rule or ms.
 pub const EVENT: usize = 3;
 
@@ -20,16 +20,17 @@ pub fn words_of(state: &State) -> [u32; STATE] {
             *word = u32::from(value);
         }
         part[9] = u32::from(buffer.delay);
+        part[10] = u32::from(buffer.error);
     }
     words
 }
 
-/// The state of its words. All but the clock have 16 bits: the library was handed such words, and leaves such.
+/// The state of its words. All but the clock have 16 bits, and a flag is 0 or 1: the library was handed such words, and leaves such.
 pub fn state_of(words: &[u32; STATE]) -> State {
     let mut state = State { clock: words[0], ..State::default() };
     for (buffer, part) in state.buffers.iter_mut().zip(words[1..].chunks_exact(BUFFER)) {
         let slots = std::array::from_fn(|slot| part[1 + slot] as u16);
-        *buffer = Buffer { isa: part[0] as u16, slots, delay: part[9] as u16 };
+        *buffer = Buffer { isa: part[0] as u16, slots, delay: part[9] as u16, error: part[10] == 1 };
     }
     state
 }
@@ -55,9 +56,20 @@ pub fn events(words: &[u32], made: u16) -> Vec<Event> {
 
 #[cfg(test)]
 mod tests {
-    use super::{events, number_and_count};
+    use super::{events, number_and_count, state_of, words_of, STATE};
     use crate::number::{Number, Refusal};
-    use crate::state::{Event, Step};
+    use crate::state::{Buffer, Event, State, Step};
+
+    #[test]
+    fn a_state_and_its_words_stand_for_each_other() {
+        let mut state = State { clock: 0xfedc_ba98, ..State::default() };
+        state.buffers[0] = Buffer { isa: 1, slots: [2, 3, 4, 5, 6, 7, 8, 9], delay: 10, error: false };
+        state.buffers[7] = Buffer { delay: 65_535, error: true, ..Buffer::default() };
+        let mut words = [0; STATE];
+        words[..11].copy_from_slice(&[0xfedc_ba98, 1, 2, 3, 4, 5, 6, 7, 8, 9, 10]);
+        words[87..].copy_from_slice(&[65_535, 1]);
+        assert_eq!((words_of(&state), state_of(&words)), (words, state));
+    }
 
     #[test]
     fn an_answer_is_number_count_and_position() {

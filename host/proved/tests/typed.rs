@@ -2,7 +2,10 @@
 
 use std::collections::BTreeSet;
 
-use jirvuntsag_proved::{calls, Chunk, End, Model, Number, Refusal, State, Store, Table};
+use jirvuntsag_proved::{calls, Buffer, Chunk, End, Model, Number, Refusal, State, Store, Table};
+
+/// A model of version 2: one buffer, and a rule without tests that asks whether that is in error, and does nothing.
+const ASKS: [u8; 12] = [2, 0x10, 0, 0x20, 0, 0, 0, 0, 0, 0, 0, 0x22];
 
 /// The shipped model that counts from 1 to 3.
 fn counting() -> Vec<u8> {
@@ -40,7 +43,7 @@ fn refused() -> Vec<(Vec<u8>, Refusal)> {
         (vec![0; 65_537], Refusal::TooLong),
         (vec![], Refusal::Missing { at: 0 }),
         (image[..70].to_vec(), Refusal::Missing { at: 558 }),
-        (vec![2], Refusal::Broken { at: 0 }),
+        (vec![4], Refusal::Broken { at: 0 }),
         // Six tests in rule 0, where there are two buffers; its action of kind 3.
         (flipped(&image, 238), Refusal::Broken { at: 237 }),
         (flipped(&image, 299), Refusal::Broken { at: 299 }),
@@ -55,6 +58,10 @@ fn refused() -> Vec<(Vec<u8>, Refusal)> {
         (flipped(&image, 251), Refusal::Buffer { at: 279 }),
         // The action of rule 2 as a modify of buffer 1, which the rule does not test.
         (flipped(&flipped(&image, 560), 561), Refusal::Buffer { at: 561 }),
+        // A rule without tests and without queries; a query of buffer 1, where there is one; a query of kind 3.
+        (flipped(&ASKS, 90), Refusal::Broken { at: 87 }),
+        (flipped(&ASKS, 93), Refusal::Buffer { at: 91 }),
+        (flipped(&ASKS, 95), Refusal::Broken { at: 94 }),
     ]
 }
 
@@ -208,6 +215,39 @@ fn a_store_that_is_full_ends_a_run_and_one_that_does_not_fit_is_refused() {
 }
 
 #[test]
+fn a_rule_that_asks_for_an_error_fires_once_it_is_seen() {
+    let (model, mut state, mut table) = Model::open(&ASKS).expect("an accepted image");
+    assert!(!state.buffers[0].error && table.entries().all(|entry| !entry.matches));
+    assert_eq!(model.run(state, &mut table, 1).expect("a run").end, End::Halted);
+    state.buffers[0] = Buffer { delay: 60, error: true, ..Buffer::default() };
+    assert!(!state.buffers[0].has_failed());
+    assert_eq!(model.refresh(&state, 1, &mut table), Ok(1));
+    // A wait of 60 ms, and then the rule fires as often as it is asked.
+    let ran = model.run(state, &mut table, 3).expect("a run");
+    assert_eq!((ran.end, ran.state.clock, ran.state.buffers[0].has_failed()), (End::Done, 160, true));
+    assert_eq!(model.run_fresh(state, 3), Ok(ran));
+}
+
+#[test]
+fn an_error_flag_beside_a_chunk_or_past_the_count_is_refused() {
+    let image = counting();
+    let (model, opening, table) = Model::open(&image).expect("an accepted image");
+    for buffer in [0, 2, 7] {
+        let mut state = opening;
+        state.buffers[buffer].error = true;
+        assert_eq!(model.run(state, &mut table.clone(), 1), Err(Refusal::State), "buffer {buffer}");
+        assert_eq!(model.run_fresh(state, 1), Err(Refusal::State), "buffer {buffer}");
+        assert_eq!(model.refresh(&state, 1, &mut table.clone()), Err(Refusal::State), "buffer {buffer}");
+        assert_eq!(calls::run_fresh(&image, &state, 1), (Number::Refused(Refusal::State), state, 0));
+    }
+    let mut state = opening;
+    state.buffers[1].error = true;
+    // The first step asks the retrieval buffer again, and a fact is found.
+    let after = model.run_fresh(state, 1).expect("a run").state;
+    assert_eq!((after.buffers[1].isa, after.buffers[1].error), (1, false));
+}
+
+#[test]
 fn each_number_has_its_own_words() {
     let at = 0;
     let refusals = [
@@ -247,9 +287,9 @@ fn an_error_carries_number_position_and_words() {
 #[test]
 fn a_main_that_gives_it_up_prints_the_sentence() {
     let refused = || -> Result<(), Box<dyn std::error::Error>> {
-        Model::open(&[2])?;
+        Model::open(&[4])?;
         Ok(())
     };
     let printed = format!("Error: {:?}", refused().expect_err("another version"));
-    assert_eq!(printed, "Error: a version, count, type or action kind breaks its rule, at bit 0 (number 3)");
+    assert_eq!(printed, "Error: a version, count, type or kind breaks its rule, at bit 0 (number 3)");
 }
