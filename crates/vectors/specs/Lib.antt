@@ -1,3 +1,3 @@
--- Outside cases with answers (vectors/05.txt), held to the definitions of `meaning`: what a row is, and the tables of rows.
+-- Outside cases with answers (vectors/06.txt), held to the definitions of `meaning`: what a row is, and the tables of rows.
 pub mod Rows
 pub mod Cases

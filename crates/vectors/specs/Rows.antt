@@ -1,9 +1,11 @@
 -- A case as a row: what the definitions give for a call, and what is said, each as words in the order of the answer's line.
 use mathlib.Core.List.{List, [], _∷_, _++_}
 use Prim.Native.Nat.{ℕ, zero, suc, _/_, _%_, _^_}
+use lib.Dec.{eqb}
 use lib.ListN.{getD, take, drop, replicate}
 use Rattle.meaning.specs.declared.Buffer.{Buffer}
 use Rattle.meaning.specs.declared.State.{State}
+use Rattle.meaning.specs.Base.{if_then_else_}
 use Rattle.meaning.specs.Step.{Fired, Waited}
 use Rattle.meaning.specs.Calls.{Opened, openOf, Ran, WithStore, runLent, Refreshed, refreshOf}
 use Rattle.meaning.specs.Fresh.{FreshRan, freshLent}
@@ -22,18 +24,18 @@ infixr 67 _zeros_
 abbrev pub _zeros_ : ℕ → List ℕ → List ℕ
 _zeros_ n ws = replicate n 0 ++ ws
 
--- ---- a state and its words: the clock, then ten for each of eight buffers, its type, its slots and its delay
+-- ---- a state and its words: the clock, then eleven for each of eight buffers, its type, its slots, its delay and its error flag, 1 where it is set
 
 abbrev buffersOf : ℕ → List ℕ → List Buffer
 buffersOf zero ws = []
-buffersOf (suc n) ws = record { isa = getD ws 0 0; slots = take 8 (drop 1 ws); delay = getD ws 9 0 } ∷ buffersOf n (drop 10 ws)
+buffersOf (suc n) ws = record { isa = getD ws 0 0; slots = take 8 (drop 1 ws); delay = getD ws 9 0; error = eqb (getD ws 10 0) 1 } ∷ buffersOf n (drop 11 ws)
 
 abbrev stateOf : List ℕ → State
 stateOf ws = record { buffers = buffersOf 8 (drop 1 ws); clock = getD ws 0 0 }
 
 abbrev bufferWords : List Buffer → List ℕ
 bufferWords [] = []
-bufferWords (b ∷ bs) = b .isa ∷ b .slots ++ (b .delay ∷ bufferWords bs)
+bufferWords (b ∷ bs) = b .isa ∷ b .slots ++ (b .delay ∷ (if b .error then 1 else 0) ∷ bufferWords bs)
 
 abbrev stateWords : State → List ℕ
 stateWords s = s .clock ∷ bufferWords (s .buffers)
