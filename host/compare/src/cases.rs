@@ -1,10 +1,10 @@
-//! The cases of `vectors/05.txt`, which have requests 2026-01 to 2026-05 in: a call and its answer on two lines.
+//! The cases of `vectors/06.txt`, which have requests 2026-01 to 2026-06 in: a call and its answer on two lines.
 
 use jirvuntsag_reference::{Buffer, State};
 
 use crate::{Engine, Numbered};
 
-const PATH: &str = concat!(env!("CARGO_MANIFEST_DIR"), "/../../vectors/05.txt");
+const PATH: &str = concat!(env!("CARGO_MANIFEST_DIR"), "/../../vectors/06.txt");
 
 /// A call and the answer that it must have, as they are written.
 pub struct Case {
@@ -16,7 +16,7 @@ pub struct Case {
 
 /// All cases.
 pub fn cases() -> Vec<Case> {
-    let text = std::fs::read_to_string(PATH).expect("vectors/05.txt");
+    let text = std::fs::read_to_string(PATH).expect("vectors/06.txt");
     let lines: Vec<&str> = text.lines().collect();
     assert_eq!(lines.len() % 2, 0, "a call without an answer");
     lines.chunks_exact(2).map(|pair| Case { call: pair[0].into(), answer: pair[1].into() }).collect()
@@ -110,10 +110,11 @@ fn state(text: &str) -> State {
     State { clock: clock.parse().expect("clock"), buffers: buffers.try_into().expect("eight buffers") }
 }
 
-/// Type, eight slots, delay.
+/// Type, eight slots, delay, error flag.
 fn buffer(words: &[u16]) -> Buffer {
-    assert_eq!(words.len(), 10);
-    Buffer { isa: words[0], slots: words[1..9].try_into().expect("eight slots"), delay: words[9] }
+    let &[isa, ref slots @ .., delay, flag] = words else { panic!("{} words", words.len()) };
+    assert!(flag < 2, "flag {flag}");
+    Buffer { isa, slots: slots.try_into().expect("eight slots"), delay, error: flag == 1 }
 }
 
 /// `PLACES/COUNT/F0/F1/..`; places that are not listed are nine zeros.
@@ -146,7 +147,7 @@ fn show_words(words: &[u16]) -> String {
 
 fn show_state(state: &State) -> String {
     let buffers = state.buffers.iter().map(|buffer| {
-        let words = [&[buffer.isa], &buffer.slots[..], &[buffer.delay]].concat();
+        let words = [&[buffer.isa], &buffer.slots[..], &[buffer.delay, buffer.error.into()]].concat();
         format!("/{}", show_words(&words))
     });
     format!("{}{}", state.clock, buffers.collect::<String>())

@@ -8,13 +8,13 @@ use crate::{Needed, Opened, Ran, Refreshed, Told};
 
 /// A state for the proved library.
 fn to_proved(state: &State) -> proved::State {
-    let buffer = |buffer: Buffer| proved::Buffer { isa: buffer.isa, slots: buffer.slots, delay: buffer.delay };
+    let buffer = |Buffer { isa, slots, delay, error }: Buffer| proved::Buffer { isa, slots, delay, error };
     proved::State { buffers: state.buffers.map(buffer), clock: state.clock }
 }
 
 /// A state of the proved library.
 fn from_proved(state: &proved::State) -> State {
-    let buffer = |buffer: proved::Buffer| Buffer { isa: buffer.isa, slots: buffer.slots, delay: buffer.delay };
+    let buffer = |proved::Buffer { isa, slots, delay, error }: proved::Buffer| Buffer { isa, slots, delay, error };
     State { buffers: state.buffers.map(buffer), clock: state.clock }
 }
 

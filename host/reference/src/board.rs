@@ -3,19 +3,9 @@
 use crate::parts::Chunk;
 use crate::place::Place;
 use crate::plan::Plan;
+use crate::standing::Standing;
 use crate::state::{Buffer, State};
 use crate::{BUFFERS, SLOTS};
-
-/// What queries see of a buffer: pending, visible, or visible after a request that found no fact.
-#[derive(Clone, Copy)]
-pub(crate) enum Standing {
-    Busy,
-    Free,
-    Failed,
-}
-
-/// How many ways to stand there are.
-pub(crate) const STANDINGS: usize = 3;
 
 /// A state of which slots are one list and delays one vector.
 pub(crate) struct Board {
@@ -80,15 +70,11 @@ impl Board {
         (self.delays[b] == 0 && self.isas[b] != 0).then(|| Chunk { isa: self.isas[b] as u8, slots: rows[b] })
     }
 
-    /// What queries see of a buffer.
+    /// How a buffer stands to queries.
     #[inline]
     pub fn standing(&self, buffer: usize) -> Standing {
         let b = buffer & (BUFFERS - 1);
-        match (self.delays[b], self.errors[b]) {
-            (0, false) => Standing::Free,
-            (0, true) => Standing::Failed,
-            _ => Standing::Busy,
-        }
+        Standing::of(self.delays[b], self.errors[b])
     }
 
     /// Clears the error flag of a buffer that keeps its chunk.

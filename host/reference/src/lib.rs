@@ -23,6 +23,7 @@ mod plan;
 mod print;
 mod refusal;
 mod set;
+mod standing;
 mod state;
 mod step;
 mod store;

@@ -1,9 +1,9 @@
 //! The rules rearranged for matching: by preference, with their comparisons in flat lists.
 
-use crate::board::{Standing, STANDINGS};
-use crate::parts::{Ask, Parts, Query, RuleHead};
+use crate::parts::{Parts, Query, RuleHead};
 use crate::place::{place, Place};
 use crate::set::Set;
+use crate::standing::{Standing, STANDINGS};
 use crate::{BUFFERS, SLOTS};
 
 /// The rules in the order in which they are chosen; a rule's rank is its index here.
@@ -159,7 +159,7 @@ impl Plan {
             let buffer = usize::from(query.buffer);
             self.queried |= 1 << buffer;
             self.askers[buffer].insert(rank);
-            for &standing in held_by(query.asks) {
+            for &standing in Standing::answering(query.asks) {
                 self.answers[buffer][standing as usize].insert(rank);
             }
         }
@@ -179,15 +179,6 @@ impl Plan {
                 set.join_all_but(&self.testers[buffer]);
             }
         }
-    }
-}
-
-/// How a buffer stands when a query of it holds.
-fn held_by(asks: Ask) -> &'static [Standing] {
-    match asks {
-        Ask::Busy => &[Standing::Busy],
-        Ask::Free => &[Standing::Free, Standing::Failed],
-        Ask::Error => &[Standing::Failed],
     }
 }
 
