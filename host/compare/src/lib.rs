@@ -7,7 +7,7 @@ mod printing;
 mod proved;
 mod same;
 
-pub use by_hand::{always_fires, P1};
+pub use by_hand::{always_fires, buffer, failed, state, P1};
 pub use cases::{cases, Case};
 pub use fresh::{hold_fresh, hold_fresh_to, hold_lent};
 pub use same::{hold_same, opening, Numbered};

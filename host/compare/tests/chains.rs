@@ -29,6 +29,8 @@ enum Link {
     BrokenState(Box<State>),
     /// A run and a refresh that are handed the table with one word more.
     LongTable,
+    /// The error flag of a buffer that holds nil is changed by hand, and the table refreshed with that buffer marked.
+    TurnFlag(usize),
     SetClock(u32),
     SetWord(usize, u16),
 }
@@ -72,7 +74,8 @@ fn link(rng: &mut Rng, spec: &ModelSpec, packed: &Packed, at: &State) -> Link {
         13..=14 => Link::DamagedImage(damage(rng, packed).1),
         15 => Link::BrokenState(Box::new(broken_state(rng, spec).1)),
         16 => Link::LongTable,
-        17..=18 => Link::SetClock(clock(rng)),
+        17 => Link::SetClock(clock(rng)),
+        18 => Link::TurnFlag(rng.below(spec.opening.len())),
         20..=23 => Link::RunLent(steps(rng).min(200)),
         24..=26 => Link::TraceLent(steps(rng).min(200)),
         27 => Link::OtherStore(store(rng, spec, at).1),
@@ -108,6 +111,28 @@ fn misuse(engine: &Engine, image: &[u8], link: &Link, hand: &mut Hand) -> Said {
             assert_eq!(longer.pop(), Some(1), "the word too many comes back as it was");
             hand.table = longer;
         }
+    }
+    said
+}
+
+/// Changes what is in hand as a caller may between two calls.
+fn change(engine: &Engine, image: &[u8], link: &Link, hand: &mut Hand) -> Said {
+    let mut said = Said::default();
+    match *link {
+        Link::TurnFlag(buffer) => {
+            let of = &mut hand.state.buffers[buffer];
+            of.error = !of.error && of.isa == 0;
+            let (number, position, count) = (engine.refresh)(image, &hand.state, 1 << buffer, &mut hand.table);
+            said.note(number, position, count);
+        }
+        Link::SetClock(clock) => hand.state.clock = clock,
+        Link::SetWord(at, value) => {
+            let words = hand.table.len().max(1);
+            if let Some(word) = hand.table.get_mut(at % words) {
+                *word = value;
+            }
+        }
+        _ => panic!("{link:?} is a call"),
     }
     said
 }
@@ -155,13 +180,7 @@ fn make(engine: &Engine, image: &[u8], link: &Link, hand: &mut Hand) -> Said {
                 _ => hand.store = lent,
             }
         }
-        Link::SetClock(clock) => hand.state.clock = *clock,
-        Link::SetWord(at, value) => {
-            let words = hand.table.len().max(1);
-            if let Some(word) = hand.table.get_mut(at % words) {
-                *word = *value;
-            }
-        }
+        Link::TurnFlag(_) | Link::SetClock(_) | Link::SetWord(..) => said = change(engine, image, link, hand),
         Link::DamagedImage(_) | Link::BrokenState(_) | Link::LongTable => said = misuse(engine, image, link, hand),
     }
     said
@@ -171,7 +190,7 @@ fn make(engine: &Engine, image: &[u8], link: &Link, hand: &mut Hand) -> Said {
 fn keeps(link: &Link, said: &Said) -> bool {
     match link {
         Link::Run(_) | Link::Trace(_) | Link::Refresh(_) | Link::SetClock(_) => true,
-        Link::RunLent(_) | Link::TraceLent(_) | Link::OtherStore(_) => true,
+        Link::RunLent(_) | Link::TraceLent(_) | Link::OtherStore(_) | Link::TurnFlag(_) => true,
         Link::DamagedImage(_) | Link::BrokenState(_) | Link::LongTable => said.refused(),
         Link::SetWord(..) => false,
     }

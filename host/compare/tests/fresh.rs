@@ -2,7 +2,7 @@
 
 use std::collections::BTreeSet;
 
-use jirvuntsag_compare::{always_fires, hold_fresh, hold_fresh_to, Told, BOTH, P1, REFERENCE};
+use jirvuntsag_compare::{always_fires, failed, hold_fresh, hold_fresh_to, Told, BOTH, P1, REFERENCE};
 use jirvuntsag_generate::{case, each_seed};
 use jirvuntsag_packing::{largest, model_a, pack, ChunkSpec, ModelSpec};
 use jirvuntsag_reference::{Buffer, Event, Kind, State};
@@ -14,7 +14,7 @@ fn at(clock: u32) -> State {
 
 /// A buffer that holds a chunk with these values in its first slots.
 fn chunk(isa: u16, [first, second, third]: [u16; 3], delay: u16) -> Buffer {
-    Buffer { isa, slots: [first, second, third, 0, 0, 0, 0, 0], delay }
+    Buffer { isa, slots: [first, second, third, 0, 0, 0, 0, 0], delay, error: false }
 }
 
 /// A state with another chunk in one of its buffers.
@@ -52,7 +52,7 @@ fn an_image_is_refused_by_its_number_whatever_the_state() {
     let follows = [&P1[..], &[0]].concat();
     let padded = [&P1[..7], &[0x10]].concat();
     let too_long = vec![0; 65_537];
-    let version_and_too_long = [&[2][..], &[0; 65_536]].concat();
+    let version_and_too_long = [&[4][..], &[0; 65_536]].concat();
     let mut masked = pack(&model_a());
     masked[33] |= 0x40;
     let refused: [(&[u8], u8, u32); 9] = [
@@ -60,7 +60,7 @@ fn an_image_is_refused_by_its_number_whatever_the_state() {
         (&version_and_too_long, 1, 0),
         (&[], 2, 0),
         (&P1[..7], 2, 53),
-        (&[2], 3, 0),
+        (&[4], 3, 0),
         (&[1, 0], 3, 8),
         (&follows, 4, 0),
         (&padded, 4, 0),
@@ -81,7 +81,11 @@ fn a_state_that_is_not_well_formed_is_refused_before_any_step() {
     let (image, opening) = opened_a();
     let full = State { clock: u32::MAX, ..opening };
     let late = chunk(0, [0; 3], 1);
+    let flagged = |buffer: Buffer| Buffer { error: true, ..buffer };
     let cases = [
+        (0, flagged(opening.buffers[0])),
+        (1, flagged(chunk(1, [1, 2, 0], 100))),
+        (2, failed(0)),
         (0, chunk(3, [0; 3], 0)),
         (1, chunk(1, [4_096, 0, 0], 0)),
         (0, chunk(2, [1, 1, 1], 0)),
@@ -95,6 +99,7 @@ fn a_state_that_is_not_well_formed_is_refused_before_any_step() {
         }
     }
     assert_ends(&image, with(full, 1, chunk(1, [4_095, 4_095, 0], 65_535)), 0, 0, 0);
+    assert_ends(&image, with(full, 1, failed(1)), 0, 0, 0);
 }
 
 #[test]
@@ -126,7 +131,8 @@ fn model_a_is_told_step_by_step() {
     let kinds = [fire(0), wait(100), fire(1), wait(100), fire(1), fire(2), wait(150)];
     let clocks = [50, 150, 200, 300, 350, 400, 550];
     let events = clocks.into_iter().zip(kinds).map(|(clock, kind)| Event { clock, kind });
-    let told = (9, 0, at(550), events.collect());
+    // The last request asks for what follows 3, and finds no fact.
+    let told = (9, 0, with(at(550), 1, failed(0)), events.collect());
     for engine in BOTH {
         hold_fresh_to(engine, &image, opening, 1_000, &told);
     }

@@ -2,22 +2,10 @@
 
 use std::collections::BTreeMap;
 
-use jirvuntsag_compare::{hold_lent, Told, BOTH};
+use jirvuntsag_compare::{buffer, failed, hold_lent, state, Told, BOTH};
 use jirvuntsag_generate::{case, each_seed};
 use jirvuntsag_packing::{model_a, pack, ActionSpec, ChunkSpec, FactSpec, ModelSpec, RuleSpec, Term, TestSpec};
 use jirvuntsag_reference::{Buffer, Event, Kind, State, PLACES, STORE_WORDS};
-
-/// A chunk of two slots, visible after so many ms.
-fn buffer(isa: u16, first: u16, second: u16, delay: u16) -> Buffer {
-    Buffer { isa, slots: [first, second, 0, 0, 0, 0, 0, 0], delay }
-}
-
-/// A state with these buffers first.
-fn state(clock: u32, buffers: &[Buffer]) -> State {
-    let mut state = State { clock, ..State::default() };
-    state.buffers[..buffers.len()].copy_from_slice(buffers);
-    state
-}
 
 /// The words of a store with these facts of two slots.
 fn store(facts: &[(u16, u16, u16)]) -> Vec<u16> {
@@ -38,7 +26,7 @@ fn filled(count: u16) -> Vec<u16> {
 fn image(rules: Vec<RuleSpec>) -> Vec<u8> {
     let fact = FactSpec { chunk: ChunkSpec::new(1, &[7, 8]), activation: 10, latency: 100 };
     let opening = vec![ChunkSpec::nil(); 3];
-    pack(&ModelSpec { failure: 200, types: vec![2, 2], opening, facts: vec![fact], rules })
+    pack(&ModelSpec { failure: 200, types: vec![2, 2], opening, facts: vec![fact], rules, ..ModelSpec::default() })
 }
 
 /// A rule that fires while its first buffer holds type 1, and does these actions.
@@ -136,7 +124,7 @@ fn a_chunk_is_cleared_and_then_retrieved() {
     // Without a store it is not there, and the answer is nil after the failure latency.
     for engine in BOTH {
         let (number, _, after, _) = (engine.trace_fresh_lent)(&clears_then_asks(), from, 2, None);
-        assert_eq!((number, after), (0, state(100, &[buffer(0, 0, 0, 0), buffer(0, 0, 0, 200)])), "{}", engine.name);
+        assert_eq!((number, after), (0, state(100, &[buffer(0, 0, 0, 0), failed(200)])), "{}", engine.name);
     }
 }
 
@@ -145,7 +133,7 @@ fn a_request_in_the_step_that_clears_reads_the_memory_before_it() {
     let actions = || vec![ActionSpec::clear(0), ActionSpec::request(1, 1, &[(0, Term::Symbol(3))])];
     let from = state(0, &[buffer(1, 3, 4, 0)]);
     let (told, left) = step(actions(), from, &store(&[]));
-    assert_eq!(told.2, state(50, &[buffer(0, 0, 0, 0), buffer(0, 0, 0, 200)]));
+    assert_eq!(told.2, state(50, &[buffer(0, 0, 0, 0), failed(200)]));
     assert!(left == store(&[(1, 3, 4)]));
     let (told, _) = step(actions(), from, &store(&[(1, 3, 9)]));
     assert_eq!(told.2, state(50, &[buffer(0, 0, 0, 0), buffer(1, 3, 9, 50)]));
@@ -169,6 +157,7 @@ fn facts_of_the_image_come_before_learned_ones_and_those_in_their_order() {
         opening: vec![ChunkSpec::nil(); 3],
         facts: vec![fact],
         rules: vec![rule(ask(0, 7))],
+        ..ModelSpec::default()
     };
     assert_eq!(hold_lent(&pack(&spec), from, 1, &lent).0 .2.buffers[1], buffer(1, 7, 8, 100));
 }
@@ -258,7 +247,7 @@ fn a_store_is_refused_for_what_its_count_covers() {
     let mut broken = from;
     broken.buffers[0].isa = 3;
     assert_eq!(hold_lent(&clear, broken, 1, &[0]).0 .0, 6, "6 before 15");
-    assert_eq!(hold_lent(&[2], from, 1, &[0]).0 .0, 3);
+    assert_eq!(hold_lent(&[4], from, 1, &[0]).0 .0, 3);
 }
 
 #[test]
@@ -322,6 +311,7 @@ fn large(first: impl Fn(u16) -> u16, wanted: &[(usize, Term)]) -> Vec<u8> {
         opening: vec![ChunkSpec::nil(); 3],
         facts: (0..512).map(fact).collect(),
         rules: vec![rule(1, ActionSpec::clear(1)), rule(2, ActionSpec::request(1, 1, wanted))],
+        ..ModelSpec::default()
     })
 }
 
@@ -355,7 +345,7 @@ fn chunks_of_no_slot_and_of_eight_are_learned_once() {
     let clear = RuleSpec { tests: vec![TestSpec::new(0, 1, &[])], actions: clear_two(), ..RuleSpec::default() };
     let opening = vec![ChunkSpec::nil(); 2];
     let image = pack(&ModelSpec { types: vec![0, 8], opening, rules: vec![clear], ..ModelSpec::default() });
-    let last = Buffer { isa: 2, slots: [0, 0, 0, 0, 0, 0, 0, 4_095], delay: 0 };
+    let last = Buffer { isa: 2, slots: [0, 0, 0, 0, 0, 0, 0, 4_095], ..Buffer::default() };
     let mut wanted = store(&[(1, 0, 0), (2, 0, 0)]);
     wanted[18] = 4_095;
     let (told, left) = hold_lent(&image, two(buffer(1, 0, 0, 0), last), 1, &store(&[]));

@@ -17,15 +17,17 @@ fn opened_a(engine: &Engine) -> (Vec<u8>, State, Vec<u16>) {
 #[test]
 fn openings() {
     let with_last = |last: u8| [&P1[..7], &[last]].concat();
-    let cases: [(&[u8], u8, u32); 8] = [
+    let with_first = |first: u8| [&[first], &P1[1..]].concat();
+    let cases: [(&[u8], u8, u32); 9] = [
         (&P1, 0, 0),
         (&P1[..7], 2, 53),
         (&[&P1[..], &[0]].concat(), 4, 0),
         (&with_last(0x10), 4, 0),
         (&with_last(0x20), 3, 53),
         (&[], 2, 0),
-        (&[2], 3, 0),
-        (&[&[2], &P1[1..]].concat(), 3, 0),
+        (&[4], 3, 0),
+        (&with_first(2), 0, 0),
+        (&with_first(4), 3, 0),
     ];
     for engine in BOTH {
         for (image, number, at) in cases {

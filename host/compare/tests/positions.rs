@@ -1,10 +1,11 @@
-//! Where an image is refused: each field of model A with each of its values, each cut and each flipped bit, by both engines.
+//! Where an image is refused: each field of model A and of a model with queries with each of its values, each cut and each flipped
+//! bit, by both engines.
 
 use std::collections::BTreeSet;
 
 use jirvuntsag_compare::{hold_same, opening, Numbered};
 use jirvuntsag_generate::{damage, each_seed, model_of, Shape};
-use jirvuntsag_packing::{model_a, pack_with_fields, ChunkSpec, Field, ModelSpec, Packed, Role};
+use jirvuntsag_packing::{model_a, pack_with_fields, retries, ChunkSpec, Field, ModelSpec, Packed, Role};
 
 /// Steps that are asked of a run: model A makes seven, and what is made of it may make any number.
 const STEPS: u16 = 20;
@@ -48,7 +49,7 @@ fn number_of(field: &Field, value: u16) -> u8 {
     match field.role {
         Role::TestMask | Role::ActionMask => 11,
         Role::TestTerm | Role::ActionTerm => 12,
-        Role::TestBuffer | Role::ActionBuffer => 13,
+        Role::TestBuffer | Role::QueryBuffer | Role::ActionBuffer => 13,
         Role::ActionKind if value == 0 => 13,
         _ => 3,
     }
@@ -99,6 +100,12 @@ fn every_value_of_every_field_of_model_a_with_a_rule_or_a_slot() {
 }
 
 #[test]
+fn every_value_of_every_field_of_a_model_with_queries_with_a_rule_or_a_slot() {
+    let numbers = hold_fields(&retries(), |width| width < WIDE);
+    assert_eq!(numbers, BTreeSet::from([0, 2, 3, 4, 11, 12, 13]));
+}
+
+#[test]
 fn every_value_of_every_latency_activation_and_utility_of_model_a() {
     assert_eq!(hold_fields(&model_a(), |width| width == WIDE), BTreeSet::from([0]));
 }
@@ -114,17 +121,24 @@ fn every_value_of_every_field_with_a_type_and_a_buffer_that_nothing_uses() {
 }
 
 #[test]
-fn every_cut_of_model_a_is_refused_where_the_first_missing_field_begins() {
-    let packed = pack_with_fields(&model_a());
-    for bytes in 0..=packed.bytes.len() {
-        let missing = packed.first_missing(bytes).map(|field| (2, field.at as u32));
-        assert_eq!(hold(&packed.bytes[..bytes]), missing, "cut to {bytes} bytes");
+fn every_cut_is_refused_where_the_first_missing_field_begins() {
+    for spec in [model_a(), retries()] {
+        let packed = pack_with_fields(&spec);
+        for bytes in 0..=packed.bytes.len() {
+            let missing = packed.first_missing(bytes).map(|field| (2, field.at as u32));
+            assert_eq!(hold(&packed.bytes[..bytes]), missing, "cut to {bytes} bytes");
+        }
     }
 }
 
 #[test]
-fn every_flipped_bit_of_model_a() {
-    let packed = pack_with_fields(&model_a());
+fn every_flipped_bit() {
+    hold_flipped(&pack_with_fields(&model_a()));
+    hold_flipped(&pack_with_fields(&retries()));
+}
+
+/// Flips each bit of an image: what is refused is its own field or one after it, and of a pad bit the pad.
+fn hold_flipped(packed: &Packed) {
     for bit in 0..8 * packed.bytes.len() {
         let mut image = packed.bytes.clone();
         image[bit / 8] ^= 0x80 >> (bit % 8);

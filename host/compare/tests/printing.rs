@@ -33,7 +33,8 @@ fn never_halts() -> ModelSpec {
         actions: vec![ActionSpec::request(0, 1, &[])],
         ..RuleSpec::default()
     };
-    ModelSpec { failure: 65_535, types: vec![0], opening: vec![ChunkSpec::nil()], facts: Vec::new(), rules: vec![asks] }
+    let opening = vec![ChunkSpec::nil()];
+    ModelSpec { failure: 65_535, types: vec![0], opening, rules: vec![asks], ..ModelSpec::default() }
 }
 
 #[test]

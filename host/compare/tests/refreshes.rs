@@ -1,13 +1,15 @@
-//! A refresh matches the rules that test a marked buffer and no others: by its count, and by wrong words that must stay.
+//! A refresh matches the rules that test or query a marked buffer and no others: by its count, and by wrong words that must stay.
 
 use jirvuntsag_compare::{Engine, BOTH, REFERENCE};
 use jirvuntsag_generate::{each_seed, model, state, Rng};
-use jirvuntsag_packing::{model_a, pack, ModelSpec};
+use jirvuntsag_packing::{model_a, pack, retries, ModelSpec, RuleSpec};
 use jirvuntsag_reference::{Model, State};
 
-/// Whether a rule tests a marked buffer.
+/// Whether a rule tests or queries a marked buffer.
 fn is_marked(spec: &ModelSpec, rule: usize, mark: u16) -> bool {
-    spec.rules[rule].tests.iter().any(|test| mark >> test.buffer & 1 == 1)
+    let RuleSpec { tests, queries, .. } = &spec.rules[rule];
+    let mut watched = tests.iter().map(|test| test.buffer).chain(queries.iter().map(|query| query.buffer));
+    watched.any(|buffer| mark >> buffer & 1 == 1)
 }
 
 /// A table of words that are no rule's entry: no first word of a fresh entry is above 1.
@@ -42,6 +44,20 @@ fn every_mark_on_model_a() {
         for (mark, number, count) in [(2, 0, 2), (1, 0, 3), (3, 0, 3), (0, 0, 0), (4, 10, 0), (65_535, 10, 0)] {
             let said = (engine.refresh)(&pack(&spec), &state, mark, &mut [9; 27]);
             assert_eq!(said, (number, 0, count), "{} {mark}", engine.name);
+        }
+    }
+}
+
+#[test]
+fn every_mark_on_a_model_with_queries() {
+    let spec = retries();
+    let (_, _, state) = (REFERENCE.open)(&pack(&spec), &mut [0; 36]);
+    for engine in BOTH {
+        hold(engine, &mut Rng::new(1), &spec, &state);
+        // All but rule 3 test or query the goal; rule 1 only queries, and rule 2 only queries the retrieval.
+        for (mark, count) in [(0, 0), (1, 3), (2, 4), (3, 4)] {
+            let said = (engine.refresh)(&pack(&spec), &state, mark, &mut [9; 36]);
+            assert_eq!(said, (0, 0, count), "{} {mark}", engine.name);
         }
     }
 }

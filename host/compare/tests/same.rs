@@ -13,7 +13,13 @@ fn every_first_byte_and_every_byte_that_follows() {
     for byte in 0..=255 {
         let mut first = image.clone();
         first[0] = byte;
-        assert_eq!(hold_same(&opening(first, STEPS)), (byte != 1).then_some((3, 0)));
+        let refused = match byte {
+            1 => None,
+            // The bits of rule 0's action, read as queries: two, the first of buffer 4.
+            2 => Some((13, 300)),
+            _ => Some((3, 0)),
+        };
+        assert_eq!(hold_same(&opening(first, STEPS)), refused, "byte {byte}");
         assert_eq!(hold_same(&opening([&image[..], &[byte]].concat(), STEPS)), Some((4, 0)));
     }
 }
@@ -21,7 +27,7 @@ fn every_first_byte_and_every_byte_that_follows() {
 #[test]
 fn images_at_the_largest_size_and_past_it() {
     for (bytes, too_long) in [(65_535, false), (65_536, false), (65_537, true), (70_000, true)] {
-        for (first, number, position) in [(0, 3, 0), (1, 3, 8)] {
+        for (first, number, position) in [(0, 3, 0), (1, 3, 8), (2, 3, 8), (4, 3, 0)] {
             let mut image = vec![0; bytes];
             image[0] = first;
             let refused = if too_long { (1, 0) } else { (number, position) };

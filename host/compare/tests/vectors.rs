@@ -32,7 +32,7 @@ fn the_proved_library_answers_every_case() {
 fn every_number_of_a_fresh_run_comes_up_but_1() {
     let fresh = cases().into_iter().filter(|case| case.call.starts_with("fresh "));
     let numbers: Vec<u8> = fresh.map(|case| case.numbered().0).collect();
-    assert_eq!(numbers.len(), 63);
+    assert_eq!(numbers.len(), 62);
     assert_eq!(BTreeSet::from_iter(numbers), BTreeSet::from([0, 2, 3, 4, 6, 8, 9, 11, 12, 13, 14, 15]));
 }
 
@@ -42,6 +42,23 @@ fn every_number_about_a_field_comes_up_with_a_position_and_no_other_has_one() {
     let placed: BTreeSet<u8> =
         called.map(|case| case.numbered()).filter(|said| said.1 != 0).map(|said| said.0).collect();
     assert_eq!(placed, BTreeSet::from([2, 3, 11, 12, 13]));
+}
+
+/// Whether a flag of the state that an answer leaves is set: the last word of a buffer, where the state is the third part.
+fn leaves_a_flag(answer: &str) -> bool {
+    let state = answer.split(' ').nth(2).expect("a state");
+    state.split('/').skip(1).any(|buffer| buffer.ends_with(",1"))
+}
+
+#[test]
+fn images_with_queries_and_states_with_flags_come_up() {
+    let runs: Vec<_> =
+        cases().into_iter().filter(|case| !case.call.starts_with("re") && !case.call.starts_with("p")).collect();
+    let asking = runs.iter().filter(|case| case.call.contains(" 02") && matches!(case.numbered().0, 0 | 7..=9));
+    assert!(asking.count() >= 20);
+    for number in [0, 6, 9] {
+        assert!(runs.iter().any(|case| case.numbered().0 == number && leaves_a_flag(&case.answer)), "{number}");
+    }
 }
 
 #[test]
