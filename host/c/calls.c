@@ -1,5 +1,6 @@
 /* The functions of jirvuntsag.h on model A, answers and all that they leave; those without a table are in fresh_calls.c, those
- * with a store in lent_calls.c, and the images that are refused in refused.c. Also compiled as C++. Exits with 1 at the first that differs. */
+ * with a store in lent_calls.c, queries and error flags in asking_calls.c, and the images that are refused in refused.c. Also compiled as
+ * C++. Exits with 1 at the first that differs. */
 #include "calls.h"
 
 #include <string.h>
@@ -28,7 +29,7 @@ void large_word(uint32_t state[STATE], size_t word) {
 static void check_open(void) {
     CHECK(jirvuntsag_table_len(image, LENGTH) == answered(0, WORDS));
     CHECK(jirvuntsag_open(image, LENGTH, fresh, WORDS, opening) == 0);
-    CHECK(opening[0] == 0 && opening[1] == 2 && opening[2] == 1 && opening[3] == 3 && opening[11] == 0);
+    CHECK(opening[0] == 0 && opening[1] == 2 && opening[2] == 1 && opening[3] == 3 && opening[12] == 0);
     CHECK(fresh[0] == 1 && fresh[1] == 1 && fresh[9] == 0 && fresh[18] == 0);
     uint16_t table[WORDS] = {7, 8, 9}, before[WORDS] = {7, 8, 9};
     uint32_t state[STATE], zeros[STATE] = {0};
@@ -70,7 +71,7 @@ static void check_run(void) {
     memcpy(table, fresh, sizeof table);
     memcpy(state, opening, sizeof state);
     CHECK(jirvuntsag_run(image, LENGTH, state, table, WORDS, 1) == answered(0, 1));
-    CHECK(state[0] == 50 && state[11] == 1 && state[12] == 1 && state[13] == 2 && state[20] == 100);
+    CHECK(state[0] == 50 && state[12] == 1 && state[13] == 1 && state[14] == 2 && state[21] == 100 && state[22] == 0);
     CHECK(jirvuntsag_run(image, LENGTH, state, table, WORDS, 0) == 0);
     CHECK(jirvuntsag_run(image, LENGTH, state, table, WORDS, 65535) == answered(9, 6));
     CHECK(state[0] == 550);
@@ -124,7 +125,7 @@ static uint64_t trace_kept(uint32_t *state, uint16_t steps, uint32_t *events, si
     return jirvuntsag_trace(image, LENGTH, state, table, WORDS, steps, events, room);
 }
 
-/* Only the rules that test a marked buffer are counted and written. */
+/* Only the rules that test a marked buffer are counted and written; model A has no queries. */
 static void check_refresh(void) {
     uint16_t table[WORDS];
     memset(table, 255, sizeof table);
@@ -150,7 +151,7 @@ static void check_header(void) {
     memcpy(state, opening, sizeof state);
     CHECK(jirvuntsag_run(image, LENGTH, state, table, WORDS, 1) == answered(0, 1));
     CHECK(state[JIRVUNTSAG_TYPE(1)] == 1 && state[JIRVUNTSAG_SLOT(1, 1)] == 2 && state[JIRVUNTSAG_DELAY(1)] == 100);
-    CHECK(JIRVUNTSAG_DELAY(7) == STATE - 1);
+    CHECK(JIRVUNTSAG_DELAY(7) == STATE - 2 && JIRVUNTSAG_ERROR(7) == STATE - 1 && JIRVUNTSAG_ERROR(0) == JIRVUNTSAG_TYPE(1) - 1);
     int many = 65536;
     CHECK((uint16_t)many == 0 && jirvuntsag_steps(many) == 65535 && jirvuntsag_steps(many - 1) == 65535);
     CHECK(jirvuntsag_steps(-1) == 0 && jirvuntsag_steps(0) == 0 && jirvuntsag_steps(7u) == 7);
@@ -175,6 +176,7 @@ int main(int count, char **arguments) {
     check_refresh();
     check_fresh_calls();
     check_lent_calls();
+    check_asking_calls();
     check_header();
     return 0;
 }

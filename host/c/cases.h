@@ -7,7 +7,7 @@
 #include <stddef.h>
 
 /* Bytes of the longest image in a case, words of its longest table and store, and words for the events of a run. */
-enum { LONGEST_IMAGE = 1 << 17, LONGEST_TABLE = 4096, LONGEST_STORE = 4096, LONGEST_EVENTS = 3 * 300, STATE_WORDS = 81 };
+enum { LONGEST_IMAGE = 1 << 17, LONGEST_TABLE = 4096, LONGEST_STORE = 4096, LONGEST_EVENTS = 3 * 300, STATE_WORDS = 89 };
 
 typedef struct {
     uint32_t image_length, table_length, events_length, store_length;

@@ -19,7 +19,7 @@ static void check_run(void) {
     memcpy(state, opening, sizeof state);
     check_left(image, LENGTH, state, 0, 0);
     CHECK(jirvuntsag_run_fresh(image, LENGTH, state, 1) == answered(0, 1));
-    CHECK(state[0] == 50 && state[11] == 1 && state[12] == 1 && state[13] == 2 && state[20] == 100);
+    CHECK(state[0] == 50 && state[12] == 1 && state[13] == 1 && state[14] == 2 && state[21] == 100 && state[22] == 0);
     CHECK(jirvuntsag_run_fresh(image, LENGTH, state, 65535) == answered(9, 6));
     CHECK(state[0] == 550);
     check_left(image, LENGTH, state, 65535, 9);
