@@ -2,19 +2,19 @@
 //!
 //! A case is, in little-endian words of 32 bits: the image's length and its bytes; the 89 words of a state; the table's
 //! length and its words of 16 bits; the mark; the steps; the store's length and its words of 16 bits. The first case is
-//! model A from its opening, the second the largest image; then come each cut and each flipped bit of model A, and COUNT
-//! random cases.
+//! model A from its opening, the second the largest image; then come each cut and each flipped bit of model A and of a model
+//! with queries, and COUNT random cases.
 
 use std::io::{self, Write};
 use std::process::ExitCode;
 
 use jirvuntsag_generate::{case, overfill, state_words, Case, Rng};
-use jirvuntsag_packing::{largest, model_a, pack};
+use jirvuntsag_packing::{largest, model_a, pack, retries};
 use jirvuntsag_reference::{open, table_len, STORE_WORDS};
 
 const USAGE: &str = "usage: cases COUNT [SEED]
-Writes model A, the largest image, each cut and flipped bit of model A, and COUNT random cases from SEED (1) on, as calls
-for the drivers in host/c, to standard output.";
+Writes model A, the largest image, each cut and flipped bit of model A and of a model with queries, and COUNT random cases
+from SEED (1) on, as calls for the drivers in host/c, to standard output.";
 /// Most steps of a run, so that a slow checker ends.
 const STEPS: u16 = 300;
 
@@ -48,16 +48,23 @@ fn bytes(rng: &mut Rng, case: &Case) -> Vec<u8> {
     bytes
 }
 
-/// Model A, the largest image, and each cut and each flipped bit of model A.
-fn fixed_cases() -> Vec<Case> {
-    let image = pack(&model_a());
-    let mut images = vec![image.clone(), pack(&largest())];
-    images.extend((0..image.len()).map(|bytes| image[..bytes].to_vec()));
-    images.extend((0..8 * image.len()).map(|bit| {
-        let mut flipped = image.clone();
+/// Each cut and each flipped bit of an image.
+fn cut_and_flipped(image: &[u8]) -> Vec<Vec<u8>> {
+    let cuts = (0..image.len()).map(|bytes| image[..bytes].to_vec());
+    let flips = (0..8 * image.len()).map(|bit| {
+        let mut flipped = image.to_vec();
         flipped[bit / 8] ^= 0x80 >> (bit % 8);
         flipped
-    }));
+    });
+    cuts.chain(flips).collect()
+}
+
+/// Model A, the largest image, and each cut and each flipped bit of model A and of a model with queries.
+fn fixed_cases() -> Vec<Case> {
+    let [plain, asking] = [model_a(), retries()].map(|spec| pack(&spec));
+    let mut images = vec![plain.clone(), pack(&largest()), asking.clone()];
+    images.extend(cut_and_flipped(&plain));
+    images.extend(cut_and_flipped(&asking));
     images.into_iter().map(opening).collect()
 }
 
