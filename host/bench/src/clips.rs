@@ -2,7 +2,8 @@
 //!
 //! A buffer is one fact, of a template of its own, and a rule is a rule, whose salience is its place in the order of choice.
 //! Only a model with requests has a clock. A request is a fact that a rule of the memory answers, and what it answers stands
-//! in the buffer with the clock at which it is due, 0 if it is visible. `(begin)` starts the model afresh.
+//! in the buffer with the clock at which it is due, 0 if it is visible. `(begin)` starts the model afresh. A model with queries is
+//! not written.
 
 mod clock;
 mod memory;
@@ -19,6 +20,11 @@ const ANSWERS: u16 = 2_000;
 const ARRIVES: u16 = 1_000;
 /// Salience of waiting: after any rule of the model, of which none is below 1.
 const WAITS: u16 = 0;
+
+/// Whether a model is one that can be written: queries are not.
+pub fn expresses(model: &Model) -> bool {
+    model.rules().all(|rule| rule.queries.is_empty())
+}
 
 /// The program: templates, facts and rules, and the function `begin`.
 pub fn program(model: &Model) -> String {
@@ -50,7 +56,7 @@ fn opening(model: &Model, shapes: &[Shape]) -> String {
 #[cfg(test)]
 mod tests {
     use super::*;
-    use jirvuntsag_packing::{model_a, pack};
+    use jirvuntsag_packing::{model_a, pack, retries};
 
     /// Model A has all there is: a modify, a request, a clear, variables and two utilities.
     #[test]
@@ -73,5 +79,11 @@ mod tests {
             assert!(program.contains(part), "{part}\nis not in\n{program}");
         }
         assert_eq!(most_firings(&model, 7), 21);
+    }
+
+    #[test]
+    fn queries_are_not_written() {
+        let [plain, asking] = [model_a(), retries()].map(|spec| Model::decode(&pack(&spec)).expect("a valid model"));
+        assert!(expresses(&plain) && !expresses(&asking));
     }
 }

@@ -5,8 +5,8 @@ use std::fmt::Display;
 use jirvuntsag_packing::{largest, model_a, pack, ModelSpec};
 
 use crate::specs::{
-    all_match, counting, few_of_many, notes, pairs, pending, resting, tests_a_rule, tokens, touching, Noted, FIRST,
-    LAST,
+    all_match, asking, counting, few_of_many, notes, pairs, pending, resting, tests_a_rule, tokens, touching, Noted,
+    FIRST, LAST,
 };
 
 /// Rules of the models with as many as an image can have.
@@ -71,6 +71,7 @@ pub fn models() -> Vec<Measured> {
         model("256 rules touched, all match", STEPS, &all_match(RULES)),
         model("254 rules match and rest, two take turns", STEPS, &resting(RULES)),
         model("eight buffers, many pending", STEPS, &pending()),
+        model("24 x 3 rules, two thirds ask", STEPS, &asking(24)),
         model("largest image", 1, &largest()),
     ]
 }
@@ -108,7 +109,7 @@ pub fn growing() -> Vec<Vec<Measured>> {
 #[cfg(test)]
 mod tests {
     use super::*;
-    use jirvuntsag_reference::Model;
+    use jirvuntsag_reference::{Event, Kind, Model};
 
     #[test]
     fn every_measured_run_makes_all_its_steps() {
@@ -118,6 +119,18 @@ mod tests {
             let (number, _, made) = model.run(from, &mut model.fresh_table(&from), measured.steps);
             assert_eq!((number, made), (0, measured.steps), "{}", measured.name);
         }
+    }
+
+    /// Of two numbers one is asked for and found, the other asked for and not: each time a firing, a wait and a firing.
+    #[test]
+    fn every_other_request_of_the_rules_that_ask_is_an_error() {
+        let model = Model::decode(&pack(&asking(24))).expect("a valid model");
+        let from = model.open_state();
+        let (_, _, events) = model.trace(from, &mut model.fresh_table(&from), 12);
+        let fired = |step: &Event| if let Kind::Fire(rule) = step.kind { Some(rule) } else { None };
+        let rules = [Some(0), None, Some(1), Some(3), None, Some(5), Some(6), None, Some(7), Some(9), None, Some(11)];
+        assert_eq!(events.iter().map(fired).collect::<Vec<_>>(), rules);
+        assert_eq!(events.iter().map(|step| step.clock).take(6).collect::<Vec<_>>(), [50, 150, 200, 250, 400, 450]);
     }
 
     #[test]

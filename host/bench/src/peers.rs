@@ -2,7 +2,9 @@
 
 use std::cell::RefCell;
 
-use crate::clips::{most_firings, program};
+use jirvuntsag_reference::Model;
+
+use crate::clips::{expresses, most_firings, program};
 use crate::engine::{version, Clips, Failure};
 use crate::figures::{of_runs, of_whole, ratios, reached, timed_columns, times, Figure, COLUMNS};
 use crate::models::{models, Measured};
@@ -25,7 +27,7 @@ CLIPS over ours, the median (and the quartiles) over rounds in which all take tu
 - run call: in CLIPS `(run)` alone, with the program loaded and reset before; ours a run call, which reads the image.
 - a step alone: a run less one of the first 100 steps, in both.
 
-A run of one step is too short for the clock of CLIPS, but for the whole.";
+A run of one step is too short for the clock of CLIPS, but for the whole. A model whose rules ask is left out.";
 
 /// Runs the models in CLIPS, holds each step to ours, and prints what both take. Without CLIPS it says so.
 pub fn print_peers() -> Result<(), Failure> {
@@ -33,7 +35,7 @@ pub fn print_peers() -> Result<(), Failure> {
         println!("\nCLIPS is not on this machine (there is no program `clips`), so nothing is compared with it.");
         return Ok(());
     };
-    let models = models();
+    let models: Vec<Measured> = models().into_iter().filter(is_expressed).collect();
     let mut progress = Progress::of(models.len());
     println!("\n{version}: {MEASURED}\n");
     println!(
@@ -52,6 +54,11 @@ pub fn print_peers() -> Result<(), Failure> {
     println!("| model | {} |\n|---|{}", timed_columns(), "---|".repeat(COLUMNS.len()));
     models.iter().zip(&all).for_each(|(model, figures)| println!("| {} | {} |", model.name, times(figures)));
     Ok(())
+}
+
+/// Whether a model can be written for CLIPS.
+fn is_expressed(model: &Measured) -> bool {
+    Model::decode(&model.image).is_ok_and(|decoded| expresses(&decoded))
 }
 
 /// A model in both: the firings of its run in CLIPS, and the figures.

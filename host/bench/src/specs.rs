@@ -1,6 +1,6 @@
 //! The models that are measured, as specifications.
 
-use jirvuntsag_packing::{model_a, ActionSpec, ChunkSpec, FactSpec, ModelSpec, RuleSpec, Term, TestSpec};
+use jirvuntsag_packing::{model_a, ActionSpec, ChunkSpec, FactSpec, ModelSpec, QuerySpec, RuleSpec, Term, TestSpec};
 
 /// The value that slots hold whose tests hold.
 const HELD: Term = Term::Symbol(7);
@@ -174,6 +174,7 @@ pub fn notes(noted: Noted) -> ModelSpec {
         opening,
         facts: (1..=NUMBERS).map(follows).chain([blank]).collect(),
         rules: note_rules(noted),
+        ..ModelSpec::default()
     }
 }
 
@@ -229,4 +230,43 @@ pub fn pending() -> ModelSpec {
         rules: (0..7).map(hand_on).chain((0..56).map(waits)).collect(),
         ..ModelSpec::default()
     }
+}
+
+/// A ring of so many numbers, of which every other one is known: three rules for each ask for it where the memory is free, take what
+/// is found, and go on where the request was an error.
+pub fn asking(ring: u16) -> ModelSpec {
+    let known = |number| FactSpec { chunk: ChunkSpec::new(2, &[number]), activation: 1, latency: 100 };
+    ModelSpec {
+        failure: 150,
+        types: vec![2, 1],
+        opening: vec![ChunkSpec::new(1, &[0, 1]), ChunkSpec::nil()],
+        facts: (0..ring).step_by(2).map(known).collect(),
+        rules: (0..ring).flat_map(|number| ask_rules(number, ring)).collect(),
+        ..ModelSpec::default()
+    }
+}
+
+/// The three rules of a number in that ring: the goal has the number, and 1 before it is asked for, 2 after that.
+fn ask_rules(number: u16, ring: u16) -> [RuleSpec; 3] {
+    let (asked, step) = ((0, Term::Symbol(number)), |step| (1, Term::Symbol(step)));
+    let goal = |at| TestSpec::new(0, 1, &[asked, step(at)]);
+    let go_on = || ActionSpec::modify(0, &[(0, next(number, ring)), step(1)]);
+    let ask = RuleSpec {
+        tests: vec![goal(1)],
+        queries: vec![QuerySpec::free(1)],
+        actions: vec![ActionSpec::modify(0, &[step(2)]), ActionSpec::request(1, 2, &[asked])],
+        ..RuleSpec::default()
+    };
+    let take = RuleSpec {
+        tests: vec![goal(2), TestSpec::new(1, 2, &[asked])],
+        actions: vec![go_on(), ActionSpec::clear(1)],
+        ..RuleSpec::default()
+    };
+    let give_up = RuleSpec {
+        tests: vec![goal(2)],
+        queries: vec![QuerySpec::error(1)],
+        actions: vec![go_on()],
+        ..RuleSpec::default()
+    };
+    [ask, take, give_up]
 }
