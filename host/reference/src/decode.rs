@@ -107,17 +107,7 @@ fn read_rule(reader: &mut Reader, parts: &mut Parts) -> Option<()> {
     let variables = reader.judged(4, BROKEN, |count| count <= 8)? as u8;
     let mut scope = Scope { variables, bound: 0, tested: [None; BUFFERS] };
     let (first_test, first_query, first_action) = (parts.tests.len(), parts.queries.len(), parts.actions.len());
-
-    let mut open_buffers = 0..buffers;
-    for _ in 0..tests {
-        parts.tests.push(Test::EMPTY);
-        let test = parts.tests.last_mut()?;
-        read_test(reader, &parts.types, &mut scope, &mut open_buffers, test)?;
-    }
-    // A variable that stood in no test has no value; this comes before any field of a query or an action.
-    if scope.bound != (1 << variables) - 1 {
-        return reader.refuse(VARIABLE, reader.at());
-    }
+    read_tests(reader, tests, &mut scope, parts)?;
     if parts.version == WITH_QUERIES {
         read_queries(reader, buffers, u16::from(tests == 0), &mut parts.queries)?;
     }
@@ -134,6 +124,21 @@ fn read_rule(reader: &mut Reader, parts: &mut Parts) -> Option<()> {
         queries: (first_query as u16, parts.queries.len() as u16),
         actions: (first_action as u16, parts.actions.len() as u16),
     });
+    Some(())
+}
+
+/// So many tests of a rule, in which each of its variables must stand.
+fn read_tests(reader: &mut Reader, count: u16, scope: &mut Scope, parts: &mut Parts) -> Option<()> {
+    let mut open_buffers = 0..u16::from(parts.buffers);
+    for _ in 0..count {
+        parts.tests.push(Test::EMPTY);
+        let test = parts.tests.last_mut()?;
+        read_test(reader, &parts.types, scope, &mut open_buffers, test)?;
+    }
+    // A variable that stood in no test has no value; this comes before any field of a query or an action.
+    if scope.bound != (1 << scope.variables) - 1 {
+        return reader.refuse(VARIABLE, reader.at());
+    }
     Some(())
 }
 
