@@ -4,7 +4,7 @@ use std::collections::BTreeSet;
 
 use jirvuntsag_compare::{always_fires, failed, hold_fresh, hold_fresh_to, Told, BOTH, P1, REFERENCE};
 use jirvuntsag_generate::{case, each_seed};
-use jirvuntsag_packing::{largest, model_a, pack, ChunkSpec, ModelSpec};
+use jirvuntsag_packing::{largest, largest_asking, model_a, pack, ChunkSpec, ModelSpec};
 use jirvuntsag_reference::{Buffer, Event, Kind, State};
 
 /// A state at this clock, with empty buffers.
@@ -145,10 +145,12 @@ fn the_most_steps_that_can_be_asked() {
 }
 
 #[test]
-fn the_largest_image_and_one_without_rules() {
-    let image = pack(&largest());
-    let (_, _, state) = (REFERENCE.open)(&image, &mut REFERENCE.zeros(&image));
-    assert_ends(&image, state, 1, 0, 1);
+fn the_largest_images_and_one_without_rules() {
+    for spec in [largest(), largest_asking()] {
+        let image = pack(&spec);
+        let (_, _, state) = (REFERENCE.open)(&image, &mut REFERENCE.zeros(&image));
+        assert_ends(&image, state, 1, 0, 1);
+    }
     let empty = pack(&ModelSpec { opening: vec![ChunkSpec::nil(); 8], ..ModelSpec::default() });
     let mut pending = at(0);
     pending.buffers.iter_mut().zip(1..).for_each(|(buffer, ms)| buffer.delay = ms);

@@ -9,7 +9,7 @@ use std::io::{self, Write};
 use std::process::ExitCode;
 
 use jirvuntsag_generate::{case, overfill, state_words, Case, Rng};
-use jirvuntsag_packing::{largest, model_a, pack, retries};
+use jirvuntsag_packing::{largest, largest_asking, model_a, pack, retries};
 use jirvuntsag_reference::{open, table_len, STORE_WORDS};
 
 const USAGE: &str = "usage: cases COUNT [SEED]
@@ -59,10 +59,11 @@ fn cut_and_flipped(image: &[u8]) -> Vec<Vec<u8>> {
     cuts.chain(flips).collect()
 }
 
-/// Model A, the largest image, and each cut and each flipped bit of model A and of a model with queries.
+/// Model A and the largest image, a model with queries and the largest with them, and each cut and each flipped bit of model A and
+/// of that model.
 fn fixed_cases() -> Vec<Case> {
     let [plain, asking] = [model_a(), retries()].map(|spec| pack(&spec));
-    let mut images = vec![plain.clone(), pack(&largest()), asking.clone()];
+    let mut images = vec![plain.clone(), pack(&largest()), asking.clone(), pack(&largest_asking())];
     images.extend(cut_and_flipped(&plain));
     images.extend(cut_and_flipped(&asking));
     images.into_iter().map(opening).collect()

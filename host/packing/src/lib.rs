@@ -10,7 +10,7 @@ mod retries;
 mod spec;
 mod writer;
 
-pub use largest::largest;
+pub use largest::{largest, largest_asking};
 pub use model_a::model_a;
 pub use pack::{pack, pack_under, pack_with_fields, Packed};
 pub use retries::retries;

@@ -1,8 +1,8 @@
 //! The packed bytes of small models, by hand.
 
 use jirvuntsag_packing::{
-    largest, model_a, pack, pack_under, pack_with_fields, ChunkSpec, Header, ModelSpec, PatternSpec, QuerySpec, Role,
-    RuleSpec, Term,
+    largest, largest_asking, model_a, pack, pack_under, pack_with_fields, ChunkSpec, Header, ModelSpec, PatternSpec,
+    QuerySpec, Role, RuleSpec, Term,
 };
 
 #[test]
@@ -156,7 +156,10 @@ fn patterns_name_their_slots_in_order() {
 }
 
 #[test]
-fn the_largest_model_fills_the_largest_image() {
-    let spec = largest();
-    assert_eq!((spec.facts.len(), spec.rules.len(), pack(&spec).len()), (512, 256, 65_536));
+fn the_largest_models_fill_the_largest_image() {
+    for (spec, version, queries) in [(largest(), 1, 0), (largest_asking(), 2, 8)] {
+        let image = pack(&spec);
+        assert_eq!((spec.facts.len(), spec.rules.len(), image.len(), image[0]), (512, 256, 65_536, version));
+        assert!(spec.rules[..255].iter().all(|rule| rule.queries.len() == queries));
+    }
 }

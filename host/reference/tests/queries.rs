@@ -3,7 +3,9 @@
 mod common;
 
 use common::{asks, buffer, failed, model, rule, state, V0};
-use jirvuntsag_packing::{model_a, pack, retries, ActionSpec, ModelSpec, QuerySpec, RuleSpec, Term, TestSpec};
+use jirvuntsag_packing::{
+    largest_asking, model_a, pack, retries, ActionSpec, ModelSpec, QuerySpec, RuleSpec, Term, TestSpec,
+};
 use jirvuntsag_reference::{
     open, print, refresh, run, run_fresh, run_lent, table_len, Buffer, Kind, Model, State, STORE_WORDS,
 };
@@ -325,6 +327,18 @@ fn flags_go_their_way_in_version_1() {
     // Rule 0 asks an empty retrieval buffer again, which clears its flag.
     let again = State { buffers: [opening.buffers[0], failed(0), NIL, NIL, NIL, NIL, NIL, NIL], clock: 0 };
     assert_eq!(run_fresh(&image, again, 1).2.buffers[1], buffer(1, 1, 2, 100));
+}
+
+#[test]
+fn the_largest_image_with_queries_opens_and_all_its_rules_match() {
+    let image = pack(&largest_asking());
+    let mut table = vec![0; table_len(&image).2];
+    let (number, _, from) = open(&image, &mut table);
+    assert!(number == 0 && table.len() == 9 * 256 && table.chunks_exact(9).all(|entry| entry[0] == 1));
+    let mut busy = from;
+    busy.buffers[7].delay = 1;
+    assert_eq!(refresh(&image, &busy, 128, &mut table), (0, 0, 256));
+    assert!(table.iter().all(|&word| word == 0));
 }
 
 #[test]
