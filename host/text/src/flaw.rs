@@ -25,12 +25,16 @@ pub enum Flaw {
     UnknownType,
     /// 3: a fact or a request of type 0, chunk.
     ChunkType,
-    /// 3: a rule without tests, or with too many.
+    /// 3: too many tests of a rule, or none in version 1.
     TestCount,
+    /// 3: too many queries of a rule, or none where it has no test.
+    QueryCount,
     /// 3: too many actions of a rule.
     ActionCount,
     /// 3: too many variables of a rule.
     VariableCount,
+    /// 3: a query of kind 3.
+    QueryKind,
     /// 3: an action of kind 3.
     ActionKind,
     /// 4: something follows the last field.
@@ -51,7 +55,7 @@ pub enum Flaw {
 
 impl Flaw {
     /// All of them, by number.
-    pub const ALL: [Flaw; 20] = [
+    pub const ALL: [Flaw; 22] = [
         Flaw::TooLong,
         Flaw::Missing,
         Flaw::Version,
@@ -62,8 +66,10 @@ impl Flaw {
         Flaw::UnknownType,
         Flaw::ChunkType,
         Flaw::TestCount,
+        Flaw::QueryCount,
         Flaw::ActionCount,
         Flaw::VariableCount,
+        Flaw::QueryKind,
         Flaw::ActionKind,
         Flaw::Follows,
         Flaw::UnknownSlot,
@@ -95,24 +101,28 @@ impl Flaw {
         match self {
             Flaw::TooLong => (1, "an image must have at most 65,536 bytes".into()),
             Flaw::Missing => (2, "every field must be wholly there".into()),
-            Flaw::Version => (3, "the version must be 1".into()),
+            Flaw::Version => (3, "the version must be 1 or 2".into()),
             Flaw::BufferCount => (3, format!("there must be 1 to {BUFFERS} buffers")),
             Flaw::RuleCount => (3, format!("there must be at most {RULES} rules")),
             Flaw::FactCount => (3, format!("there must be at most {FACTS} facts")),
             Flaw::SlotCount => (3, format!("a type must have at most {SLOTS} slots")),
             Flaw::UnknownType => (3, "a type must be declared, or 0 (chunk)".into()),
             Flaw::ChunkType => (3, "a fact or a request must have a declared type, not 0 (chunk)".into()),
-            Flaw::TestCount => (3, "a rule must have a test, and at most one for each buffer".into()),
+            Flaw::TestCount => {
+                (3, "a rule must have at most one test for each buffer, and in version 1 one at least".into())
+            }
+            Flaw::QueryCount => (3, "a rule must have a test or a query, and at most one query for each buffer".into()),
             Flaw::ActionCount => (3, "a rule must have at most one action for each buffer".into()),
             Flaw::VariableCount => (3, format!("a rule must have at most {VARIABLES} variables")),
+            Flaw::QueryKind => (3, "a query must be of kind 0 (busy), 1 (free) or 2 (error)".into()),
             Flaw::ActionKind => (3, "an action must be of kind 0 (modify), 1 (request) or 2 (clear)".into()),
             Flaw::Follows => (4, "only zero bits up to the byte's end may follow the last field".into()),
             Flaw::UnknownSlot => (11, "a test or an action must name only slots that its type has".into()),
             Flaw::UnknownVariable => (12, "a term must name only a variable that its rule has".into()),
             Flaw::UntestedVariable => (12, "every variable of a rule must stand in one of its tests".into()),
-            Flaw::UnknownBuffer => (13, "a test or an action must name a buffer that exists".into()),
+            Flaw::UnknownBuffer => (13, "a test, a query or an action must name a buffer that exists".into()),
             Flaw::BufferOrder => {
-                (13, "buffers must rise among a rule's tests and among its actions, each once at most".into())
+                (13, "buffers must rise among a rule's tests, its queries and its actions, each once at most".into())
             }
             Flaw::UntestedBuffer => (13, "a rule must test each buffer that it modifies".into()),
         }

@@ -10,8 +10,10 @@ mod model;
 mod names;
 mod naming;
 mod parse;
+mod query;
 mod refused;
 mod shown;
+mod version;
 mod write;
 
 pub use error::TextError;
@@ -23,3 +25,4 @@ pub use names::{Names, RuleNames, TypeNames, CHUNK, NIL};
 pub use parse::Lone;
 pub use refused::Refused;
 pub use shown::{escaped, Shown};
+pub use version::{VERSIONS, WITH_QUERIES};

@@ -2,11 +2,12 @@
 
 use std::collections::BTreeMap;
 
-use jirvuntsag_packing::ModelSpec;
+use jirvuntsag_packing::{ModelSpec, QuerySpec};
 
 use crate::error::TextError;
 use crate::json::{parse, quote, Json};
 use crate::limits::SYMBOL;
+use crate::query::STATES;
 use crate::shown::Shown;
 
 /// The names of everything in a model, each by its number.
@@ -77,6 +78,11 @@ impl Names {
         let Some(names) = self.types.get(usize::from(isa)) else { return format!("t{isa}") };
         let values = names.slots.iter().zip(slots).map(|(slot, &value)| format!(" {slot}={}", self.symbol(value)));
         format!("{}{}", names.name, values.collect::<String>())
+    }
+
+    /// A query of a model that these names fit, as a text has it: `?retrieval> state busy`.
+    pub fn query(&self, query: &QuerySpec) -> String {
+        format!("?{}> state {}", self.buffers[usize::from(query.buffer)], STATES[usize::from(query.kind)])
     }
 
     /// The facts of a store by their names, in the order learned: a line for each, as [`Names::chunk`] prints it. They are what

@@ -16,7 +16,8 @@ impl Model {
         body.facts();
         body.buffers();
         body.rules();
-        let mut text = format!("failure latency {}\n", self.spec().failure);
+        let version = self.spec().version.map(|version| format!("version {version}\n")).unwrap_or_default();
+        let mut text = format!("{version}failure latency {}\n", self.spec().failure);
         for number in pinned(&body.seen) {
             let _ = writeln!(text, "symbol {} = {number}", self.names().symbol(number));
         }
@@ -87,6 +88,9 @@ impl Writer<'_> {
             for test in &rule.tests {
                 let terms = self.pattern(number, test.isa, &test.pattern);
                 let _ = writeln!(lines, "  ={}> {}{terms}", self.buffer(test.buffer), self.isa(test.isa));
+            }
+            for query in &rule.queries {
+                let _ = writeln!(lines, "  {}", self.names.query(query));
             }
             lines.push_str("  ==>\n");
             for action in &rule.actions {

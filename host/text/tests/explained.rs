@@ -3,7 +3,9 @@
 mod models;
 
 use jirvuntsag_compare::P1;
-use jirvuntsag_packing::{model_a, pack, pack_with_fields, ChunkSpec, ModelSpec, Role, TestSpec};
+use jirvuntsag_packing::{
+    model_a, pack, pack_with_fields, retries, ActionSpec, ChunkSpec, ModelSpec, Packed, QuerySpec, Role, TestSpec,
+};
 use jirvuntsag_text::{read_image, Flaw};
 use models::wider;
 
@@ -35,8 +37,9 @@ fn check(spec: &ModelSpec, flaw: Flaw, held_to: &str, fields: &[Broken]) {
 #[test]
 fn versions_and_counts() {
     let (a, buffers) = (model_a(), ", but the image has buffers 0 and 1");
-    check(&a, Flaw::Version, "", &[(Role::Version, 0, 2, "the version is 2")]);
-    check(&a, Flaw::Version, "", &[(Role::Version, 0, 0, "the version is 0")]);
+    for (version, found) in [(0, "the version is 0"), (3, "the version is 3"), (4, "the version is 4")] {
+        check(&a, Flaw::Version, "", &[(Role::Version, 0, version, found)]);
+    }
     check(&a, Flaw::BufferCount, "", &[(Role::Buffers, 0, 9, "the number of buffers is 9")]);
     check(&a, Flaw::BufferCount, "", &[(Role::Buffers, 0, 0, "the number of buffers is 0")]);
     check(&a, Flaw::RuleCount, "", &[(Role::Rules, 0, 257, "the number of rules is 257")]);
@@ -161,10 +164,73 @@ fn buffers() {
     check(&alone, Flaw::UntestedBuffer, "; the image has buffers 0 and 1", &kind);
 }
 
+/// The fields of queries, each by its name.
+#[test]
+fn queries() {
+    let (spec, two) = (retries(), "image has buffers 0 and 1");
+    let counts = [(Role::Queries, 1, 3, "the number of queries of rule 1 is 3")];
+    check(&spec, Flaw::QueryCount, &format!(", but the {two}"), &counts);
+    check(&spec, Flaw::QueryKind, "", &[(Role::QueryKind, 0, 3, "the kind of query 0 of rule 0 is 3")]);
+    let unknown = [(Role::QueryBuffer, 2, 2, "the buffer of query 1 of rule 1 is 2")];
+    check(&spec, Flaw::UnknownBuffer, &format!(", but the {two}"), &unknown);
+    let falling = [(Role::QueryBuffer, 2, 0, "the buffer of query 1 of rule 1 is 0, but the one before it is 0")];
+    check(&spec, Flaw::BufferOrder, &format!("; the {two}"), &falling);
+}
+
+/// A rule without tests needs a query in version 2, which is judged at their number; in version 1 it needs a test.
+#[test]
+fn rules_without_tests() {
+    check(&retries(), Flaw::QueryCount, "", &[(Role::Queries, 1, 0, "the number of queries of rule 1 is 0")]);
+    let packed = pack_with_fields(&ModelSpec { version: Some(1), ..retries() });
+    let tests = packed.nth(Role::Tests, 1).expect("those of rule 1").at;
+    let found = "the number of tests of rule 1 is 0";
+    assert_eq!(said(&packed.bytes), format!("{}: {found} [{}]", head(Flaw::TestCount, tests), Flaw::TestCount.rule()));
+}
+
+#[test]
+fn a_buffer_that_is_only_queried_is_untested() {
+    let mut spec = retries();
+    let found = |spec: &ModelSpec| {
+        let said = said(&pack(spec));
+        let (_, found) =
+            said.split_once(": the kind of action 0 of rule 1 is 0 (modify) of buffer 1, but the rule tests ")?;
+        found.split_once("; the image has buffers 0 and 1 [").map(|(found, _)| found.to_owned())
+    };
+    spec.rules[1].actions = vec![ActionSpec::modify(1, &[])];
+    assert_eq!(found(&spec).as_deref(), Some("no buffer and only queries this one"));
+    spec.rules[1].queries.pop();
+    assert_eq!(found(&spec).as_deref(), Some("no buffer"));
+    spec.rules[1].tests = vec![TestSpec::new(0, 0, &[])];
+    spec.rules[1].queries = vec![QuerySpec::free(1)];
+    assert_eq!(found(&spec).as_deref(), Some("buffer 0 and only queries this one"));
+}
+
+/// A variable in no test is refused before the number of queries is read, even if that is bad, or not wholly there.
+#[test]
+fn variables_are_checked_before_the_queries() {
+    let packed = pack_with_fields(&retries());
+    let field = |role| packed.nth(role, 0).expect("such a field");
+    let (variables, count) = (field(Role::Variables), field(Role::Queries));
+    let mut image = packed.with(variables, 2);
+    count.set(&mut image, 15);
+    let found = format!("{}: variable 1 of rule 0 stands in none of its tests", head(Flaw::UntestedVariable, count.at));
+    for image in [&image[..], &image[..count.at.div_ceil(8)]] {
+        assert!(said(image).starts_with(&found), "{}", said(image));
+    }
+}
+
 /// Each field that an image can be cut in is named, with the bits that it needs and those that are left.
 #[test]
 fn fields_that_are_cut() {
     let packed = pack_with_fields(&model_a());
+    for packed in [&packed, &pack_with_fields(&retries())] {
+        assert_cuts_are_named(packed);
+    }
+    let second = "the value of slot 1 of the opening of buffer 0 needs 12 bits, but only 1 bit is left";
+    assert!(said(&packed.bytes[..10]).contains(second));
+}
+
+fn assert_cuts_are_named(packed: &Packed) {
     for bytes in 0..packed.bytes.len() {
         let field = packed.first_missing(bytes).expect("a field that is cut");
         let left = match 8 * bytes - field.at {
@@ -179,8 +245,6 @@ fn fields_that_are_cut() {
             "{said}"
         );
     }
-    let second = "the value of slot 1 of the opening of buffer 0 needs 12 bits, but only 1 bit is left";
-    assert!(said(&packed.bytes[..10]).contains(second));
 }
 
 /// P1 and its neighbours.
@@ -205,7 +269,7 @@ fn ends() {
 
 #[test]
 fn a_main_that_gives_it_up_prints_the_sentence() {
-    let refused = read_image(&[2]).expect_err("another version");
+    let refused = read_image(&[4]).expect_err("another version");
     assert_eq!((refused.flaw, refused.number(), refused.position()), (Flaw::Version, 3, 0));
     assert_eq!(format!("{refused:?}"), refused.to_string());
 }

@@ -1,6 +1,6 @@
 //! The file of names: written, read again, and refused where it is no such file.
 
-use jirvuntsag_packing::{model_a, pack};
+use jirvuntsag_packing::{model_a, pack, QuerySpec};
 use jirvuntsag_proved::{Chunk, Store};
 use jirvuntsag_text::{Model, Names};
 
@@ -111,6 +111,14 @@ fn a_chunk_is_printed_by_its_names() {
     assert_eq!(names.chunk(1, &[1, 2, 0, 0, 0, 0, 0, 0]), "sum first=one second=two");
     assert_eq!(names.chunk(1, &[0, 9, 0, 0, 0, 0, 0, 0]), "sum first=nil second=x9");
     assert_eq!((names.chunk(0, &[0; 8]), names.chunk(7, &[1; 8])), ("chunk".into(), "t7".into()));
+}
+
+#[test]
+fn a_query_is_printed_by_its_names() {
+    let model = Model::from_text("buffer goal\nbuffer retrieval\n").expect("a model");
+    let queries = [QuerySpec::busy(0), QuerySpec::free(1), QuerySpec::error(1)];
+    let printed = queries.map(|query| model.names().query(&query));
+    assert_eq!(printed, ["?goal> state busy", "?retrieval> state free", "?retrieval> state error"]);
 }
 
 #[test]

@@ -6,9 +6,9 @@ use std::collections::HashSet;
 
 use jirvuntsag_compare::BOTH;
 use jirvuntsag_generate::{damage, each_seed, model_of, Shape};
-use jirvuntsag_packing::{largest, model_a, pack, pack_with_fields};
+use jirvuntsag_packing::{largest, largest_asking, pack, pack_with_fields};
 use jirvuntsag_text::{read_image, Flaw};
-use models::wider;
+use models::damaged;
 
 /// Holds number and position to both engines, by two of their calls; gives the rule that is broken, if one is.
 fn hold_to_the_engines(image: &[u8]) -> Option<Flaw> {
@@ -41,7 +41,7 @@ fn unbroken(broken: &HashSet<Flaw>) -> Vec<Flaw> {
 
 #[test]
 fn every_cut_and_flipped_bit() {
-    for spec in [model_a(), wider()] {
+    for spec in damaged() {
         let image = pack(&spec);
         for bytes in 0..=image.len() {
             hold_to_the_engines(&image[..bytes]);
@@ -58,7 +58,7 @@ fn every_cut_and_flipped_bit() {
 #[test]
 fn every_value_of_every_field() {
     let mut broken = HashSet::new();
-    for spec in [model_a(), wider()] {
+    for spec in damaged() {
         let packed = pack_with_fields(&spec);
         for field in packed.fields.iter().filter(|field| field.width < 16) {
             for value in 0..1 << field.width {
@@ -80,11 +80,12 @@ fn random_damage() {
     assert_eq!(unbroken(&broken), []);
 }
 
-/// The largest image there can be, without its last byte and with one more.
+/// The largest images there can be, one of each version, without their last byte and with one more.
 #[test]
-fn the_largest_image() {
-    let image = pack(&largest());
-    assert_eq!(hold_to_the_engines(&image), None);
-    assert_eq!(hold_to_the_engines(&image[..65_535]), Some(Flaw::Missing));
-    assert_eq!(hold_to_the_engines(&[&image[..], &[0]].concat()), Some(Flaw::TooLong));
+fn the_largest_images() {
+    for image in [pack(&largest()), pack(&largest_asking())] {
+        assert_eq!(hold_to_the_engines(&image), None);
+        assert_eq!(hold_to_the_engines(&image[..65_535]), Some(Flaw::Missing));
+        assert_eq!(hold_to_the_engines(&[&image[..], &[0]].concat()), Some(Flaw::TooLong));
+    }
 }

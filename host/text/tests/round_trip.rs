@@ -1,7 +1,9 @@
 //! Image to text to image, and text to image to text: nothing is lost.
 
 use jirvuntsag_generate::{damage, each_seed, model, model_of, Shape};
-use jirvuntsag_packing::{model_a, pack, pack_with_fields, ActionSpec, ChunkSpec, ModelSpec, RuleSpec, Term, TestSpec};
+use jirvuntsag_packing::{
+    model_a, pack, pack_with_fields, retries, ActionSpec, ChunkSpec, ModelSpec, QuerySpec, RuleSpec, Term, TestSpec,
+};
 use jirvuntsag_text::{Model, Names};
 
 /// Image, text, image, text: the images are the same, and so are the texts.
@@ -51,8 +53,76 @@ rule r2 utility 1
 }
 
 #[test]
+fn queries_as_text() {
+    let text = Model::from_image(&pack(&retries())).expect("a model").to_text();
+    let wanted = "failure latency 200
+symbol x2 = 2
+symbol x3 = 3
+
+type t1 s0 s1
+type t2 s0
+
+fact t1 s0 x2 s1 x3 activation 10 latency 100
+
+buffer b0 t2 s0 x1
+buffer b1
+
+rule r0 utility 0
+  =b0> t2 s0 ?v0
+  =b1> chunk
+  ?b1> state free
+  ==>
+  +b1> t1 s0 ?v0
+
+rule r1 utility 0
+  ?b0> state free
+  ?b1> state busy
+  ==>
+
+rule r2 utility 1
+  =b0> t2
+  ?b1> state error
+  ==>
+  =b0> s0 x2
+  +b1> t1 s0 x2
+
+rule r3 utility 0
+  =b1> t1
+  ==>
+  -b0>
+  -b1>
+";
+    assert_eq!(text, wanted);
+    assert_round(&pack(&retries()));
+}
+
+/// The version is said where no rule asks for it, and nowhere else.
+#[test]
+fn a_version_without_queries() {
+    let line = |spec: ModelSpec| {
+        let image = pack(&spec);
+        assert_round(&image);
+        let text = Model::from_image(&image).expect("a model").to_text();
+        (image[0], text.lines().any(|line| line.starts_with("version")))
+    };
+    let second = |spec| ModelSpec { version: Some(2), ..spec };
+    assert_eq!([line(model_a()), line(second(model_a()))], [(1, false), (2, true)]);
+    assert_eq!([line(retries()), line(second(retries()))], [(2, false), (2, false)]);
+    let said =
+        |lines: &str| Model::from_text(&format!("{lines}buffer b\nrule r\n?b> state free\n==>\n")).expect("a model");
+    assert_eq!(said("version 2\n"), said(""));
+    assert_eq!(Model::from_text("buffer b\nversion 2\n").expect("a model").image(), [2, 0x10, 0, 0, 0, 0, 0, 0]);
+}
+
+#[test]
 fn random_models() {
-    each_seed(1, 3_000, |_, mut rng| assert_round(&pack(&model(&mut rng))));
+    let mut versions = [0; 3];
+    each_seed(1, 3_000, |_, mut rng| {
+        let image = pack(&model(&mut rng));
+        versions[usize::from(image[0])] += 1;
+        assert_round(&image);
+    });
+    assert!(versions[1] > 500 && versions[2] > 500, "{versions:?} of each version");
 }
 
 #[test]
@@ -87,6 +157,7 @@ fn out_of_order() -> ModelSpec {
             ActionSpec::modify(2, &[]),
             ActionSpec::clear(3),
         ],
+        ..RuleSpec::default()
     };
     let (first, last) = (ChunkSpec::new(1, &[9, 0, 2]), ChunkSpec::new(1, &[1, 3, 2]));
     ModelSpec {
@@ -95,6 +166,7 @@ fn out_of_order() -> ModelSpec {
         opening: vec![first, ChunkSpec::new(2, &[]), ChunkSpec::nil(), last],
         facts: vec![],
         rules: [0x8000, 0xffff, 0x7fff, 1, 999, 0xfc18, 0xfc17].map(rule).into(),
+        ..ModelSpec::default()
     }
 }
 
@@ -146,4 +218,28 @@ rule r utility 0.0 variables ?p ?q
 failure latency 0";
     let (one, other) = (Model::from_text(one).expect("one"), Model::from_text(other).expect("other"));
     assert_eq!(one, other);
+}
+
+/// Queries stand between tests in any order, on one line or on two, and are packed by rising buffers.
+#[test]
+fn order_and_lines_of_queries_change_no_byte() {
+    let declared = "type t a\nbuffer x t a 1\nbuffer y\nbuffer z\n";
+    let rules = [
+        "rule r\n =x> t a ?n\n ?x> state free\n ?y> state busy\n ?z> state error\n ==>\n -x>\n",
+        "rule r\n ?z> state error\n =x> t a ?n\n ?y> state busy\n ?x> state free\n ==>\n -x>\n",
+        "rule r\n ?y>\n  state busy ; on its way\n ?z>\n\n# no fact\n  state error\n ?x>\n state free\n =x> t a ?n\n ==>\n -x>\n",
+    ];
+    let models = rules.map(|rule| Model::from_text(&format!("{declared}{rule}")).expect(rule));
+    let queries = &models[0].spec().rules[0].queries;
+    assert_eq!(queries, &[QuerySpec::free(0), QuerySpec::busy(1), QuerySpec::error(2)]);
+    assert!(models.iter().all(|model| *model == models[0]));
+}
+
+/// A rule may have queries alone.
+#[test]
+fn a_rule_without_tests() {
+    let model = Model::from_text("buffer x\nrule r\n?x> state error\n==>\n-x>\n").expect("a model");
+    assert!(model.spec().rules[0].tests.is_empty());
+    assert_eq!(model.image()[0], 2);
+    assert_round(&model.image());
 }

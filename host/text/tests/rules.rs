@@ -1,6 +1,6 @@
 //! One table of rules: a text that breaks one, and the image that would be packed of it, are refused by the same.
 
-use jirvuntsag_packing::{pack, ActionSpec, ChunkSpec, Deed, FactSpec, ModelSpec, RuleSpec, Term, TestSpec};
+use jirvuntsag_packing::{pack, ActionSpec, ChunkSpec, Deed, FactSpec, ModelSpec, QuerySpec, RuleSpec, Term, TestSpec};
 use jirvuntsag_text::{read_image, Flaw, Model, TextError};
 
 /// The model that each row changes.
@@ -47,7 +47,7 @@ fn fact(isa: u8) -> FactSpec {
     FactSpec { chunk: ChunkSpec::new(isa, &[]), ..FactSpec::default() }
 }
 
-const ROWS: [Row; 16] = [
+const ROWS: [Row; 19] = [
     (Flaw::BufferCount, |spec| spec.opening = vec![ChunkSpec::nil(); 9], || and_many(7, |n| format!("buffer b{n}\n"))),
     (Flaw::BufferCount, |spec| spec.opening.clear(), String::new),
     (
@@ -65,7 +65,15 @@ const ROWS: [Row; 16] = [
         |spec| spec.rules[0].actions[0].deed = Deed::Request(0, Default::default()),
         || with("=goal> second ?a", "+goal> chunk"),
     ),
-    (Flaw::TestCount, |spec| spec.rules[0].tests.clear(), || with("  =goal> pair first ?a\n", "")),
+    (Flaw::Version, |spec| spec.version = Some(3), || "version 3\n".to_owned() + TEXT),
+    (
+        Flaw::QueryCount,
+        |spec| {
+            spec.rules[0].tests.clear();
+            spec.rules[0].variables = 0;
+        },
+        || with("  =goal> pair first ?a\n", ""),
+    ),
     (
         Flaw::VariableCount,
         |spec| spec.rules[0].variables = 9,
@@ -75,6 +83,19 @@ const ROWS: [Row; 16] = [
     (Flaw::UnknownVariable, |spec| terms(spec)[0] = Term::Variable(1), || with("rule r", "rule r variables ?b")),
     (Flaw::UntestedVariable, |spec| terms(spec)[0] = Term::Symbol(1), || with("first ?a", "first 1")),
     (Flaw::UnknownBuffer, |spec| spec.rules[0].tests[0].buffer = 2, || with("=goal> pair", "=gaol> pair")),
+    (
+        Flaw::UnknownBuffer,
+        |spec| spec.rules[0].queries = vec![QuerySpec::free(2)],
+        || with("  ==>", "  ?gaol> state free\n  ==>"),
+    ),
+    (
+        Flaw::UntestedBuffer,
+        |spec| {
+            spec.rules[0].queries = vec![QuerySpec::free(1)];
+            spec.rules[0].actions = vec![ActionSpec::modify(1, &[])];
+        },
+        || with("  ==>\n  =goal> second ?a", "  ?retrieval> state free\n  ==>\n  =retrieval>"),
+    ),
     (
         Flaw::UntestedBuffer,
         |spec| spec.rules[0].actions = vec![ActionSpec::modify(1, &[])],
@@ -94,25 +115,34 @@ fn a_text_breaks_the_rule_that_its_image_would() {
     }
 }
 
-/// A text may have its tests and actions in any order, but a buffer in each only once.
+/// A text may have its tests, queries and actions in any order, but a buffer in each only once.
 #[test]
 fn a_buffer_that_stands_twice() {
-    let twice = [with("pair first ?a\n", "pair first ?a\n  =goal> pair\n"), with("second ?a", "second ?a\n  -goal>")];
+    let twice = [
+        with("pair first ?a\n", "pair first ?a\n  =goal> pair\n"),
+        with("  ==>", "  ?goal> state free\n  ?goal> state error\n  ==>"),
+        with("second ?a", "second ?a\n  -goal>"),
+    ];
     for text in twice {
         assert_eq!(fault(&text).flaw, Some(Flaw::BufferOrder));
     }
-    let mut spec = spec();
-    spec.rules[0].tests.push(TestSpec::new(0, 1, &[]));
-    assert_eq!(read_image(&pack(&spec)).expect_err("refused").flaw, Flaw::BufferOrder);
+    let (mut tested, mut asked) = (spec(), spec());
+    tested.rules[0].tests.push(TestSpec::new(0, 1, &[]));
+    asked.rules[0].queries = vec![QuerySpec::free(0), QuerySpec::error(0)];
+    for spec in [tested, asked] {
+        assert_eq!(read_image(&pack(&spec)).expect_err("refused").flaw, Flaw::BufferOrder);
+    }
 }
 
-/// Those that no text can break are the packer's own: it writes the version, the kinds, whole fields and zeros after them.
+/// Those that no text can break are the packer's own: it writes whole fields with zeros after them, kinds that there are, and
+/// version 2 where a rule has no test.
 #[test]
 fn what_no_text_can_break() {
     let rows = ROWS.iter().map(|(flaw, ..)| *flaw).chain([Flaw::BufferOrder, Flaw::TooLong]);
     let breakable: Vec<Flaw> = rows.collect();
     let others: Vec<Flaw> = Flaw::ALL.into_iter().filter(|flaw| !breakable.contains(flaw)).collect();
-    assert_eq!(others, [Flaw::Missing, Flaw::Version, Flaw::ActionCount, Flaw::ActionKind, Flaw::Follows]);
+    let own = [Flaw::TestCount, Flaw::ActionCount, Flaw::QueryKind, Flaw::ActionKind, Flaw::Follows];
+    assert_eq!(others, [&[Flaw::Missing], &own[..]].concat());
 }
 
 /// A fact or an opening has a value for each slot and no mask, and no image can say what these texts say.
@@ -121,6 +151,8 @@ fn what_no_image_can_hold_has_no_number() {
     let texts = [
         with("goal pair first", "goal pair third"),
         with("first ?a", "- first ?a"),
+        with("  ==>", "  ?goal> buffer full\n  ==>"),
+        with("  ==>", "  ?goal> - state busy\n  ==>"),
         with("buffer retrieval", "buffer retrieval pair first ?x"),
         and_many(63, |n| format!("type t{n}\n")),
         and_many(1, |_| "rule s utility 40\n".into()),
@@ -135,7 +167,7 @@ fn what_no_image_can_hold_has_no_number() {
 #[test]
 fn every_rule_has_its_number_and_words_of_its_own() {
     let numbers: Vec<u8> = Flaw::ALL.iter().map(|flaw| flaw.number()).collect();
-    assert_eq!(numbers, [1, 2, 3, 3, 3, 3, 3, 3, 3, 3, 3, 3, 3, 4, 11, 12, 12, 13, 13, 13]);
+    assert_eq!(numbers, [1, 2, 3, 3, 3, 3, 3, 3, 3, 3, 3, 3, 3, 3, 3, 4, 11, 12, 12, 13, 13, 13]);
     for (at, flaw) in Flaw::ALL.iter().enumerate() {
         assert!(!Flaw::ALL[..at].iter().any(|other| other.rule() == flaw.rule()), "{flaw:?}");
     }

@@ -75,14 +75,55 @@ rule end
   ==>
 ";
     let within =
-        "begins no line; a line begins with =BUFFER>, +BUFFER>, -BUFFER> or ==> within a rule, where slots stand \
-                  behind it, or else with failure, symbol, type, buffer, fact or rule";
+        "begins no line; a line begins with =BUFFER>, ?BUFFER>, +BUFFER>, -BUFFER> or ==> within a rule, where slots \
+         stand behind it, or else with version, failure, symbol, type, buffer, fact or rule";
     let wanted = [
         "m:4:9: the line ends where a type is expected".to_owned(),
         "m:5:5: 'isa' is ACT-R's: the type stands behind the buffer, on its line: '=goal> TYPE SLOT TERM ..'".into(),
         format!("m:6:5: 'first' {within}"),
         "m:8:3: '!output!' is ACT-R's: a rule prints nothing; leave it out, the trace tells each firing".into(),
         format!("m:10:5: 'second' {within}"),
+    ];
+    assert_eq!(faults(text), wanted);
+}
+
+/// What is said of a wrong query is one fault, wherever its words stand, and the rule is not said to lack what it has.
+#[test]
+fn faults_of_queries_are_told_once() {
+    let text = "type pair first second
+buffer goal pair first 1
+buffer retrieval
+rule one
+  ?gaol>
+    state free
+  ==>
+  =goal> second 2
+rule two
+  ?retrieval>
+  =goal> pair
+  ==>
+  =goal> second 2
+  ?goal>
+    state free
+rule three
+  ?retrieval>
+    state free
+    buffer empty
+  ==>
+  =retrieval> first 1
+rule four
+  ?retrieval>
+type other
+";
+    let held = "'buffer empty' cannot be asked: an image has no query of what a buffer holds; test it with \
+                '=retrieval> TYPE', an empty one with '=retrieval> chunk'";
+    let nothing = "nothing is asked of '?retrieval>': write 'state busy', 'state free' or 'state error'";
+    let wanted = [
+        Flaw::UnknownBuffer.told("m:5:3: buffer 'gaol' is not declared (goal, retrieval)"),
+        format!("m:10:14: {nothing}"),
+        "m:14:3: '?goal>' asks, and stands before '==>'".into(),
+        format!("m:19:5: {held}"),
+        format!("m:23:14: {nothing}"),
     ];
     assert_eq!(faults(text), wanted);
 }

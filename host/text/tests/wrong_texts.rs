@@ -36,7 +36,9 @@ fn check_breaking(flaw: Flaw, table: &[(&str, &str)]) {
 
 #[test]
 fn lines_that_are_no_lines() {
-    let begins = "a line begins with failure, symbol, type, buffer, fact, rule, =BUFFER>, +BUFFER>, -BUFFER> or ==>";
+    let begins =
+        "a line begins with version, failure, symbol, type, buffer, fact, rule, =BUFFER>, ?BUFFER>, +BUFFER>, \
+                  -BUFFER> or ==>";
     let wrong = |word: &str, why: &str| (word.to_owned(), format!("m:1:1: '{word}'{why} {begins}"));
     for (text, wanted) in [
         wrong("production", " begins no line;"),
@@ -50,6 +52,7 @@ fn lines_that_are_no_lines() {
     check(&[
         ("==>", "m:1:1: '==>' stands in no rule: a 'rule' line comes first"),
         ("\n=goal> pair", "m:5:1: '=goal>' stands in no rule: a 'rule' line comes first"),
+        ("\n?goal> state free", "m:5:1: '?goal>' stands in no rule: a 'rule' line comes first"),
     ]);
     check_breaking(
         Flaw::BufferCount,
@@ -60,6 +63,11 @@ fn lines_that_are_no_lines() {
 #[test]
 fn declarations() {
     check(&[
+        ("version", "m:1:8: the line ends where a version is expected"),
+        ("version 1", "m:1:9: version 1 is not said: an image has it unless a rule has a query"),
+        ("version two", "m:1:9: a version is a whole number from 0 to 255, not 'two'"),
+        ("version 2\nversion 2", "m:2:1: the version is said twice"),
+        ("version 2 3", "m:1:11: expected the end of the line, found '3'"),
         ("failure 200", "m:1:9: expected 'latency', found '200'"),
         ("failure latency", "m:1:16: the line ends where a latency in ms is expected"),
         ("failure latency 65536", "m:1:17: a latency is a whole number from 0 to 65535, not '65536'"),
@@ -95,6 +103,7 @@ fn declarations() {
 
 #[test]
 fn declarations_that_break_a_rule() {
+    check_breaking(Flaw::Version, &[("version 3", "m:1:9: version 3 is not known")]);
     check_breaking(Flaw::SlotCount, &[("type a 1 2 3 4 5 6 7 8 9", "m:1:24: more than 8 slots in type 'a'")]);
     check_breaking(
         Flaw::UnknownType,
@@ -134,7 +143,7 @@ fn heads_of_rules() {
 fn variables_and_counts_of_rules() {
     let nine = "rule r variables ?1 ?2 ?3 ?4 ?5 ?6 ?7 ?8 ?9";
     check_breaking(Flaw::VariableCount, &[(nine, "m:1:42: more than 8 variables in rule 'r'")]);
-    check_breaking(Flaw::TestCount, &[("\nrule r\n ==>", "m:6:2: rule 'r' has no test")]);
+    check_breaking(Flaw::QueryCount, &[("\nrule r\n ==>", "m:6:2: rule 'r' has no test and no query")]);
     let other = "\nrule r variables ?a\n =goal> pair first ?b\n ==>\n";
     check_breaking(Flaw::UnknownVariable, &[(other, "m:6:20: variable '?b' is not in the list of rule 'r'")]);
     let untested = [
@@ -157,7 +166,6 @@ fn tests_and_actions() {
             "\nrule r\n =goal> pair - first 1",
             "m:6:14: a slot cannot be negated in an image: give the rule for the other case a higher utility",
         ),
-        ("\nrule r\n ?retrieval> error", "m:6:2: an image cannot hold a query: a buffer is tested with '='"),
         ("\nrule r\n -goal>\n", "m:6:2: '-goal>' is an action, and stands after '==>'"),
         (
             "\nrule r\n =goal> pair\n ==>\n =goal> isa pair",
@@ -165,6 +173,63 @@ fn tests_and_actions() {
         ),
         ("\nrule r\n =goal> pair\n ==>\n -goal> pair", "m:8:9: expected the end of the line, found 'pair'"),
     ]);
+}
+
+#[test]
+fn queries() {
+    let wanted = "write 'state busy', 'state free' or 'state error'";
+    let asked = |words: &str| said(&format!("\nrule r\n ?retrieval>{words}\n ==>"));
+    assert_eq!(asked(""), format!("m:6:13: nothing is asked of '?retrieval>': {wanted}"));
+    assert_eq!(asked(" state"), "m:6:19: the line ends where busy, free or error is expected");
+    assert_eq!(asked(" state full"), "m:6:20: 'full' is no state of a buffer: it is busy, free or error");
+    assert_eq!(asked(" state ?x"), "m:6:20: '?x' is no state of a buffer: it is busy, free or error");
+    assert_eq!(asked(" error"), format!("m:6:14: 'error' cannot be asked of a buffer: {wanted}"));
+    let module = format!("m:7:2: 'recently-retrieved' cannot be asked of a buffer: {wanted}");
+    assert_eq!(asked("\n recently-retrieved nil"), module);
+    let after = "\nrule r\n =goal> pair\n ==>\n ?goal> state free";
+    assert_eq!(said(after), "m:8:2: '?goal>' asks, and stands before '==>'");
+}
+
+/// Queries that are no business of an image, on the line of their buffer and on one of their own.
+#[test]
+fn queries_of_what_a_buffer_holds_and_negated_ones() {
+    let held = |query: &str| {
+        let instead = "test it with '=retrieval> TYPE', an empty one with '=retrieval> chunk'";
+        format!("'{query}' cannot be asked: an image has no query of what a buffer holds; {instead}")
+    };
+    let negated = |instead: &str| format!("a query cannot be negated in an image: {instead}");
+    let utility = "give the rule for the other case a higher utility";
+    for (words, why) in [
+        ("buffer full", held("buffer full")),
+        ("buffer empty", held("buffer empty")),
+        ("buffer requested", held("buffer requested")),
+        ("buffer", held("buffer")),
+        ("- state busy", negated("write 'state free'")),
+        ("- state free", negated("write 'state busy'")),
+        ("- state error", negated(utility)),
+        ("- buffer empty", negated(utility)),
+    ] {
+        assert_eq!(said(&format!("\nrule r\n ?retrieval> {words}\n ==>")), format!("m:6:14: {why}"));
+        assert_eq!(said(&format!("\nrule r\n ?retrieval>\n   {words}\n ==>")), format!("m:7:4: {why}"));
+    }
+}
+
+/// One query for each buffer, and why one is enough; the word at which the second begins is told.
+#[test]
+fn two_queries_of_a_buffer() {
+    let one = "one says it all, since an error is seen only where the buffer is free, and none where it is busy";
+    let twice = |place: &str| format!("m:{place}: rule 'r' queries buffer 'goal' twice, first in line 6: {one}");
+    let texts = [
+        ("7:9", " ?goal> state free\n ?goal> state error"),
+        ("7:9", " ?goal> state free\n ?goal> state free"),
+        ("6:20", " ?goal> state free state error"),
+        ("7:2", " ?goal> state free\n state error"),
+        ("8:2", " ?goal>\n state free\n state error"),
+    ];
+    for (place, lines) in texts {
+        let text = format!("\nrule r\n{lines}\n ==>");
+        check_breaking(Flaw::BufferOrder, &[(&text, &twice(place))]);
+    }
 }
 
 #[test]
@@ -201,6 +266,7 @@ fn buffers_of_tests_and_actions() {
         &[
             ("\nrule r\n =gaol> pair", "m:6:2: buffer 'gaol' is not declared (goal, retrieval)"),
             ("\nrule r\n =goal> pair\n ==>\n -gaol>", "m:8:2: buffer 'gaol' is not declared (goal, retrieval)"),
+            ("\nrule r\n ?gaol> state free\n ==>", "m:6:2: buffer 'gaol' is not declared (goal, retrieval)"),
         ],
     );
     check_breaking(
@@ -215,7 +281,9 @@ fn buffers_of_tests_and_actions() {
     );
     let untested = "\nrule r\n =goal> pair\n ==>\n =retrieval> first 1";
     let found = "m:8:2: rule 'r' modifies buffer 'retrieval' and does not test it";
-    check_breaking(Flaw::UntestedBuffer, &[(untested, found)]);
+    let queried = "\nrule r\n ?retrieval> state free\n ==>\n =retrieval> first 1";
+    let hint = format!("{found}: a query is no test, add '=retrieval> TYPE'");
+    check_breaking(Flaw::UntestedBuffer, &[(untested, found), (queried, &hint)]);
 }
 
 /// As many lines as allowed are accepted, one more is refused in its line.

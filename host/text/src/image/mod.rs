@@ -1,6 +1,7 @@
 //! From an image to its model, or to the field that it is refused for, in words.
 
 mod fields;
+mod queries;
 mod rules;
 
 use jirvuntsag_packing::{ChunkSpec, FactSpec, ModelSpec};
@@ -8,6 +9,7 @@ use jirvuntsag_packing::{ChunkSpec, FactSpec, ModelSpec};
 use crate::flaw::Flaw;
 use crate::limits::{BUFFERS, FACTS, IMAGE_LIMIT, RULES, SLOTS};
 use crate::refused::Refused;
+use crate::version::{with_version, VERSIONS};
 use fields::{numbered, Fields};
 
 /// The model of an image.
@@ -31,15 +33,16 @@ pub fn read_image(image: &[u8]) -> Result<ModelSpec, Refused> {
         spec.facts.push(fact);
     }
     for number in 0..counts.rules {
-        let rule = rules::rule(&mut fields, &spec, number)?;
+        let rule = rules::rule(&mut fields, &spec, counts.version, number)?;
         spec.rules.push(rule);
     }
     fields.finish()?;
-    Ok(spec)
+    Ok(with_version(spec, counts.version))
 }
 
-/// How many of each kind follow the header.
+/// What the header says of what follows: the version, and how many of each kind.
 struct Counts {
+    version: u16,
     buffers: u16,
     types: u16,
     rules: u16,
@@ -48,8 +51,8 @@ struct Counts {
 
 /// Version, counts and failure latency.
 fn header(fields: &mut Fields, spec: &mut ModelSpec) -> Result<Counts, Refused> {
-    let another = |version: u16| (version != 1).then(|| (Flaw::Version, version.to_string()));
-    fields.judged(8, || "the version".into(), another)?;
+    let another = |version: u16| (!VERSIONS.contains(&version)).then(|| (Flaw::Version, version.to_string()));
+    let version = fields.judged(8, || "the version".into(), another)?;
     let wrong =
         |count: u16| (!(1..=BUFFERS).contains(&usize::from(count))).then(|| (Flaw::BufferCount, count.to_string()));
     let buffers = fields.judged(4, || "the number of buffers".into(), wrong)?;
@@ -57,7 +60,7 @@ fn header(fields: &mut Fields, spec: &mut ModelSpec) -> Result<Counts, Refused> 
     let rules = fields.at_most(9, RULES, Flaw::RuleCount, || "the number of rules".into())?;
     let facts = fields.at_most(10, FACTS, Flaw::FactCount, || "the number of facts".into())?;
     spec.failure = fields.take(16, || "the failure latency".into())?;
-    Ok(Counts { buffers, types, rules, facts })
+    Ok(Counts { version, buffers, types, rules, facts })
 }
 
 /// A type from `lowest` to T and the values of its slots.

@@ -3,10 +3,12 @@
 use jirvuntsag_packing::{ActionSpec, Deed, ModelSpec, PatternSpec, RuleSpec, Term, TestSpec};
 
 use super::fields::{numbered, Fields, Wrong};
+use super::queries::queries;
 use super::type_of;
 use crate::flaw::Flaw;
 use crate::limits::VARIABLES;
 use crate::refused::Refused;
+use crate::version::WITH_QUERIES;
 
 /// What a rule's terms and actions must know of the rule.
 struct Scope<'m> {
@@ -14,18 +16,17 @@ struct Scope<'m> {
     variables: u8,
 }
 
-impl Scope<'_> {
-    /// The buffers that there are, by number.
-    fn buffers(&self) -> String {
-        numbered("buffer", 0, self.spec.opening.len())
-    }
+/// The buffers that there are, by number.
+fn buffers(spec: &ModelSpec) -> String {
+    numbered("buffer", 0, spec.opening.len())
 }
 
-/// One rule.
-pub fn rule(fields: &mut Fields, spec: &ModelSpec, number: u16) -> Result<RuleSpec, Refused> {
+/// One rule, as the image's version has it.
+pub fn rule(fields: &mut Fields, spec: &ModelSpec, version: u16, number: u16) -> Result<RuleSpec, Refused> {
     let whose = format!("rule {number}");
+    let with_queries = version == WITH_QUERIES;
     let utility = fields.take(16, || format!("the utility of {whose}"))?;
-    let tests = count(fields, spec, 1, Flaw::TestCount, &format!("tests of {whose}"))?;
+    let tests = count(fields, spec, u16::from(!with_queries), Flaw::TestCount, &format!("tests of {whose}"))?;
     let actions = count(fields, spec, 0, Flaw::ActionCount, &format!("actions of {whose}"))?;
     let what = || format!("the number of variables of {whose}");
     let variables = fields.at_most(4, VARIABLES, Flaw::VariableCount, what)? as u8;
@@ -39,6 +40,9 @@ pub fn rule(fields: &mut Fields, spec: &ModelSpec, number: u16) -> Result<RuleSp
         let cause = format!("variable {variable} of {whose} stands in none of its tests, which end before this bit");
         return Err(fields.refused_here(Flaw::UntestedVariable, cause));
     }
+    if with_queries {
+        rule.queries = queries(fields, spec, &rule, &whose)?;
+    }
     for number in 0..actions {
         let action = action(fields, &scope, &rule, &format!("action {number} of {whose}"))?;
         rule.actions.push(action);
@@ -46,15 +50,14 @@ pub fn rule(fields: &mut Fields, spec: &ModelSpec, number: u16) -> Result<RuleSp
     Ok(rule)
 }
 
-/// A number of tests or actions, `lowest` to the number of buffers.
-fn count(fields: &mut Fields, spec: &ModelSpec, lowest: u16, flaw: Flaw, of: &str) -> Result<u16, Refused> {
-    let buffers = spec.opening.len();
+/// A number of tests, queries or actions, `lowest` to the number of buffers.
+pub fn count(fields: &mut Fields, spec: &ModelSpec, lowest: u16, flaw: Flaw, of: &str) -> Result<u16, Refused> {
     let wrong = |count: u16| {
         if count < lowest {
             return Some((flaw, count.to_string()));
         }
-        let there = || format!("{count}, but the image has {}", numbered("buffer", 0, buffers));
-        (usize::from(count) > buffers).then(|| (flaw, there()))
+        let there = || format!("{count}, but the image has {}", buffers(spec));
+        (usize::from(count) > spec.opening.len()).then(|| (flaw, there()))
     };
     fields.judged(4, || format!("the number of {of}"), wrong)
 }
@@ -65,13 +68,13 @@ fn stands(tests: &[TestSpec], variable: u16) -> bool {
 }
 
 /// A buffer below the count and above the one before it.
-fn buffer(fields: &mut Fields, scope: &Scope, before: Option<u8>, whose: &str) -> Result<u8, Refused> {
+pub fn buffer(fields: &mut Fields, spec: &ModelSpec, before: Option<u8>, whose: &str) -> Result<u8, Refused> {
     let wrong = |buffer: u16| {
-        if usize::from(buffer) >= scope.spec.opening.len() {
-            return Some((Flaw::UnknownBuffer, format!("{buffer}, but the image has {}", scope.buffers())));
+        if usize::from(buffer) >= spec.opening.len() {
+            return Some((Flaw::UnknownBuffer, format!("{buffer}, but the image has {}", buffers(spec))));
         }
         let before = before.filter(|&before| buffer <= u16::from(before))?;
-        let found = format!("{buffer}, but the one before it is {before}; the image has {}", scope.buffers());
+        let found = format!("{buffer}, but the one before it is {before}; the image has {}", buffers(spec));
         Some((Flaw::BufferOrder, found))
     };
     Ok(fields.judged(3, || format!("the buffer of {whose}"), wrong)? as u8)
@@ -79,17 +82,17 @@ fn buffer(fields: &mut Fields, scope: &Scope, before: Option<u8>, whose: &str) -
 
 /// One test.
 fn test(fields: &mut Fields, scope: &Scope, before: &[TestSpec], whose: &str) -> Result<TestSpec, Refused> {
-    let buffer = buffer(fields, scope, before.last().map(|test| test.buffer), whose)?;
+    let buffer = buffer(fields, scope.spec, before.last().map(|test| test.buffer), whose)?;
     let isa = type_of(fields, scope.spec, 0, whose)?;
     Ok(TestSpec { buffer, isa, pattern: pattern(fields, scope, isa, whose)? })
 }
 
 /// One action.
 fn action(fields: &mut Fields, scope: &Scope, rule: &RuleSpec, whose: &str) -> Result<ActionSpec, Refused> {
-    let buffer = buffer(fields, scope, rule.actions.last().map(|action| action.buffer), whose)?;
+    let buffer = buffer(fields, scope.spec, rule.actions.last().map(|action| action.buffer), whose)?;
     let tested = rule.tests.iter().find(|test| test.buffer == buffer).map(|test| test.isa);
     let wrong = |kind| match (kind, tested) {
-        (0, None) => Some(untested(scope, rule, buffer)),
+        (0, None) => Some(untested(scope.spec, rule, buffer)),
         (0, Some(_)) | (1 | 2, _) => None,
         _ => Some((Flaw::ActionKind, kind.to_string())),
     };
@@ -107,11 +110,16 @@ fn action(fields: &mut Fields, scope: &Scope, rule: &RuleSpec, whose: &str) -> R
 }
 
 /// What is wrong with a modify of a buffer that the rule does not test.
-fn untested(scope: &Scope, rule: &RuleSpec, buffer: u8) -> Wrong {
+fn untested(spec: &ModelSpec, rule: &RuleSpec, buffer: u8) -> Wrong {
     let tested: Vec<String> = rule.tests.iter().map(|test| test.buffer.to_string()).collect();
-    let tested = format!("{} {}", if tested.len() == 1 { "buffer" } else { "buffers" }, tested.join(", "));
+    let tested = match tested.len() {
+        0 => "no buffer".into(),
+        1 => format!("buffer {}", tested[0]),
+        _ => format!("buffers {}", tested.join(", ")),
+    };
+    let asked = if rule.queries.iter().any(|query| query.buffer == buffer) { " and only queries this one" } else { "" };
     let found =
-        format!("0 (modify) of buffer {buffer}, but the rule tests {tested}; the image has {}", scope.buffers());
+        format!("0 (modify) of buffer {buffer}, but the rule tests {tested}{asked}; the image has {}", buffers(spec));
     (Flaw::UntestedBuffer, found)
 }
 

@@ -10,8 +10,23 @@ use crate::limits::{BUFFERS, FACTS, SLOTS, SYMBOL, TYPES};
 use crate::names::TypeNames;
 use crate::naming::{buffer_name_fault, slot_name_fault, type_name_fault, ACTIVATION, LATENCY};
 use crate::shown::Shown;
+use crate::version::WITH_QUERIES;
 
 impl<'t> Parser<'t> {
+    /// `version 2`: the image has that version though no rule asks for it.
+    pub fn version(&mut self, first: Word, mut line: Line<'t>) -> Result<(), TextError> {
+        if self.version_said {
+            return Err(first.error("the version is said twice"));
+        }
+        let word = line.take("a version")?;
+        match whole_number(word, "a version", u8::MAX.into())? {
+            WITH_QUERIES => self.version_said = true,
+            1 => return Err(word.error("version 1 is not said: an image has it unless a rule has a query")),
+            other => return Err(word.breaks(Flaw::Version, format!("version {other} is not known"))),
+        }
+        line.end()
+    }
+
     /// `failure latency MS`.
     pub fn failure(&mut self, first: Word, mut line: Line<'t>) -> Result<(), TextError> {
         if self.failure_said {

@@ -1,7 +1,8 @@
 //! A rule whose lines are being read, and what it must keep to.
 
-use jirvuntsag_packing::{ActionSpec, TestSpec};
+use jirvuntsag_packing::{ActionSpec, QuerySpec, TestSpec};
 
+use super::query::Asked;
 use super::words::{name, Line, Word};
 use crate::error::TextError;
 use crate::flaw::Flaw;
@@ -20,6 +21,9 @@ pub struct Draft<'t> {
     /// Whether the head names the variables, so that no test can add one.
     listed: bool,
     pub tests: Vec<(Word<'t>, TestSpec)>,
+    pub queries: Vec<(Word<'t>, QuerySpec)>,
+    /// The buffer that the lines just read ask.
+    pub asked: Option<Asked<'t>>,
     /// Whether `==>` was read.
     pub turned: bool,
     /// Whether a line of the rule was wrong: what follows from that is not told as a fault of its own.
@@ -27,7 +31,7 @@ pub struct Draft<'t> {
     pub actions: Vec<(Word<'t>, ActionSpec)>,
 }
 
-/// The buffer's name in `=goal>`, `+goal>` or `-goal>`.
+/// The buffer's name in `=goal>`, `?goal>`, `+goal>` or `-goal>`.
 pub fn buffer_of<'t>(first: Word<'t>) -> &'t str {
     &first.text[1..first.text.len() - 1]
 }
@@ -43,6 +47,8 @@ impl<'t> Draft<'t> {
             tested: 0,
             listed: false,
             tests: Vec::new(),
+            queries: Vec::new(),
+            asked: None,
             turned: false,
             faulty: false,
             actions: Vec::new(),
@@ -111,15 +117,15 @@ impl<'t> Draft<'t> {
         first.breaks(Flaw::BufferOrder, message)
     }
 
-    /// `==>`: the tests end here.
+    /// `==>`: tests and queries end here.
     pub fn turn(&mut self, first: Word, mut line: Line) -> Result<(), TextError> {
         if self.turned {
             return Err(first.error(format!("rule '{}' has two lines '==>'", Shown(self.name))));
         }
         self.turned = true;
-        if self.tests.is_empty() && !self.faulty {
-            let message = format!("rule '{}' has no test", Shown(self.name));
-            return Err(first.breaks(Flaw::TestCount, message));
+        if self.tests.is_empty() && self.queries.is_empty() && !self.faulty {
+            let message = format!("rule '{}' has no test and no query", Shown(self.name));
+            return Err(first.breaks(Flaw::QueryCount, message));
         }
         line.end()
     }

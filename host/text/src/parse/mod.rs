@@ -5,6 +5,7 @@ mod draft;
 mod lisp;
 mod lone;
 mod lookup;
+mod query;
 mod rule;
 mod symbols;
 mod words;
@@ -14,6 +15,7 @@ use jirvuntsag_packing::ModelSpec;
 use crate::error::TextError;
 use crate::flaw::Flaw;
 use crate::names::Names;
+use crate::version::{with_version, WITH_QUERIES};
 use draft::Draft;
 use symbols::Symbols;
 use words::{Line, Word};
@@ -51,6 +53,8 @@ struct Parser<'t> {
     symbols: Symbols,
     /// Whether the failure latency was said.
     failure_said: bool,
+    /// Whether the version whose rules have queries was said.
+    version_said: bool,
     /// The rule whose lines are being read.
     draft: Option<Draft<'t>>,
     faults: Vec<TextError>,
@@ -63,6 +67,7 @@ impl<'t> Parser<'t> {
             names: Names::new(),
             symbols: Symbols::new(),
             failure_said: false,
+            version_said: false,
             draft: None,
             faults: Vec::new(),
         }
@@ -80,12 +85,16 @@ impl<'t> Parser<'t> {
     /// Takes one line; an empty one says nothing.
     fn line(&mut self, mut line: Line<'t>) {
         let Some(first) = line.next() else { return };
-        let said = if first.text == "==>" || is_buffer_line(first.text) {
-            self.rule_line(first, line)
+        let said = if self.is_asked(first.text) {
+            self.in_rule(first, |_, draft| draft.ask(first, line))
+        } else if is_rule_line(first.text) {
+            self.end_query();
+            self.in_rule(first, |parser, draft| parser.rule_part(draft, first, line))
         } else if let Some(draft) = self.draft.as_mut().filter(|_| is_meant_within(first.text)) {
             draft.faulty = true;
             Err(first.error(unknown(first, WITHIN_RULE)))
         } else {
+            self.end_query();
             let ended = self.end_rule();
             self.note(ended);
             self.own_line(first, line)
@@ -96,6 +105,7 @@ impl<'t> Parser<'t> {
     /// A line that belongs to no rule.
     fn own_line(&mut self, first: Word<'t>, line: Line<'t>) -> Result<(), TextError> {
         match first.text {
+            "version" => self.version(first, line),
             "failure" => self.failure(first, line),
             "symbol" => self.symbol(line),
             "type" => self.type_line(line),
@@ -110,12 +120,16 @@ impl<'t> Parser<'t> {
         }
     }
 
-    /// A line that belongs to a rule.
-    fn rule_line(&mut self, first: Word<'t>, line: Line<'t>) -> Result<(), TextError> {
+    /// Reads a line that belongs to a rule.
+    fn in_rule(
+        &mut self,
+        first: Word<'t>,
+        read: impl FnOnce(&mut Self, &mut Draft<'t>) -> Result<(), TextError>,
+    ) -> Result<(), TextError> {
         let Some(mut draft) = self.draft.take() else {
             return Err(first.error(format!("'{first}' stands in no rule: a 'rule' line comes first")));
         };
-        let said = self.rule_part(&mut draft, first, line);
+        let said = read(self, &mut draft);
         draft.faulty |= said.is_err();
         self.draft = Some(draft);
         said
@@ -131,6 +145,7 @@ impl<'t> Parser<'t> {
 
     /// What a model must have once the whole text is read.
     fn finish(mut self) -> Parsed {
+        self.end_query();
         let ended = self.end_rule();
         self.note(ended);
         if self.spec.opening.is_empty() && self.faults.is_empty() {
@@ -138,23 +153,25 @@ impl<'t> Parser<'t> {
         }
         let lone = self.symbols.lone();
         self.names.symbols = self.symbols.into_names();
-        Parsed { spec: self.spec, names: self.names, faults: self.faults, lone }
+        let spec = if self.version_said { with_version(self.spec, WITH_QUERIES) } else { self.spec };
+        Parsed { spec, names: self.names, faults: self.faults, lone }
     }
 }
 
-/// Whether a line that begins so is a test or an action: `=goal>`, `+retrieval>`, `-goal>`, `?goal>`.
-fn is_buffer_line(word: &str) -> bool {
-    word.len() > 2 && word.starts_with(['=', '+', '-', '?']) && word.ends_with('>')
+/// Whether a line that begins so is `==>`, a test, a query or an action: `=goal>`, `?goal>`, `+retrieval>`, `-goal>`.
+fn is_rule_line(word: &str) -> bool {
+    word == "==>" || word.len() > 2 && word.starts_with(['=', '+', '-', '?']) && word.ends_with('>')
 }
 
 /// What a line begins with.
-const ANYWHERE: &str = "failure, symbol, type, buffer, fact, rule, =BUFFER>, +BUFFER>, -BUFFER> or ==>";
+const ANYWHERE: &str =
+    "version, failure, symbol, type, buffer, fact, rule, =BUFFER>, ?BUFFER>, +BUFFER>, -BUFFER> or ==>";
 /// The same, below the head of a rule.
-const WITHIN_RULE: &str = "=BUFFER>, +BUFFER>, -BUFFER> or ==> within a rule, where slots stand behind it, \
-                           or else with failure, symbol, type, buffer, fact or rule";
+const WITHIN_RULE: &str = "=BUFFER>, ?BUFFER>, +BUFFER>, -BUFFER> or ==> within a rule, where slots stand behind it, \
+                           or else with version, failure, symbol, type, buffer, fact or rule";
 
 /// Words that begin a line which declares something.
-const DECLARING: [&str; 6] = ["failure", "symbol", "type", "buffer", "fact", "rule"];
+const DECLARING: [&str; 7] = ["version", "failure", "symbol", "type", "buffer", "fact", "rule"];
 
 /// Whether a wrong line that begins so, below the head of a rule, is meant as one of that rule: as ACT-R writes slots and `isa` there.
 fn is_meant_within(word: &str) -> bool {

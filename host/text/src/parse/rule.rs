@@ -43,10 +43,13 @@ impl<'t> Parser<'t> {
         line.end()
     }
 
-    /// A line within a rule: a test, `==>` or an action.
+    /// A line within a rule: a test, a query, `==>` or an action.
     pub fn rule_part(&mut self, draft: &mut Draft<'t>, first: Word<'t>, line: Line<'t>) -> Result<(), TextError> {
         if first.text == "==>" {
             return draft.turn(first, line);
+        }
+        if first.text.starts_with('?') {
+            return self.query(draft, first, line);
         }
         let buffer = self.buffer_number(first, buffer_of(first))?;
         match (&first.text[..1], draft.turned) {
@@ -54,7 +57,6 @@ impl<'t> Parser<'t> {
             ("=", true) => self.modify(draft, first, buffer, line),
             ("+", true) => self.request(draft, first, buffer, line),
             ("-", true) => draft.clear(first, buffer, line),
-            ("?", _) => Err(first.error("an image cannot hold a query: a buffer is tested with '='")),
             _ => Err(first.error(format!("'{first}' is an action, and stands after '==>'"))),
         }
     }
@@ -82,8 +84,10 @@ impl<'t> Parser<'t> {
             if draft.faulty {
                 return Ok(());
             }
-            let (rule, buffer) = (Shown(draft.name), Shown(buffer_of(first)));
-            let message = format!("rule '{rule}' modifies buffer '{buffer}' and does not test it");
+            let (rule, name) = (Shown(draft.name), Shown(buffer_of(first)));
+            let asked = draft.queries.iter().any(|(_, query)| query.buffer == buffer);
+            let hint = if asked { format!(": a query is no test, add '={name}> TYPE'") } else { String::new() };
+            let message = format!("rule '{rule}' modifies buffer '{name}' and does not test it{hint}");
             return Err(first.breaks(Flaw::UntestedBuffer, message));
         };
         if let Some(word) = line.peek().filter(|word| word.text == ISA) {
@@ -125,17 +129,25 @@ impl<'t> Parser<'t> {
         Ok(PatternSpec::new(&named))
     }
 
-    /// The rule in numbers, its tests and actions by rising buffer.
+    /// The rule in numbers, its tests, queries and actions by rising buffer.
     pub fn add_rule(&mut self, draft: Draft<'t>) -> Result<(), TextError> {
         draft.check()?;
         let variables: Vec<String> = draft.variables.iter().map(|word| word.text[1..].into()).collect();
-        let mut tests: Vec<TestSpec> = draft.tests.into_iter().map(|(_, test)| test).collect();
-        let mut actions: Vec<ActionSpec> = draft.actions.into_iter().map(|(_, action)| action).collect();
-        tests.sort_by_key(|test| test.buffer);
-        actions.sort_by_key(|action| action.buffer);
-        let variable_count = variables.len() as u8;
+        self.spec.rules.push(RuleSpec {
+            utility: draft.utility,
+            variables: variables.len() as u8,
+            tests: rising(draft.tests, |test| test.buffer),
+            queries: rising(draft.queries, |query| query.buffer),
+            actions: rising(draft.actions, |action| action.buffer),
+        });
         self.names.rules.push(RuleNames { name: draft.name.into(), variables });
-        self.spec.rules.push(RuleSpec { utility: draft.utility, variables: variable_count, tests, actions });
         Ok(())
     }
+}
+
+/// What lines said, by rising buffer.
+fn rising<T>(lines: Vec<(Word, T)>, buffer: impl Fn(&T) -> u8) -> Vec<T> {
+    let mut said: Vec<T> = lines.into_iter().map(|(_, one)| one).collect();
+    said.sort_by_key(buffer);
+    said
 }

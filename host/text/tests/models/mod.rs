@@ -1,6 +1,12 @@
-//! A model besides model A that images are damaged of.
+//! Models that images are damaged of.
+#![allow(dead_code)] // No test has all of these.
 
-use jirvuntsag_packing::{ActionSpec, ChunkSpec, ModelSpec, RuleSpec, Term, TestSpec};
+use jirvuntsag_packing::{model_a, retries, ActionSpec, ChunkSpec, ModelSpec, RuleSpec, Term, TestSpec};
+
+/// All that images are damaged of: two of version 1, and one of version 2.
+pub fn damaged() -> [ModelSpec; 3] {
+    [model_a(), wider(), retries()]
+}
 
 /// Four buffers, one of them untested; a type without slots, one with seven; three variables; a rule whose last fields are
 /// those of a mask.
@@ -15,6 +21,7 @@ pub fn wider() -> ModelSpec {
             TestSpec::new(3, 2, &[(2, v(2)), (3, Term::Symbol(4_095))]),
         ],
         actions: vec![ActionSpec::modify(0, &[(6, v(2))]), ActionSpec::clear(2), ActionSpec::request(3, 1, &[])],
+        ..RuleSpec::default()
     };
     ModelSpec {
         failure: 1,
@@ -22,5 +29,6 @@ pub fn wider() -> ModelSpec {
         opening: vec![ChunkSpec::nil(), ChunkSpec::new(1, &[]), ChunkSpec::nil(), ChunkSpec::nil()],
         facts: vec![],
         rules: vec![rule],
+        ..ModelSpec::default()
     }
 }
