@@ -8,7 +8,7 @@ use jirvuntsag_reference::{Kind, State, STORE_WORDS};
 use jirvuntsag_text::{Model, Names};
 
 /// Names of all examples.
-const NAMES: [&str; 10] = [
+const NAMES: [&str; 11] = [
     "addition",
     "count-chr",
     "count-rule",
@@ -17,11 +17,12 @@ const NAMES: [&str; 10] = [
     "counting",
     "parents",
     "pupil",
+    "retry",
     "rule-order",
     "successor",
 ];
 /// Those of them that nobody has published.
-const OWN: [&str; 2] = ["counting", "pupil"];
+const OWN: [&str; 3] = ["counting", "pupil", "retry"];
 
 fn folder() -> PathBuf {
     Path::new(env!("CARGO_MANIFEST_DIR")).join("../../examples")
@@ -145,7 +146,7 @@ fn times_and_rules_are_the_published_ones() {
 }
 
 /// What the first buffers hold at the end.
-const ENDS: [(&str, [&str; 2]); 10] = [
+const ENDS: [(&str, [&str; 2]); 11] = [
     ("addition", ["add 5 2 7", "chunk"]),
     ("count-chr", ["chunk", "count-order 4 5"]),
     ("count-rule", ["count 4", "chunk"]),
@@ -154,6 +155,7 @@ const ENDS: [(&str, [&str; 2]); 10] = [
     ("counting", ["chunk", "chunk"]),
     ("parents", ["g Max Alice Bob done", "parent Alice Bob Max"]),
     ("pupil", ["task 3 2 nil done 5", "chunk"]),
+    ("retry", ["call Ann work dialled 5551", "chunk"]),
     ("rule-order", ["foo v3", "bar y"]),
     ("successor", ["g 3", "chunk"]),
 ];
@@ -188,5 +190,24 @@ fn the_pupil_remembers() {
         let fires = [(50, Kind::Fire(0)), (100, Kind::Wait(50)), (150, Kind::Fire(1))];
         assert_eq!((&steps[..], store[0]), (&fires[..], 1), "{}", engine.name);
         assert_eq!(again.buffers[0], first.buffers[0], "the same answer");
+    }
+}
+
+/// Ann's number at work is not known: the retrieval buffer is in error from the request on, until another one finds a fact.
+#[test]
+fn the_caller_asks_again() {
+    let image = bytes("retry", "image");
+    for engine in [&PROVED, &REFERENCE] {
+        let mut table = engine.zeros(&image);
+        let mut state = (engine.open)(&image, &mut table).2;
+        let mut told = Vec::new();
+        for _ in 0..5 {
+            state = (engine.run)(&image, state, &mut table, 1).2;
+            let retrieval = state.buffers[1];
+            told.push((state.clock, retrieval.isa, retrieval.delay, retrieval.error));
+        }
+        let failed = [(50, 0, 200, true), (250, 0, 0, true)];
+        let found = [(300, 1, 100, false), (400, 1, 0, false), (450, 0, 0, false)];
+        assert_eq!(told, [&failed[..], &found].concat(), "{}", engine.name);
     }
 }

@@ -4,10 +4,12 @@ use jirvuntsag_compare::PROVED;
 use jirvuntsag_generate::{each_seed, Rng};
 use jirvuntsag_text::{Model, TextError};
 
-const TEXT: &str = include_str!("../../../examples/addition.model");
+/// The texts that are mangled; the second has queries.
+const TEXTS: [&str; 2] =
+    [include_str!("../../../examples/addition.model"), include_str!("../../../examples/retry.model")];
 
 /// Words that mean something somewhere.
-const WORDS: [&str; 26] = [
+const WORDS: [&str; 33] = [
     "rule",
     "type",
     "fact",
@@ -23,6 +25,13 @@ const WORDS: [&str; 26] = [
     "=goal>",
     "+retrieval>",
     "-goal>",
+    "?goal>",
+    "?retrieval>",
+    "state",
+    "busy",
+    "free",
+    "error",
+    "version",
     "?a",
     "?",
     "nil",
@@ -70,8 +79,8 @@ fn assert_lies_in(text: &str, fault: &TextError) {
 #[test]
 fn mangled_texts_are_answered() {
     let (mut accepted, mut refused) = (0, 0);
-    each_seed(110_000, 6_000, |_, mut rng| {
-        let mut text = TEXT.to_owned();
+    each_seed(110_000, 6_000, |seed, mut rng| {
+        let mut text = TEXTS[seed as usize % TEXTS.len()].to_owned();
         for _ in 0..rng.from_to(1, 6) {
             text = mangle(&mut rng, &text);
         }
