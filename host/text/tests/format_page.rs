@@ -5,10 +5,10 @@ mod reading;
 
 use std::collections::BTreeSet;
 
-use jirvuntsag_packing::{model_a, pack_with_fields, ChunkSpec, ModelSpec, Packed, Role};
-use jirvuntsag_text::read_image;
-use models::wider;
-use reading::{cells, code, page, rows};
+use jirvuntsag_packing::{model_a, pack_with_fields, retries, ChunkSpec, ModelSpec, Packed, Role};
+use jirvuntsag_text::{read_image, Model};
+use models::damaged;
+use reading::{block, cells, code, page, rows};
 
 /// The bit, width and value of each row are those of the image's fields, all of them and in order.
 fn assert_fields(rows: &[Vec<&str>], packed: &Packed) {
@@ -30,15 +30,30 @@ fn the_smallest_image_is_as_printed() {
     let packed = pack_with_fields(&ModelSpec { opening: vec![ChunkSpec::nil()], ..ModelSpec::default() });
     let rows = rows(&page, "## The smallest image, bit by bit");
     assert_fields(&rows, &packed);
-    for row in &rows {
-        assert_eq!(
-            code(row[4]),
-            format!("{:0width$b}", row[2].parse::<u16>().expect("a value"), width = code(row[4]).len())
-        );
-        assert_eq!(code(row[4]).len().to_string(), row[1]);
-    }
+    assert_bits(&rows);
     assert!(page.contains("Eight bytes, `01 10 00 00 00 00 00 00`"));
     assert_eq!(hex("01 10 00 00 00 00 00 00"), packed.bytes);
+}
+
+/// The last cell of each row has the bits of its value.
+fn assert_bits(rows: &[Vec<&str>]) {
+    for row in rows {
+        let (value, width): (u16, usize) = (row[2].parse().expect("a value"), row[1].parse().expect("a width"));
+        assert_eq!(code(row[4]), format!("{value:0width$b}"));
+    }
+}
+
+#[test]
+fn the_image_with_a_query_is_as_printed() {
+    let page = page("FORMAT.md");
+    let (_, section) = page.split_once("## A rule that asks, bit by bit").expect("the section");
+    let model = Model::from_text(&block(section, "asks")).expect("a model");
+    let packed = pack_with_fields(model.spec());
+    let rows = rows(section, "```\n");
+    assert_fields(&rows, &packed);
+    assert_bits(&rows);
+    let printed = section.split('`').nth(1).expect("its bytes");
+    assert_eq!((hex(printed), packed.bytes.len()), (packed.bytes, 16));
 }
 
 #[test]
@@ -61,11 +76,21 @@ fn the_counting_model_is_as_printed() {
 }
 
 #[test]
-fn it_is_refused_as_printed_where_a_field_is_altered() {
+fn they_are_refused_as_printed_where_a_field_is_altered() {
     let page = page("FORMAT.md");
-    let packed = pack_with_fields(&model_a());
-    let rows = rows(&page, "The same image with one field altered");
-    assert_eq!(rows.len(), 7);
+    let asks = Model::from_text(&block(&page, "asks")).expect("a model");
+    for (spec, after, count) in [
+        (&model_a(), "The same image with one field altered", 7),
+        (asks.spec(), "That image with one field altered", 6),
+    ] {
+        let rows = rows(&page, after);
+        assert_eq!(rows.len(), count);
+        assert_refused(&rows, &pack_with_fields(spec));
+    }
+}
+
+/// Each row has a field by its first bit, another value of it, and what is said of the image then.
+fn assert_refused(rows: &[Vec<&str>], packed: &Packed) {
     for row in rows {
         let field = packed.field_at(row[0].parse().expect("a bit")).expect("a field that begins there");
         let image = packed.with(field, row[1].parse().expect("a value"));
@@ -74,7 +99,7 @@ fn it_is_refused_as_printed_where_a_field_is_altered() {
 }
 
 /// The fields of the tables of docs/FORMAT.md in their order, but for the last row, which has none.
-const FIELDS: [Role; 28] = [
+const FIELDS: [Role; 31] = [
     Role::Version,
     Role::Buffers,
     Role::Types,
@@ -96,6 +121,9 @@ const FIELDS: [Role; 28] = [
     Role::TestType,
     Role::TestMask,
     Role::TestTerm,
+    Role::Queries,
+    Role::QueryBuffer,
+    Role::QueryKind,
     Role::ActionBuffer,
     Role::ActionKind,
     Role::ActionMask,
@@ -105,11 +133,11 @@ const FIELDS: [Role; 28] = [
     Role::ActionTerm,
 ];
 
-/// The numbers by which two models are refused at the first bit of a field of this role: of fields of 16 bits each eighth
+/// The numbers by which three models are refused at the first bit of a field of this role: of fields of 16 bits each eighth
 /// value, of others all.
 fn numbers_of(role: Role) -> BTreeSet<u8> {
     let mut numbers = BTreeSet::new();
-    for packed in [model_a(), wider()].map(|spec| pack_with_fields(&spec)) {
+    for packed in damaged().map(|spec| pack_with_fields(&spec)) {
         for field in packed.fields.iter().filter(|field| field.role == role) {
             for value in (0..=((1_u32 << field.width) - 1) as u16).step_by(1 << field.width.saturating_sub(13)) {
                 let refused = read_image(&packed.with(field, value)).err();
@@ -128,7 +156,8 @@ fn each_field_has_the_width_and_the_number_printed() {
     let rows: Vec<Vec<&str>> = fields.lines().filter(|line| line.starts_with('|')).map(cells).collect();
     let rows: Vec<Vec<&str>> = rows.into_iter().filter(|row| row[0] != "field" && row[0] != "---").collect();
     assert_eq!(rows.len(), FIELDS.len() + 1);
-    let a = pack_with_fields(&model_a());
+    // model A has every field but those of queries
+    let a = pack_with_fields(&ModelSpec { rules: [model_a().rules, retries().rules].concat(), ..model_a() });
     for (row, role) in rows.iter().zip(FIELDS) {
         let width = a.nth(role, 0).expect("such a field").width;
         assert_eq!(row[1].split(' ').next(), Some(width.to_string().as_str()), "{row:?}");

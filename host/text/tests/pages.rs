@@ -39,7 +39,7 @@ fn the_errors_are_as_printed() {
     let page = page("MODELS.md");
     let example = block(&page, "model");
     let rows = rows(&page, "## Errors");
-    assert_eq!(rows.len(), 8);
+    assert_eq!(rows.len(), 10);
     for row in rows {
         // A cell's blanks at its ends stand within the backquotes.
         let (old, new) = (code(row[0]), code(row[1]));
