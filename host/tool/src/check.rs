@@ -34,8 +34,9 @@ fn run(arguments: Arguments) -> Result<(), Failure> {
 /// What a model holds; the type of an empty buffer is not among those that it declares.
 fn contents(model: &Model) -> String {
     let spec = model.spec();
+    let version = if spec.header().version == 1 { "" } else { " of version 2" };
     format!(
-        "{} bytes, {}, {} besides chunk, {}, {}",
+        "{} bytes{version}, {}, {} besides chunk, {}, {}",
         model.image().len(),
         counted(spec.opening.len(), "buffer"),
         counted(spec.types.len(), "type"),

@@ -112,7 +112,7 @@ pub fn model_of_file(path: &str, names: Option<&str>) -> Result<Held, Failure> {
     }
 }
 
-/// Whether a file is an image: by a first byte with which no text begins (an image's is 1), or by its name if it is no text.
+/// Whether a file is an image: by a first byte with which no text begins (an image's is 1 or 2), or by its name if it is no text.
 fn is_image(path: &str, bytes: &[u8]) -> bool {
     match bytes.first() {
         Some(&byte) if byte < b'\t' => true,

@@ -169,6 +169,11 @@ fn texts_and_images_are_told_from_each_other() {
         assert_eq!(text(&checked.stdout), format!("{file}: {verdict} {holds}"));
         assert_eq!(call(&folder, &["trace", file], &[]).status.success(), cfg!(feature = "proved"));
     }
+    let asks = b"buffer goal\nrule r\n  ?goal> state free\n  ==>\n";
+    let holds = "12 bytes of version 2, 1 buffer, 0 types besides chunk, 0 facts, 1 rule\n";
+    assert_eq!(text(&call(&folder, &["check", "-"], asks).stdout), format!("standard input: packs to {holds}"));
+    let image = call(&folder, &["pack", "-"], asks).stdout;
+    assert_eq!(text(&call(&folder, &["check", "-"], &image).stdout), format!("standard input: opens: {holds}"));
     let said = "a.model: this is a text, not an image: 'pack' makes an image of it\n";
     assert_eq!(failed(&folder, &["unpack", "a.model"], &[]), (Some(1), said.into()));
     let said = "a.image: this is an image, not a text: 'unpack' makes a text of it\n";

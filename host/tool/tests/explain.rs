@@ -18,7 +18,7 @@ fn a_run_that_halts() {
 
 The buffers hold at the end:
   goal       chunk (empty)
-  retrieval  chunk (empty)
+  retrieval  chunk (empty, error)
 
 The run learned, in this order:
   at 400 ms  count current=3 target=3
@@ -118,7 +118,66 @@ rule half
     assert!(told.contains(wanted), "{told}");
 }
 
-/// A rule is said not to match exactly where a test of it does not hold: on every example, after each number of steps.
+/// The query that fails is named, and why: on its way, not on its way, and not in error.
+#[test]
+fn queries_that_fail() {
+    let path = file("queries.model", &block("queries"));
+    for (steps, buffer, rules) in [
+        (
+            "0",
+            "chunk (empty)",
+            [
+                "matches",
+                "does not match: ?retrieval> state busy fails: nothing is pending there",
+                "step of goal is begin, not asked",
+            ],
+        ),
+        (
+            "1",
+            "chunk (empty, error), which rules see in 200 ms",
+            [
+                "step of goal is asked, not begin",
+                "matches",
+                "?retrieval> state error fails: it is pending for another 200 ms",
+            ],
+        ),
+        ("5", "chunk (empty, error)", ["step of goal is asked, not begin", "nothing is pending there", "matches"]),
+        (
+            "6",
+            "chunk (empty)",
+            ["step of goal is gave-up, not begin", "nothing is pending there", "gave-up, not asked"],
+        ),
+    ] {
+        let told = explained(&[&path, "--steps", steps]);
+        assert!(told.contains(&format!("\n  retrieval  {buffer}\n")), "{told}");
+        let lines: Vec<&str> = told.lines().filter(|line| line.contains("  fired ")).collect();
+        assert!(lines.len() == 3 && lines.iter().zip(rules).all(|(line, why)| line.ends_with(why)), "{told}");
+    }
+}
+
+/// All three queries of a buffer that was never asked, and of one that is asked for a fact that is there.
+#[test]
+fn queries_of_a_free_and_of_a_busy_buffer() {
+    let rules =
+        ["busy", "free", "error"].map(|state| format!("rule {state} utility -1\n  ?side> state {state}\n  ==>\n"));
+    let text = format!(
+        "type t\nfact t latency 80\nbuffer goal t\nbuffer side\nrule ask\n  =goal> t\n  ==>\n  -goal>\n  +side> t\n{}",
+        rules.concat()
+    );
+    let path = file("three.model", &text);
+    let told = |steps: &str| {
+        let told = explained(&[&path, "--steps", steps]);
+        let (_, rules) = told.split_once("  busy ").expect("the rules");
+        rules.lines().map(|line| line.rsplit("; ").next().unwrap_or_default().to_owned()).collect::<Vec<_>>()
+    };
+    let fails = |state: &str, why: &str| format!("does not match: ?side> state {state} fails: {why}");
+    let flag = fails("error", "its error flag is not set");
+    assert_eq!(told("0"), [&fails("busy", "nothing is pending there"), "matches", &flag]);
+    let pending = "it is pending for another 80 ms";
+    assert_eq!(told("1"), ["matches", &fails("free", pending), &fails("error", pending)]);
+}
+
+/// A rule is said not to match exactly where a test of it does not hold, or a query: on every example, after each number of steps.
 #[test]
 fn every_rule_is_explained() {
     for name in EXAMPLES {
@@ -158,6 +217,22 @@ fn all_faults_come_first() {
     let said = refused(&["explain", &path], 1);
     assert_eq!(said.lines().count(), 3, "{said}");
     assert!(said.contains(":2:1: 'chunk-type' is ACT-R's: write 'type NAME SLOT ..'\n"), "{said}");
+}
+
+/// What docs/MODELS.md says of its model with queries.
+#[test]
+fn the_queries_of_the_page() {
+    let path = file("page-queries.model", &block("queries"));
+    let traced = printed(&["trace", &path]);
+    let fired: Vec<&str> =
+        traced.lines().filter_map(|line| line.split_once("PRODUCTION-FIRED ").map(|(_, rule)| rule)).collect();
+    assert_eq!(fired, ["ASK", "HUM", "HUM", "HUM", "HUM", "GIVE-UP"]);
+    assert!(traced.contains("     0.250   DECLARATIVE            RETRIEVAL-FAILURE\n"));
+    assert!(traced.contains("     0.300   PROCEDURAL             PRODUCTION-FIRED GIVE-UP\n"));
+    let told = explained(&[&path, "--steps", "1"]);
+    let page = page();
+    let why = page.split('`').find(|code| code.starts_with("?retrieval> state error fails")).expect("why not");
+    assert!(told.contains(&format!("give-up  fired never; does not match: {why}\n")), "{told}");
 }
 
 /// The example of docs/MODELS.md is explained as the page prints it.

@@ -3,7 +3,7 @@
 use std::path::Path;
 use std::process::Command;
 
-use jirvuntsag_packing::{model_a, pack, pack_with_fields, ActionSpec, Role};
+use jirvuntsag_packing::{model_a, pack, pack_with_fields, retries, ActionSpec, ModelSpec, Role};
 
 /// The subcommands that read an image; those that run it need the library.
 const READING: [&str; 5] = ["check", "unpack", "trace", "explain", "compare"];
@@ -28,7 +28,12 @@ fn check(name: &str, image: &[u8], wanted: &str) {
 
 /// Model A with a field, as which of its role, set to a value.
 fn with(role: Role, which: usize, value: u16) -> Vec<u8> {
-    let packed = pack_with_fields(&model_a());
+    altered(&model_a(), role, which, value)
+}
+
+/// A model's image with a field, as which of its role, set to a value.
+fn altered(spec: &ModelSpec, role: Role, which: usize, value: u16) -> Vec<u8> {
+    let packed = pack_with_fields(spec);
     packed.with(packed.nth(role, which).expect("such a field"), value)
 }
 
@@ -66,13 +71,14 @@ fn the_three_reasons_of_13() {
         "unknown.image",
         &with(Role::TestBuffer, 0, 5),
         "refused by 13 at bit 249 (byte 31, bit 1 of it): the buffer of test 0 of rule 0 is 5, but the image has buffers \
-         0 and 1 [a test or an action must name a buffer that exists]",
+         0 and 1 [a test, a query or an action must name a buffer that exists]",
     );
     check(
         "order.image",
         &with(Role::TestBuffer, 1, 0),
         "refused by 13 at bit 279 (byte 34, bit 7 of it): the buffer of test 1 of rule 0 is 0, but the one before it is \
-         0; the image has buffers 0 and 1 [buffers must rise among a rule's tests and among its actions, each once at most]",
+         0; the image has buffers 0 and 1 [buffers must rise among a rule's tests, its queries and its actions, each once \
+         at most]",
     );
     let mut spec = model_a();
     spec.rules[2].actions = vec![ActionSpec::modify(1, &[])];
@@ -81,6 +87,34 @@ fn the_three_reasons_of_13() {
         &pack(&spec),
         "refused by 13 at bit 561 (byte 70, bit 1 of it): the kind of action 0 of rule 2 is 0 (modify) of buffer 1, but \
          the rule tests buffer 0; the image has buffers 0 and 1 [a rule must test each buffer that it modifies]",
+    );
+}
+
+/// The fields of queries, which images of version 2 have.
+#[test]
+fn queries_by_name_byte_and_bit() {
+    check(
+        "version.image",
+        &altered(&retries(), Role::Version, 0, 3),
+        "refused by 3 at bit 0 (byte 0, bit 0 of it): the version is 3 [the version must be 1 or 2]",
+    );
+    check(
+        "count.image",
+        &altered(&retries(), Role::Queries, 1, 0),
+        "refused by 3 at bit 291 (byte 36, bit 3 of it): the number of queries of rule 1 is 0 \
+         [a rule must have a test or a query, and at most one query for each buffer]",
+    );
+    check(
+        "asked.image",
+        &altered(&retries(), Role::QueryBuffer, 0, 7),
+        "refused by 13 at bit 226 (byte 28, bit 2 of it): the buffer of query 0 of rule 0 is 7, but the image has buffers \
+         0 and 1 [a test, a query or an action must name a buffer that exists]",
+    );
+    check(
+        "query.image",
+        &altered(&retries(), Role::QueryKind, 2, 3),
+        "refused by 3 at bit 303 (byte 37, bit 7 of it): the kind of query 1 of rule 1 is 3 \
+         [a query must be of kind 0 (busy), 1 (free) or 2 (error)]",
     );
 }
 

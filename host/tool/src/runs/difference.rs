@@ -85,5 +85,6 @@ fn shown_fact(fact: &Option<&Chunk>) -> String {
 /// All words of a buffer, by number: what an engine left need not have a name.
 fn shown_buffer(buffer: &Buffer) -> String {
     let slots = buffer.slots.map(|value| value.to_string()).join(" ");
-    format!("type {}, slots {slots}, delay {}", buffer.isa, buffer.delay)
+    let error = if buffer.error { ", error" } else { "" };
+    format!("type {}, slots {slots}, delay {}{error}", buffer.isa, buffer.delay)
 }

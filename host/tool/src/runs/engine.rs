@@ -70,7 +70,7 @@ impl Run {
         table.chunks_exact(ENTRY).map(|entry| entry[0] == 1).collect()
     }
 
-    /// The fresh table of the state: every rule tests a buffer, and all are marked.
+    /// The fresh table of the state: every rule tests or queries a buffer, and all are marked.
     fn fresh_table(&self) -> Vec<u16> {
         let mut table = vec![0; ENTRY * self.rules];
         calls::refresh(&self.image, &self.state, (1 << self.buffers) - 1, &mut table);

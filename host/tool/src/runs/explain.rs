@@ -66,9 +66,13 @@ fn learned(names: &Names, traced: &Traced) -> String {
     format!("The run learned, in this order:\n{}\n", lines.collect::<String>())
 }
 
-/// A chunk with its slots, and when it can be seen.
+/// A chunk with its slots, that it is the answer to a failed request, and when it can be seen.
 fn chunk(names: &Names, buffer: &Buffer) -> String {
-    let mut text = if buffer.isa == 0 { format!("{CHUNK} (empty)") } else { names.chunk(buffer.isa, &buffer.slots) };
+    let mut text = match (buffer.isa, buffer.error) {
+        (0, false) => format!("{CHUNK} (empty)"),
+        (0, true) => format!("{CHUNK} (empty, error)"),
+        (isa, _) => names.chunk(isa, &buffer.slots),
+    };
     if buffer.delay > 0 {
         // Writing to a string cannot fail.
         let _ = write!(text, ", which rules see in {} ms", buffer.delay);

@@ -99,10 +99,10 @@ impl<'m> Lines<'m> {
         acted_on
     }
 
-    /// A chunk becomes visible, or the answer that there is none.
+    /// A chunk becomes visible, or the answer that no fact fits.
     fn arrival(&mut self, number: usize, after: &State) {
         let buffer = &after.buffers[number];
-        if buffer.isa == 0 {
+        if buffer.error {
             self.line(after.clock, DECLARATIVE, "RETRIEVAL-FAILURE");
             return;
         }

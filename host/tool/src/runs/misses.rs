@@ -2,7 +2,7 @@
 
 use std::collections::BTreeMap;
 
-use jirvuntsag_packing::{Term, TestSpec};
+use jirvuntsag_packing::{QuerySpec, Term, TestSpec};
 use jirvuntsag_text::{Model, Names};
 
 use super::engine::State;
@@ -10,11 +10,27 @@ use super::engine::State;
 /// The symbol that an empty slot holds.
 const NIL: u16 = 0;
 
-/// The first test of a rule, given by its number, that does not hold in a state, in words; nothing if all hold.
+/// The first test of a rule, given by its number, or else the first query, that does not hold in a state, in words; nothing
+/// if all hold.
 pub fn first_miss(model: &Model, rule: usize, state: &State) -> Option<String> {
     let (mut values, names) = (BTreeMap::new(), model.names());
-    let tests = &model.spec().rules[rule].tests;
-    tests.iter().find_map(|test| miss(test, state, names, &names.rules[rule].variables, &mut values))
+    let (rule, variables) = (&model.spec().rules[rule], &names.rules[rule].variables);
+    let test = rule.tests.iter().find_map(|test| miss(test, state, names, variables, &mut values));
+    test.or_else(|| rule.queries.iter().find_map(|query| denied(query, state, names)))
+}
+
+/// Why one query does not hold.
+fn denied(query: &QuerySpec, state: &State, names: &Names) -> Option<String> {
+    let buffer = &state.buffers[usize::from(query.buffer)];
+    let (busy, free) = (QuerySpec::busy(query.buffer), QuerySpec::free(query.buffer));
+    let why = match buffer.delay {
+        0 if *query == busy => "nothing is pending there".into(),
+        0 if *query == free || buffer.has_failed() => return None,
+        0 => "its error flag is not set".into(),
+        _ if *query == busy => return None,
+        delay => format!("it is pending for another {delay} ms"),
+    };
+    Some(format!("{} fails: {why}", names.query(query)))
 }
 
 /// Why one test does not hold; the values of variables are those of their first places.

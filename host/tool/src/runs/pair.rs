@@ -157,6 +157,9 @@ mod tests {
         let empty = "type 0, slots 0 0 0 0 0 0 0 0, delay 0";
         let other = "type 0, slots 0 4 0 0 0 0 0 0, delay 0";
         assert_eq!(found.expect("a place"), format!("at step 1, in buffer goal:\n  kept   {empty}\n  fresh  {other}"));
+        let found = place(|_, told| told.state.buffers[0].error = true);
+        let failed = format!("{empty}, error");
+        assert_eq!(found.expect("a place"), format!("at step 1, in buffer goal:\n  kept   {empty}\n  fresh  {failed}"));
         let found = place(|_, told| told.state.buffers[7].delay = 1).expect("a place");
         assert!(found.starts_with("at step 1, in buffer 7:\n"), "{found}");
     }

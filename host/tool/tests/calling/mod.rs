@@ -4,8 +4,8 @@ use std::path::{Path, PathBuf};
 use std::process::{Command, Output};
 
 /// The models of the examples that several tests go through.
-pub const EXAMPLES: [&str; 8] =
-    ["addition", "count-chr", "count-rule", "counting", "parents", "pupil", "rule-order", "successor"];
+pub const EXAMPLES: [&str; 9] =
+    ["addition", "count-chr", "count-rule", "counting", "parents", "pupil", "retry", "rule-order", "successor"];
 
 pub fn examples() -> PathBuf {
     Path::new(env!("CARGO_MANIFEST_DIR")).join("../../examples")
