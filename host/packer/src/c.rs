@@ -9,7 +9,7 @@ use crate::pack::{pack_fields, pack_text};
 use crate::runs::{run_all, Runs};
 
 /// What the calls below look like. It changes when they do.
-const INTERFACE: u32 = 2;
+const INTERFACE: u32 = 3;
 
 /// What `jirvuntsag_packer_runs` is to run, as [`Runs`] says: addresses, each with how many things are there.
 #[repr(C)]
@@ -29,7 +29,7 @@ pub struct Batch {
     pub jobs_len: usize,
     /// The words of the first states.
     pub states: *const u32,
-    /// How many words: 81 for each run, or 0.
+    /// How many words: 89 for each run, or 0.
     pub states_len: usize,
     /// What the stores have learned before.
     pub stores: *const u16,
@@ -71,7 +71,7 @@ pub unsafe extern "C" fn jirvuntsag_packer_fields(fields: *const u16, count: usi
     answered(move || pack_fields(fields))
 }
 
-/// Makes runs: part 1 has 84 words for each, part 2 the events that are kept, part 3 what the stores have then. There are
+/// Makes runs: part 1 has 92 words for each, part 2 the events that are kept, part 3 what the stores have then. There are
 /// fewer where it was stopped.
 ///
 /// # Safety

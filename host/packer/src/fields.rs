@@ -1,7 +1,9 @@
 //! From the fields of an image, one word each and in the image's order, to the model that they say.
 
-use jirvuntsag_packing::{ActionSpec, ChunkSpec, Deed, FactSpec, ModelSpec, PatternSpec, RuleSpec, Term, TestSpec};
-use jirvuntsag_text::Flaw;
+use jirvuntsag_packing::{
+    ActionSpec, ChunkSpec, Deed, FactSpec, ModelSpec, PatternSpec, QuerySpec, RuleSpec, Term, TestSpec,
+};
+use jirvuntsag_text::{Flaw, VERSIONS, WITH_QUERIES};
 
 /// Terms from here on are variables.
 const VARIABLES: u16 = 4_096;
@@ -39,17 +41,18 @@ impl Fields<'_> {
     }
 
     fn model(&mut self) -> Result<ModelSpec, String> {
-        match self.next("the version", 8)? {
-            1 => (),
-            version => return Err(Flaw::Version.told(format_args!("the version is {version}"))),
+        let version = self.next("the version", 8)?;
+        if !VERSIONS.contains(&version) {
+            return Err(Flaw::Version.told(format_args!("the version is {version}")));
         }
         let (buffers, types) = (self.next("the number of buffers", 4)?, self.next("the number of types", 6)?);
         let (rules, facts) = (self.next("the number of rules", 9)?, self.next("the number of facts", 10)?);
-        let mut spec = ModelSpec { failure: self.next("the failure latency", 16)?, ..ModelSpec::default() };
+        let failure = self.next("the failure latency", 16)?;
+        let mut spec = ModelSpec { version: Some(version as u8), failure, ..ModelSpec::default() };
         spec.types = (0..types).map(|_| self.small("a slot count", 4)).collect::<Result<_, _>>()?;
         spec.opening = (0..buffers).map(|_| self.chunk(&spec)).collect::<Result<_, _>>()?;
         spec.facts = (0..facts).map(|_| self.fact(&spec)).collect::<Result<_, _>>()?;
-        spec.rules = (0..rules).map(|_| self.rule()).collect::<Result<_, _>>()?;
+        spec.rules = (0..rules).map(|_| self.rule(version)).collect::<Result<_, _>>()?;
         Ok(spec)
     }
 
@@ -67,13 +70,19 @@ impl Fields<'_> {
         Ok(FactSpec { chunk, activation: self.next("an activation", 16)?, latency: self.next("a latency", 16)? })
     }
 
-    fn rule(&mut self) -> Result<RuleSpec, String> {
+    fn rule(&mut self, version: u16) -> Result<RuleSpec, String> {
         let utility = self.next("a utility", 16)?;
         let (tests, actions) = (self.next("a number of tests", 4)?, self.next("a number of actions", 4)?);
         let variables = self.small("a number of variables", 4)?;
         let tests = (0..tests).map(|_| self.test()).collect::<Result<_, _>>()?;
+        let queries = if version == WITH_QUERIES { self.next("a number of queries", 4)? } else { 0 };
+        let queries = (0..queries).map(|_| self.query()).collect::<Result<_, _>>()?;
         let actions = (0..actions).map(|_| self.action()).collect::<Result<_, _>>()?;
-        Ok(RuleSpec { utility, variables, tests, actions })
+        Ok(RuleSpec { utility, variables, tests, queries, actions })
+    }
+
+    fn query(&mut self) -> Result<QuerySpec, String> {
+        Ok(QuerySpec { buffer: self.small("a buffer", 3)?, kind: self.small("a query's kind", 2)? })
     }
 
     fn test(&mut self) -> Result<TestSpec, String> {

@@ -6,9 +6,9 @@ use jirvuntsag_proved::{calls, Buffer, Event, Number, Refusal, State, Step, Stor
 use jirvuntsag_text::read_image;
 
 /// Words of a state.
-const STATE: usize = 81;
+const STATE: usize = 89;
 /// Words of a buffer.
-const BUFFER: usize = 10;
+const BUFFER: usize = 11;
 /// Flags of an image: one for each rule, and the last one for waits.
 const FLAGS: usize = 257;
 /// Words of a learned fact.
@@ -57,7 +57,7 @@ struct Made {
     events: Vec<Event>,
 }
 
-/// Makes all runs, or those that were made when it was stopped. Part 1 has 84 words for each: the number, the steps made, the
+/// Makes all runs, or those that were made when it was stopped. Part 1 has 92 words for each: the number, the steps made, the
 /// events kept, the state; part 2 has three words for each event that is kept; part 3 has what the stores have then, in the
 /// words of [`Runs::stores`], and nothing where no run is lent one.
 pub fn run_all(runs: &Runs) -> Result<Vec<Vec<u8>>, String> {
@@ -72,7 +72,9 @@ pub fn run_all(runs: &Runs) -> Result<Vec<Vec<u8>>, String> {
         let image =
             opened.get(job as usize).ok_or_else(|| format!("run {at} is of image {job}, which is not there"))?;
         let state = match runs.states.get(STATE * at..STATE * (at + 1)) {
-            Some(words) => state_of(words).ok_or_else(|| format!("a word of state {at} is over 65,535"))?,
+            Some(words) => {
+                state_of(words).ok_or_else(|| format!("a word of state {at} is over 65,535, or a flag over 1"))?
+            }
             None => image.state,
         };
         let store = stores.get(at).copied().flatten().map(store_words);
@@ -197,7 +199,7 @@ fn differing(one: &State, other: &State) -> u16 {
     marks.filter(|(_, (one, other))| one != other).fold(0, |mark, (at, _)| mark | 1 << at)
 }
 
-/// The state of 81 words, if each of them fits.
+/// The state of 89 words, if each of them fits.
 fn state_of(words: &[u32]) -> Option<State> {
     let mut state = State { clock: words[0], ..State::default() };
     for (buffer, words) in state.buffers.iter_mut().zip(words[1..].chunks_exact(BUFFER)) {
@@ -205,15 +207,16 @@ fn state_of(words: &[u32]) -> Option<State> {
         for (to, &word) in small.iter_mut().zip(words) {
             *to = u16::try_from(word).ok()?;
         }
-        let [isa, slots @ .., delay] = small;
-        *buffer = Buffer { isa, slots, delay };
+        let [isa, slots @ .., delay, flag] = small;
+        let error = [false, true].get(usize::from(flag)).copied()?;
+        *buffer = Buffer { isa, slots, delay, error };
     }
     Some(state)
 }
 
-/// The 81 words of a state.
+/// The 89 words of a state.
 fn words_of(state: &State) -> impl Iterator<Item = u32> + '_ {
-    let buffer = |buffer: &Buffer| [&[buffer.isa], &buffer.slots[..], &[buffer.delay]].concat();
+    let buffer = |buffer: &Buffer| [&[buffer.isa], &buffer.slots[..], &[buffer.delay, buffer.error.into()]].concat();
     std::iter::once(state.clock).chain(state.buffers.iter().flat_map(buffer).map(u32::from))
 }
 

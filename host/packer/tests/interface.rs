@@ -11,6 +11,13 @@ use jirvuntsag_text::Flaw;
 
 const TEXT: &str = include_str!("../../../examples/counting.model");
 const IMAGE: &[u8] = include_bytes!("../../../examples/counting.image");
+/// An image of version 2, whose first request fails.
+const RETRY: &[u8] = include_bytes!("../../../examples/retry.image");
+
+/// Words of a state.
+const STATE: usize = 89;
+/// Words of a run: three, and its state.
+const ROW: usize = 3 + STATE;
 
 /// The error and the parts of an answer, which is freed.
 fn parts(answer: *mut Answer) -> (String, [Vec<u8>; 3]) {
@@ -136,7 +143,14 @@ const ONE_RULE: [u16; 20] = [1, 1, 1, 1, 0, 0, 1, 0, 0, 1, 1, 1, 0, 1, 0x80, 4_0
 
 /// The same with one field altered.
 fn with(at: usize, field: u16) -> Vec<u16> {
-    let mut fields = ONE_RULE.to_vec();
+    altered(&ONE_RULE, at, field)
+}
+
+/// One buffer, and a rule of version 2 without tests that asks whether it is free.
+const ONE_QUERY: [u16; 14] = [2, 1, 0, 1, 0, 0, 0, 0, 0, 0, 0, 1, 0, 1];
+
+fn altered(fields: &[u16], at: usize, field: u16) -> Vec<u16> {
+    let mut fields = fields.to_vec();
     fields[at] = field;
     fields
 }
@@ -157,7 +171,7 @@ fn fields_break_the_rules_of_images() {
     for (broken, found, flaw) in [
         (ONE_RULE[..19].to_vec(), "the fields end before a term", Flaw::Missing),
         ([&ONE_RULE[..], &[0, 0]].concat(), "2 fields follow the last one", Flaw::Follows),
-        (with(0, 2), "the version is 2", Flaw::Version),
+        (with(0, 4), "the version is 4", Flaw::Version),
         (with(7, 2), "type 2 is not declared", Flaw::UnknownType),
         (with(17, 3), "an action's kind is 3", Flaw::ActionKind),
     ] {
@@ -176,6 +190,28 @@ fn fields_break_the_rules_of_images() {
     }
 }
 
+/// Version 2 has queries; an image is packed in the version that its fields say.
+#[test]
+fn fields_of_version_2() {
+    let asks = vec![2, 0x10, 0, 0x20, 0, 0, 0, 0, 0, 0, 0, 0x21];
+    assert_eq!(fields(&ONE_QUERY), (String::new(), asks));
+    assert_eq!(fields(&[2, 1, 0, 0, 0, 0, 0]), (String::new(), vec![2, 0x10, 0, 0, 0, 0, 0, 0]));
+    let wide = "a query's kind is 4, which is too large for its field of 2 bits";
+    assert_eq!(fields(&altered(&ONE_QUERY, 13, 4)).0, wide);
+    assert_eq!(fields(&ONE_QUERY[..11]).0, Flaw::Missing.told("the fields end before a number of queries"));
+    for (broken, place, flaw) in [
+        ([&ONE_QUERY[..11], &[2, 0, 1, 0, 1]].concat(), "refused by 3 at bit 87 ", Flaw::QueryCount),
+        (altered(&ONE_QUERY, 12, 1), "refused by 13 at bit 91 ", Flaw::UnknownBuffer),
+        (altered(&ONE_QUERY, 13, 3), "refused by 3 at bit 94 ", Flaw::QueryKind),
+    ] {
+        let (error, image) = fields(&broken);
+        assert!(error.starts_with(place) && error.ends_with(&format!(" [{}]", flaw.rule())), "{error}");
+        assert!(image.is_empty());
+    }
+    let untested = "refused by 3 at bit 75 (byte 9, bit 3 of it): the number of tests of rule 0 is 0 ";
+    assert!(fields(&[1, 1, 0, 1, 0, 0, 0, 0, 0, 0, 0]).0.starts_with(untested));
+}
+
 /// A text is told the same rules.
 #[test]
 fn texts_break_the_rules_of_images() {
@@ -188,25 +224,43 @@ fn texts_break_the_rules_of_images() {
 fn runs_are_those_of_the_library() {
     let (error, rows, events) = run(IMAGE, &[0, 0], &[], 1_000);
     let (rows, events) = (words(&rows), words(&events));
-    assert_eq!((error.as_str(), rows.len(), events.len()), ("", 2 * 84, 2 * 7 * 3));
-    assert_eq!((&rows[..4], &rows[84..88]), (&[9, 7, 7, 550][..], &[9, 7, 7, 550][..]));
+    assert_eq!((error.as_str(), rows.len(), events.len()), ("", 2 * ROW, 2 * 7 * 3));
+    assert_eq!((&rows[..4], &rows[ROW..ROW + 4]), (&[9, 7, 7, 550][..], &[9, 7, 7, 550][..]));
     assert_eq!(events[..6], [50, 0, 0, 150, 1, 100]);
-    let again = words(&run(IMAGE, &[0], &rows[3..84], 1_000).1);
-    assert_eq!((again[..3].to_vec(), &again[3..]), (vec![9, 0, 0], &rows[3..84]));
+    let again = words(&run(IMAGE, &[0], &rows[3..ROW], 1_000).1);
+    assert_eq!((again[..3].to_vec(), &again[3..]), (vec![9, 0, 0], &rows[3..ROW]));
 }
 
 #[test]
 fn runs_that_cannot_be_made_are_told() {
-    let version = "image 0: refused by 3 at bit 0 (byte 0, bit 0 of it): the version is 110 [the version must be 1]";
+    let version =
+        "image 0: refused by 3 at bit 0 (byte 0, bit 0 of it): the version is 110 [the version must be 1 or 2]";
     assert_eq!(run(b"no image", &[0], &[], 1).0, version);
     let cut = "image 0: refused by 2 at bit 558 (byte 69, bit 6 of it): ";
     assert!(run(&IMAGE[..70], &[0], &[], 1).0.starts_with(cut));
     assert!(run(IMAGE, &[1], &[], 1).0.contains("not there"));
-    assert!(run(IMAGE, &[0], &[0; 80], 1).0.contains("80 words"));
-    assert!(run(IMAGE, &[0], &[65_536; 81], 1).0.contains("65,535"));
-    let mut broken = [0; 81];
+    assert!(run(IMAGE, &[0], &[0; STATE - 1], 1).0.contains("88 words"));
+    assert!(run(IMAGE, &[0], &[65_536; STATE], 1).0.contains("65,535"));
+    let mut broken = [0; STATE];
     broken[1] = 9;
     assert_eq!(words(&run(IMAGE, &[0], &broken, 1).1)[..2], [6, 0]);
+}
+
+/// The flag stands after the delay of its buffer: it is told, handed in again, and refused where it can be none.
+#[test]
+fn error_flags_go_in_and_out() {
+    const FLAG: usize = 1 + 11 + 10;
+    let after = |steps| words(&run(RETRY, &[0], &[], steps).1)[3..].to_vec();
+    let flags: Vec<(u32, u32)> = (0..=5).map(|steps| (after(steps)[FLAG - 1], after(steps)[FLAG])).collect();
+    assert_eq!(flags, [(0, 0), (200, 1), (0, 1), (100, 0), (0, 0), (0, 0)]);
+    let again = words(&run(RETRY, &[0], &after(2), 1_000).1);
+    assert_eq!((&again[..4], &again[4..]), (&[9, 3, 3, 450][..], &after(5)[1..]));
+    let mut other = after(2);
+    other[FLAG] = 2;
+    assert_eq!(run(RETRY, &[0], &other, 1).0, "a word of state 0 is over 65,535, or a flag over 1");
+    let mut beside = after(3);
+    beside[FLAG] = 1;
+    assert_eq!(words(&run(RETRY, &[0], &beside, 1).1)[..2], [6, 0]);
 }
 
 /// Each run has its store, or none, to itself; the goal that the counting model clears is count 3 3.
@@ -221,9 +275,9 @@ fn runs_learn_what_they_clear_where_a_store_is_lent() {
         let (rows, events, learned) = learn(&[0; 4], &given, keep).expect("runs");
         assert_eq!(
             (rows.len(), events.len(), learned),
-            (4 * 84, if keep.is_empty() { 0 } else { 4 * 7 * 3 }, left.clone())
+            (4 * ROW, if keep.is_empty() { 0 } else { 4 * 7 * 3 }, left.clone())
         );
-        assert!(rows.chunks_exact(84).all(|row| row[..2] == [9, 7] && row[3] == 550));
+        assert!(rows.chunks_exact(ROW).all(|row| row[..2] == [9, 7] && row[3] == 550));
     }
     let full = [&[256][..], &[1, 7, 8, 0, 0, 0, 0, 0, 0].repeat(256)].concat();
     let (rows, _, learned) = learn(&[0], &full, &[]).expect("a run");
@@ -244,10 +298,10 @@ fn stores_that_cannot_be_lent_are_told() {
 #[test]
 fn a_stopped_call_begins_no_further_run() {
     assert_eq!(run_unless(&AtomicU8::new(1), IMAGE, &[0; 9], &[], 5), Default::default());
-    assert_eq!(words(&run_unless(&AtomicU8::new(0), IMAGE, &[0; 9], &[], 5).1).len(), 9 * 84);
+    assert_eq!(words(&run_unless(&AtomicU8::new(0), IMAGE, &[0; 9], &[], 5).1).len(), 9 * ROW);
 }
 
 #[test]
 fn the_interface_has_its_number() {
-    assert_eq!(jirvuntsag_packer_interface(), 2);
+    assert_eq!(jirvuntsag_packer_interface(), 3);
 }
