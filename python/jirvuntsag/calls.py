@@ -1,7 +1,7 @@
 """The nine calls of the library, on words.
 
 What is handed in is checked and copied, and what is given back is new: no call alters its arguments, and the library never
-sees memory that Python could change or free meanwhile. An image is bytes, a state 81 words of 32 bits, a table nine words of
+sees memory that Python could change or free meanwhile. An image is bytes, a state 89 words of 32 bits, a table nine words of
 16 bits for each rule, a store 2,305 words of 16 bits. See include/jirvuntsag.h for what the words are.
 
 Every answer has a number and a `position`: for a number that is about a field of the image (2, 3, 11, 12, 13) the first bit of
@@ -33,7 +33,7 @@ from .libraries import NoLibrary, load_library
 from .version import VERSION as MODULE_VERSION
 from .wording import shown
 
-STATE_WORDS = 81
+STATE_WORDS = 89
 EVENT_WORDS = 3
 MOST_STEPS = 0xFFFF
 
@@ -144,7 +144,7 @@ class RanFreshLent(NamedTuple):
 
 
 class Refreshed(NamedTuple):
-    """What `refresh_table` gives back; `count` is how many rules test a marked buffer."""
+    """What `refresh_table` gives back; `count` is how many rules test or query a marked buffer."""
 
     number: int
     count: int
@@ -265,7 +265,7 @@ def trace_steps(image, state, table, steps):
 
 
 def refresh_table(image, state, mark, table):
-    """Makes the entries of the rules that test a marked buffer afresh: the number, how many they are, and the table."""
+    """Makes the entries of the rules that test or query a marked buffer afresh: the number, how many, and the table."""
     image, state, table = _image_of(image), _state_of(state), _copy_of("H", table, "table")
     mark = small_number(mark, "a mark")
     answer = _library().jirvuntsag_refresh(image, len(image), _lent(state), mark, _lent(table), len(table))
@@ -278,7 +278,7 @@ def run_fresh(image, state, steps):
 
     The number, the steps made and the state are those of `run_steps` with the fresh table of that state; 5 and 7 never come.
 
-    >>> run_fresh(b"", [0] * 81, 1).number
+    >>> run_fresh(b"", [0] * 89, 1).number
     2
     """
     image, state, steps = _image_of(image), _state_of(state), small_number(steps, "the steps asked")
@@ -301,7 +301,7 @@ def run_lent(image, state, table, steps, store=None, *, events=True):
 
     Without a store nothing is lent, and nothing is learned. Without `events` none are told.
 
-    >>> run_lent(b"", [0] * 81, [], 1, [0] * 2305).number
+    >>> run_lent(b"", [0] * 89, [], 1, [0] * 2305).number
     2
     """
     image, state, table = _image_of(image), _state_of(state), small_words(table, "table")

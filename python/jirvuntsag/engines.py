@@ -14,7 +14,7 @@ ENTRY_WORDS = 9
 
 
 class Keeping:
-    """Keeps a table beside the state: after a step the rules are matched again that test a buffer which the step marked."""
+    """Keeps a table beside the state: after a step the rules are matched again that test or query a buffer that it marked."""
 
     @staticmethod
     def run(image, kept, steps):
@@ -82,7 +82,7 @@ class Fresh:
 def fresh_table(model, words):
     """The words of the fresh table of a state. A state that is not well formed is refused."""
     zeros = [0] * (ENTRY_WORDS * len(model.shape.rules))
-    # every rule tests a buffer, so a refresh with all buffers marked makes every entry fresh
+    # every rule tests or queries a buffer, so a refresh with all buffers marked makes every entry fresh
     return _refreshed(model, words, 2**model.shape.buffers - 1, zeros)
 
 

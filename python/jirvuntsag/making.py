@@ -3,7 +3,7 @@ from .calls import small_number
 from .packer import NotPacked, pack_text
 from .rules import Fact, Rule, decimal
 from .shape import Chunk, FactShape
-from .states import Buffer, buffer_of, chunk_words
+from .states import buffer_of, chunk_words
 from .symbols import Symbol
 from .wording import shown
 
@@ -49,10 +49,17 @@ def _opening(opening, chunks, vocabulary):
     opening = list(opening)
     for name, members in _named(chunks, "opening chunks").items():
         buffer = buffer_of(name, members)
-        if buffer.delay:
-            raise ValueError(f"buffer '{shown(name)}' opens with a chunk that is visible: it has no delay")
+        _check_opening(name, buffer)
         opening[vocabulary.buffers.number(name)] = _chunk(buffer, vocabulary)
     return tuple(opening)
+
+
+def _check_opening(name, buffer):
+    """A buffer opens with what an image holds: a chunk alone."""
+    if buffer.delay:
+        raise ValueError(f"buffer '{shown(name)}' opens with a chunk that is visible: it has no delay")
+    if buffer.error:
+        raise ValueError(f"buffer '{shown(name)}' opens before anything is asked: it is not in error")
 
 
 def _rules(rules, utilities, vocabulary):
@@ -125,10 +132,11 @@ def _fact_line(number, fact):
 
 
 def _buffer_line(name, members):
-    buffer = None if members is None else buffer_of(name, members)
-    if buffer is not None and buffer.delay:
-        raise ValueError(f"buffer '{shown(name)}' opens with a chunk that is visible: it has no delay")
-    return " ".join(["buffer", _word(name), *(_chunk_words(buffer) if isinstance(buffer, Buffer) else [])])
+    if members is None:
+        return f"buffer {_word(name)}"
+    buffer = buffer_of(name, members)
+    _check_opening(name, buffer)
+    return " ".join(["buffer", _word(name), *_chunk_words(buffer)])
 
 
 def _rule_lines(rule):

@@ -24,9 +24,9 @@ class Model:
     >>> model = Model.load("examples/counting.image")
     >>> model
     <Model of 71 bytes: 2 buffers, 2 types besides chunk, 2 facts, 3 rules>
-    >>> Model(bytes([2]))
+    >>> Model(bytes([3]))
     Traceback (most recent call last):
-    jirvuntsag.refusals.Refused: refused by 3 at bit 0 (byte 0, bit 0 of it): the version is 2 [the version must be 1]
+    jirvuntsag.refusals.Refused: refused by 3 at bit 0 (byte 0, bit 0 of it): the version is 3 [the version must be 1 or 2]
     """
 
     def __init__(self, image, names=None):
@@ -136,7 +136,7 @@ class Model:
         return Run(self, self._opened.state, table, lent_words(store, self))
 
     def at(self, state, *, fresh=False, store=EMPTY):
-        """A run from any well-formed state: plain data as `Run.state` gives it, or 81 words as `Run.words` does.
+        """A run from any well-formed state: plain data as `Run.state` gives it, or 89 words as `Run.words` does.
 
         With `fresh` it keeps no table, and `store` is what it is lent, as with `open`: `store=run.store` goes on with what a
         run has learned.
@@ -195,7 +195,7 @@ class Model:
         return self.shape.failure
 
     def rule(self, rule):
-        """A rule with its tests and actions, by name or number.
+        """A rule with its tests, queries among them, and actions, by name or number.
 
         >>> print(Model.load("examples/counting.model").rule("stop"))
         rule stop utility 1
@@ -243,5 +243,5 @@ def _counted(count, what, more):
 
 
 def _is_text(content):
-    """Whether this is a text: an image begins with its version, the byte 1, and a text has no such bytes at all."""
+    """Whether this is a text: an image begins with its version, the byte 1 or 2, and a text has no such bytes at all."""
     return bool(content) and not any(byte < 32 and byte not in b"\t\n\v\f\r" for byte in content[:1024])

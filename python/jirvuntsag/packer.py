@@ -11,7 +11,7 @@ from .libraries import NoLibrary, load_library
 from .wording import shown_lines
 
 VARIABLE = "JIRVUNTSAG_PACKER"
-INTERFACE = 2
+INTERFACE = 3
 LARGEST_TEXT = 16 * 1024 * 1024
 FLAGS = 257
 
@@ -50,7 +50,7 @@ class NotPacked(ValueError):
 class Runs(NamedTuple):
     """What `run_all` is to run.
 
-    `images`: bytes; `jobs`: for each run the number of its image; `states`: 81 words for each run, or none, if each begins
+    `images`: bytes; `jobs`: for each run the number of its image; `states`: 89 words for each run, or none, if each begins
     with its image's opening; `keep`: 257 flags for each image that say which events are kept, one for each rule and the last
     for waits, or none; `steps`: the most steps of a run; `stores`: for each run the count of what its store has learned before
     and nine words for each fact, or 65,535 alone if it is lent none, or none at all, if no run is lent one.
@@ -118,7 +118,7 @@ def pack_fields(fields):
 
 
 def run_all(runs, stop=None):
-    """Makes runs: 84 words for each, its number, the steps made, the events kept and the state; three words for each event;
+    """Makes runs: 92 words for each, its number, the steps made, the events kept and the state; three words for each event;
     and for each what its store has then, in the words of `Runs.stores`.
 
     Where another thread makes the value of `stop`, a byte of ctypes, 1, no further run is begun, and there are fewer words.
@@ -143,8 +143,8 @@ def words_of_refusal(image, head):
 
     `head` is what goes before: the number and the place. None if the packer tells others, or takes the image.
 
-    >>> words_of_refusal(bytes([2]), "refused by 3 at bit 0 (byte 0, bit 0 of it)")
-    'the version is 2 [the version must be 1]'
+    >>> words_of_refusal(bytes([3]), "refused by 3 at bit 0 (byte 0, bit 0 of it)")
+    'the version is 3 [the version must be 1 or 2]'
     """
     none = array("I")
     try:

@@ -6,7 +6,7 @@ MEANINGS = (
     "all that was asked is done",
     "the image is over 65,536 bytes",
     "a field of the image is not wholly there",
-    "a version, count, type or action kind breaks its rule",
+    "a version, count, type or kind breaks its rule",
     "a pad bit of the image is 1, or a byte follows",
     "the table's length is not nine words for each rule",
     "the state is not well formed",
@@ -38,7 +38,7 @@ class Refused(Exception):
     `made` and `events` are of the steps that a run made before it was refused (by 7, 8 or 14): these remain made.
 
     >>> print(Refused(3, position=53))
-    refused by 3 at bit 53 (byte 6, bit 5 of it): a version, count, type or action kind breaks its rule
+    refused by 3 at bit 53 (byte 6, bit 5 of it): a version, count, type or kind breaks its rule
     >>> print(Refused(4))
     refused by 4: a pad bit of the image is 1, or a byte follows
     """

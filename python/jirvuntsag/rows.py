@@ -1,11 +1,12 @@
 """What a sweep gives back for each item: how its run ended, and what its buffers hold then."""
-from .calls import EVENT_WORDS
+from .calls import EVENT_WORDS, STATE_WORDS
 from .events import events_from
 from .refusals import HALTED, MEANINGS
-from .states import Buffers, state_from
+from .states import WORDS_BEFORE, Buffers, state_from, with_flags
 from .stores import long_words, short_stores, store_from
 
-ROW_WORDS = 84
+COUNTS = 3  # words of a row before its state: the number, the steps made, the events kept
+ROW_WORDS = COUNTS + STATE_WORDS
 
 
 class Row:
@@ -14,7 +15,7 @@ class Row:
     >>> import jirvuntsag as jv
     >>> (row,) = jv.sweep([jv.Model.load("examples/counting.model")], events=["stop"])
     >>> row
-    <Row end 9 7 at 550 ms: {goal: chunk, retrieval: chunk}>
+    <Row end 9 7 at 550 ms: {goal: chunk, retrieval: chunk error}>
     >>> row.halted, row.clock, [str(event) for event in row.events]
     (True, 550, ['400 fire stop'])
     """
@@ -22,6 +23,8 @@ class Row:
     __slots__ = ("item", "model", "_words", "_at", "_events", "_learned")
 
     def __init__(self, item, model, words, at, events, learned=None):
+        if len(words) == COUNTS + WORDS_BEFORE:
+            words = words[:COUNTS] + with_flags(words[COUNTS:])
         # the words are those of a whole batch: nothing is taken out until it is asked for
         self.item, self.model, self._words, self._at, self._events = item, model, words, at, events
         self._learned = learned
@@ -39,11 +42,11 @@ class Row:
     @property
     def clock(self):
         """The clock at the end, in ms."""
-        return self._words[self._at + 3]
+        return self._words[self._at + COUNTS]
 
     @property
     def _state(self):
-        return self._words[self._at + 3 : self._at + ROW_WORDS]
+        return self._words[self._at + COUNTS : self._at + ROW_WORDS]
 
     @property
     def buffers(self):

@@ -4,6 +4,7 @@ from typing import Dict, NamedTuple, Tuple
 from .states import Name
 from .symbols import MOST_SYMBOLS
 
+STATES = ("busy", "free", "error")  # what a query asks for, by its kind
 
 class Fact(NamedTuple):
     """A fact: its type, a value for each slot, its activation and its latency in ms.
@@ -25,9 +26,12 @@ class Fact(NamedTuple):
 class Rule(NamedTuple):
     """A rule: its name, its tests and its actions as a model's text has them, its utility in thousandths.
 
-    >>> print(Rule("stop", ["=goal> count current ?n target ?n"], ["-goal>"], 1500))
+    Queries stand among the tests.
+
+    >>> print(Rule("stop", ["=goal> count current ?n target ?n", "?retrieval> state free"], ["-goal>"], 1500))
     rule stop utility 1.5
       =goal> count current ?n target ?n
+      ?retrieval> state free
       ==>
       -goal>
     """
@@ -80,4 +84,14 @@ def rule_from(number, shape, vocabulary):
         return f"+{buffer}> {types.name(deed.type)}{terms(deed.type, deed.terms)}" if deed.kind == 1 else f"-{buffer}>"
 
     tests = [f"={buffers.name(test.buffer)}> {types.name(test.type)}{terms(test.type, test.terms)}" for test in shape.tests]
+    tests += [query_text(buffers.name(query.buffer), STATES[query.kind]) for query in shape.queries]
     return Rule(vocabulary.rules.name(number), tuple(tests), tuple(map(action, shape.actions)), shape.utility)
+
+
+def query_text(buffer, state):
+    """A query as a text has it.
+
+    >>> query_text("retrieval", "error")
+    '?retrieval> state error'
+    """
+    return f"?{buffer}> state {state}"

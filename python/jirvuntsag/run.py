@@ -11,7 +11,7 @@ from .events import Ended, events_from
 from .matches import Match, first_miss
 from .pieces import trace_in_pieces
 from .refusals import HALTED, Refused
-from .states import Buffer, Buffers, buffer_words, clock_of, place, state_from, state_words
+from .states import Buffer, Buffers, buffer_words, clock_of, place, state_from, state_words, with_flags
 from .stores import lent_words, store_from
 
 
@@ -59,7 +59,7 @@ class Run:
         self._engine = Fresh if table is None else Keeping
         # what is kept is replaced, all at once, and never written to: state and table always fit, and copies may share them
         tables = () if table is None else (array("H", table),)
-        self._kept = (array("I", state), *tables, None if store is None else array("H", store))
+        self._kept = (with_flags(array("I", state)), *tables, None if store is None else array("H", store))
         self._lock = threading.RLock()
 
     def __reduce__(self):
@@ -100,7 +100,7 @@ class Run:
 
     @property
     def words(self):
-        """The state as 81 words: the clock, then type, eight slots and delay of each of eight buffers."""
+        """The state as 89 words: the clock, then type, eight slots, delay and error flag of each of eight buffers."""
         return tuple(self._kept[0])
 
     @property
@@ -120,8 +120,8 @@ class Run:
         >>> from jirvuntsag import Model
         >>> run = Model.load("examples/counting.image").open()
         >>> kept = run.state
-        >>> kept
-        {'clock': 0, 'buffers': {0: {'type': 2, 'slots': {0: 1, 1: 3}, 'delay': 0}, 1: {'type': 0, 'slots': {}, 'delay': 0}}}
+        >>> kept["clock"], kept["buffers"][0]
+        (0, {'type': 2, 'slots': {0: 1, 1: 3}, 'delay': 0, 'error': False})
         >>> first = run.run()
         >>> run.state = kept
         >>> run.run() == first
@@ -171,23 +171,26 @@ class Run:
         return [tuple(table[start : start + ENTRY_WORDS]) for start in range(0, len(table), ENTRY_WORDS)]
 
     @_alone
-    def put(self, buffer, type, slots=None, delay=0):
+    def put(self, buffer, type, slots=None, delay=0, error=False):
         """Puts a chunk into a buffer from outside. Slots that are not named hold nil.
+
+        With `error` an empty buffer is one whose request has failed, as a rule may ask by `state error`.
 
         >>> from jirvuntsag import Model
         >>> run = Model.load("examples/counting.image").open()
         >>> run.put(0, 2, {0: 2, 1: 3})
-        >>> print(run.buffers[0])
-        2 0=#2 1=#3
+        >>> run.put(1, 0, delay=80, error=True)
+        >>> print(run.buffers[0], run.buffers[1], sep="; ")
+        2 0=#2 1=#3; 0 error in 80 ms
         """
         number = self._model.vocabulary.buffers.number(buffer)
-        chunk = Buffer(type, {} if slots is None else slots, delay)
+        chunk = Buffer(type, {} if slots is None else slots, delay, error)
         words = array("I", self.words)
         words[place(number)] = buffer_words(chunk, self._model.vocabulary)
         self._move_to(words)
 
     def clear(self, buffer):
-        """Empties a buffer from outside: it holds nil, and that is visible."""
+        """Empties a buffer from outside: it holds nil, which is visible, and is not in error."""
         self.put(buffer, 0)
 
     def matching(self):
@@ -203,7 +206,7 @@ class Run:
         return [self._match(rule, entry[1:]) for rule, entry in entries if entry[0] == 1]
 
     def why_not(self, rule):
-        """The first test of a rule that does not hold now; None if the rule matches.
+        """The first test of a rule that does not hold now, or else the first query; None if the rule matches.
 
         >>> from jirvuntsag import Model
         >>> run = Model.load("examples/counting.image").open()

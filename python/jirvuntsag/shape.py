@@ -1,6 +1,7 @@
 """An accepted image as plain data, by numbers: its types, what its buffers open with, its facts and its rules."""
 from typing import NamedTuple, Tuple
 
+WITH_QUERIES = 2  # the version of an image whose rules have queries
 
 class Test(NamedTuple):
     """A test: its buffer, its type, and for each named slot a term, below 4,096 a symbol and from there on a variable."""
@@ -8,6 +9,13 @@ class Test(NamedTuple):
     buffer: int
     type: int
     terms: Tuple[Tuple[int, int], ...]
+
+
+class Query(NamedTuple):
+    """A query: its buffer, and its kind (0 asks whether it is busy, 1 free, 2 whether its request has failed)."""
+
+    buffer: int
+    kind: int
 
 
 class Action(NamedTuple):
@@ -20,11 +28,12 @@ class Action(NamedTuple):
 
 
 class RuleShape(NamedTuple):
-    """A rule's utility, in thousandths, how many variables it has, its tests and its actions."""
+    """A rule's utility, in thousandths, how many variables it has, its tests, its queries and its actions."""
 
     utility: int
     variables: int
     tests: Tuple[Test, ...]
+    queries: Tuple[Query, ...]
     actions: Tuple[Action, ...]
 
 
@@ -44,13 +53,14 @@ class FactShape(NamedTuple):
 
 
 class Shape(NamedTuple):
-    """All of an image; `slots` has a count for each type from 0 on."""
+    """All of an image; `slots` has a count for each type from 0 on. Rules of version 1 have no queries."""
 
     failure: int
     slots: Tuple[int, ...]
     opening: Tuple[Chunk, ...]
     facts: Tuple[FactShape, ...]
     rules: Tuple[RuleShape, ...]
+    version: int = 1
 
     @property
     def buffers(self):
@@ -82,12 +92,14 @@ class _Fields:
         return Chunk(isa, tuple(self.take(12) for _ in range(slots[isa])))
 
 
-def _rule(fields):
+def _rule(fields, version):
     utility = fields.take(16)
     count, actions, variables = fields.take(4), fields.take(4), fields.take(4)
     tests = tuple(Test(fields.take(3), fields.take(6), fields.terms()) for _ in range(count))
+    asked = fields.take(4) if version == WITH_QUERIES else 0
+    queries = tuple(Query(fields.take(3), fields.take(2)) for _ in range(asked))
     deeds = tuple(_action(fields) for _ in range(actions))
-    return RuleShape(utility - 65_536 if utility > 32_767 else utility, variables, tests, deeds)
+    return RuleShape(utility - 65_536 if utility > 32_767 else utility, variables, tests, queries, deeds)
 
 
 def _action(fields):
@@ -101,14 +113,14 @@ def shape_of(image):
     """The shape of an image that the library has accepted; of any other it says nothing.
 
     >>> shape_of(bytes.fromhex("0110000000000000"))
-    Shape(failure=0, slots=(0,), opening=(Chunk(type=0, values=()),), facts=(), rules=())
+    Shape(failure=0, slots=(0,), opening=(Chunk(type=0, values=()),), facts=(), rules=(), version=1)
     """
     fields = _Fields(image)
-    _, buffers, types, rules, facts, failure = (fields.take(width) for width in (8, 4, 6, 9, 10, 16))
+    version, buffers, types, rules, facts, failure = (fields.take(width) for width in (8, 4, 6, 9, 10, 16))
     slots = (0, *(fields.take(4) for _ in range(types)))
     opening = tuple(fields.chunk(slots) for _ in range(buffers))
     known = tuple(FactShape(fields.chunk(slots), fields.take(16), fields.take(16)) for _ in range(facts))
-    return Shape(failure, slots, opening, known, tuple(_rule(fields) for _ in range(rules)))
+    return Shape(failure, slots, opening, known, tuple(_rule(fields, version) for _ in range(rules)), version)
 
 
 def fields_of(shape):
@@ -117,7 +129,8 @@ def fields_of(shape):
     >>> fields_of(shape_of(bytes.fromhex("0110000000000000")))
     [1, 1, 0, 0, 0, 0, 0]
     """
-    fields = [1, shape.buffers, len(shape.slots) - 1, len(shape.rules), len(shape.facts), shape.failure, *shape.slots[1:]]
+    counts = [shape.buffers, len(shape.slots) - 1, len(shape.rules), len(shape.facts)]
+    fields = [shape.version, *counts, shape.failure, *shape.slots[1:]]
     for chunk in shape.opening:
         fields += [chunk.type, *chunk.values]
     for fact in shape.facts:
@@ -126,6 +139,8 @@ def fields_of(shape):
         fields += [rule.utility % 65_536, len(rule.tests), len(rule.actions), rule.variables]
         for test in rule.tests:
             fields += [test.buffer, test.type, *_terms_fields(test.terms)]
+        if shape.version == WITH_QUERIES:
+            fields += [len(rule.queries), *(field for query in rule.queries for field in query)]
         for action in rule.actions:
             fields += _action_fields(action)
     return fields

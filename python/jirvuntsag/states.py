@@ -1,7 +1,7 @@
-"""States as plain data, from and to their 81 words.
+"""States as plain data, from and to their 89 words.
 
 As plain data, which JSON can keep, a state is
-    {"clock": 0, "buffers": {"goal": {"type": "count-from", "slots": {"start": 2}, "delay": 0}, ..}}
+    {"clock": 0, "buffers": {"goal": {"type": "count-from", "slots": {"start": 2}, "delay": 0, "error": False}, ..}}
 """
 from array import array
 from collections.abc import Mapping
@@ -10,25 +10,30 @@ from typing import Dict, NamedTuple, Union
 from .calls import STATE_WORDS, small_number
 from .wording import shown
 
-BUFFER_WORDS = 10
+BUFFER_WORDS = 11
 MOST_SLOTS = 8
 LARGEST_CLOCK = 0xFFFF_FFFF
+WORDS_BEFORE = 81  # of a state, before it had error flags
 
 Name = Union[str, int]
 
 
 class Buffer(NamedTuple):
-    """What a buffer holds: a type, a value for each slot of that type, and a delay in ms.
+    """What a buffer holds: a type, a value for each slot of that type, a delay in ms, and whether its last request has failed.
+
+    `error` is set by a request that finds no fact, and cleared by every other action on the buffer; it stands beside an empty
+    chunk alone. Rules ask for it by `?buffer> state error`, which holds once the failure is visible.
 
     >>> print(Buffer("count-from", {"start": 2, "end": 4}))
     count-from start=2 end=4
-    >>> print(Buffer("chunk", {}, 200))
-    chunk in 200 ms
+    >>> print(Buffer("chunk", {}, 200), Buffer("chunk", {}, 200, True), sep="; ")
+    chunk in 200 ms; chunk error in 200 ms
     """
 
     type: Name
     slots: Dict[Name, Name]
     delay: int = 0
+    error: bool = False
 
     @property
     def visible(self):
@@ -37,7 +42,7 @@ class Buffer(NamedTuple):
 
     def __str__(self):
         slots = "".join(f" {slot}={value}" for slot, value in self.slots.items())
-        return f"{self.type}{slots}" + (f" in {self.delay} ms" if self.delay else "")
+        return f"{self.type}{slots}{' error' if self.error else ''}" + (f" in {self.delay} ms" if self.delay else "")
 
 
 def place(number):
@@ -45,11 +50,21 @@ def place(number):
     return slice(1 + BUFFER_WORDS * number, 1 + BUFFER_WORDS * (number + 1))
 
 
+def with_flags(words):
+    """The words of a state: one that was kept before version 0.7.0 has no flags, and gets flags that are clear."""
+    if len(words) != WORDS_BEFORE:
+        return words
+    flagged = array("I", words[:1])
+    for start in range(1, WORDS_BEFORE, BUFFER_WORDS - 1):
+        flagged.extend([*words[start : start + BUFFER_WORDS - 1], False])
+    return flagged
+
+
 def buffer_from(words, number, vocabulary):
     """Buffer `number` of a well-formed state."""
-    isa, *slots, delay = words[place(number)]
+    isa, *slots, delay, flag = words[place(number)]
     named = {slot: vocabulary.symbols.name(value) for slot, value in zip(vocabulary.slots[isa], slots)}
-    return Buffer(vocabulary.types.name(isa), named, delay)
+    return Buffer(vocabulary.types.name(isa), named, delay, bool(flag))
 
 
 class Buffers(Mapping):
@@ -93,8 +108,16 @@ def chunk_words(type_name, slots, vocabulary):
 
 
 def buffer_words(buffer, vocabulary):
-    """The ten words of a buffer."""
-    return array("I", [*chunk_words(buffer.type, buffer.slots, vocabulary), small_number(buffer.delay, "a delay")])
+    """The eleven words of a buffer."""
+    chunk, delay = chunk_words(buffer.type, buffer.slots, vocabulary), small_number(buffer.delay, "a delay")
+    return array("I", [*chunk, delay, _flag_of(buffer.error)])
+
+
+def _flag_of(error):
+    """The flag, if it is one."""
+    if not isinstance(error, bool):
+        raise TypeError(f"an error flag is True or False, not {type(error).__name__}")
+    return error
 
 
 def state_from(words, vocabulary):
@@ -105,13 +128,13 @@ def state_from(words, vocabulary):
 
 def _plain(words, number, vocabulary):
     """A buffer as plain data: a symbol without a name is written so that it is the same symbol when it is read again."""
-    isa, *slots, delay = words[place(number)]
+    isa, *slots, delay, flag = words[place(number)]
     named = {slot: vocabulary.symbols.plain(value) for slot, value in zip(vocabulary.slots[isa], slots)}
-    return {"type": vocabulary.types.name(isa), "slots": named, "delay": delay}
+    return {"type": vocabulary.types.name(isa), "slots": named, "delay": delay, "error": bool(flag)}
 
 
 def state_words(state, vocabulary):
-    """The 81 words of a state. A buffer that is not named holds nil."""
+    """The 89 words of a state. A buffer that is not named holds nil."""
     _check_members(state, "a state", {"clock", "buffers"}, {"clock", "buffers"})
     words = array("I", bytes(4 * STATE_WORDS))
     words[0] = clock_of(state["clock"])
@@ -128,8 +151,8 @@ def buffer_of(name, members):
         return Buffer(0, {})
     if isinstance(members, Buffer):
         return members
-    _check_members(members, f"buffer '{shown(name)}'", {"type"}, {"type", "slots", "delay"})
-    return Buffer(members["type"], members.get("slots", {}), members.get("delay", 0))
+    _check_members(members, f"buffer '{shown(name)}'", {"type"}, {"type", "slots", "delay", "error"})
+    return Buffer(members["type"], members.get("slots", {}), members.get("delay", 0), members.get("error", False))
 
 
 def clock_of(clock):

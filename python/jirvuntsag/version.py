@@ -1,3 +1,3 @@
 """The version of the module: the one place where it is said."""
 
-VERSION = "0.6.0"
+VERSION = "0.7.0"

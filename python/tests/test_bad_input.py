@@ -9,7 +9,7 @@ from . import COUNTING, COUNTING_NAMES
 
 STATE = [0] * calls.STATE_WORDS
 NUMBERS = [1.5, -1, 2, 2**16, 2**40, True, float("nan")]
-THINGS = [*NUMBERS, None, "", "goal", b"", b"goal", [], [1], {}, {1: 1}, object(), (), range(81)]
+THINGS = [*NUMBERS, None, "", "goal", b"", b"goal", [], [1], {}, {1: 1}, object(), (), range(89)]
 
 
 class BadImages(unittest.TestCase):
@@ -17,7 +17,7 @@ class BadImages(unittest.TestCase):
 
     def test_numbers_of_refused_images(self):
         empty = bytes.fromhex("0110000000000000")
-        cases = {3: b"\x02" + empty[1:], 2: empty[:-1], 4: empty + b"\0", 1: bytes(65_537)}
+        cases = {3: b"\x04" + empty[1:], 2: empty[:-1], 4: empty + b"\0", 1: bytes(65_537)}
         for number, image in cases.items():
             with self.subTest(number=number), self.assertRaises(Refused) as caught:
                 Model(image)
@@ -51,7 +51,7 @@ class BadWords(unittest.TestCase):
         self.assertEqual(calls.open_image(self.image, [0] * 26).number, 5)
 
     def test_states(self):
-        cases = [(STATE[1:], ValueError), ([2**32] + STATE[1:], ValueError), (None, TypeError), (["a"] * 81, TypeError)]
+        cases = [(STATE[1:], ValueError), ([2**32] + STATE[1:], ValueError), (None, TypeError), (["a"] * 89, TypeError)]
         for state, error in cases:
             with self.subTest(state=state), self.assertRaisesRegex(error, "state"):
                 calls.run_steps(self.image, state, [0] * 27, 1)

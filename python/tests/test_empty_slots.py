@@ -133,7 +133,7 @@ class KeptTables(unittest.TestCase):
     """A table from before the request may have nil for a variable: it is stale."""
 
     # the goal is (5, nil), and the entry is what a match gave before: 1, then 5 and nil
-    STATE = [0, 1, 5, *[0] * 78]
+    STATE = [0, 1, 5, *[0] * 86]
     STALE = [1, 5, *[0] * 7]
 
     def test_it_is_refused_by_7_when_it_is_chosen(self):

@@ -172,18 +172,19 @@ class Refusals(unittest.TestCase):
         self.assertEqual(calls.trace_fresh(image, state, steps), (number, 0, as_it_was, array("I"), position))
 
     def test_images(self):
-        for state in [0] * 81, list(range(81)), [2**32 - 1] * 81:
+        for state in [0] * 89, list(range(89)), [2**32 - 1] * 89:
             self.refused(1, bytes(65_537), state)
             self.refused(2, b"", state)
             self.refused(2, EMPTY[:-1], state, position=53)
-            self.refused(3, b"\x02" + EMPTY[1:], state)
+            self.refused(3, b"\x04" + EMPTY[1:], state)
             self.refused(3, EMPTY[:-1] + b"\x20", state, position=53)
             self.refused(4, EMPTY + b"\0", state)
             self.refused(4, EMPTY[:-1] + b"\x10", state)
 
     def test_states(self):
         start = list(COUNTING_MODEL.start)
-        for at, word in (1, 3), (2, 4_096), (9, 1), (10, 65_536), (21, 1), (30, 1), (80, 2**32 - 1):
+        wrong = [(1, 3), (2, 4_096), (9, 1), (10, 65_536), (11, 1), (22, 2), (23, 1), (32, 1), (33, 1), (88, 2**32 - 1)]
+        for at, word in wrong:
             with self.subTest(at=at, word=word):
                 for steps in 0, 5:
                     self.refused(6, IMAGE, [*start[:at], word, *start[at + 1 :]], steps)
@@ -193,7 +194,7 @@ class Refusals(unittest.TestCase):
         self.assertEqual(calls.trace_fresh(IMAGE, COUNTING_MODEL.start, 0), (0, 0, COUNTING_MODEL.start, array("I"), 0))
 
     def test_halted(self):
-        self.refused(9, EMPTY, [0] * 81)
+        self.refused(9, EMPTY, [0] * 89)
         ended = COUNTING_MODEL.open(fresh=True).run()
         self.assertEqual((ended.number, ended.made, ended.halted), (9, 7, True))
 
@@ -205,8 +206,8 @@ class Refusals(unittest.TestCase):
         self.assertEqual((ran.number, ran.made, ran.state[0], list(ran.events)), (8, 1, 2**32 - 51, [2**32 - 51, 0, 0]))
 
     def test_events_past_those_made_are_not_written(self):
-        for image, state, made in (b"", [0] * 81, 0), (IMAGE, [0, 9, *[0] * 79], 0), (IMAGE, COUNTING_MODEL.start, 7):
-            words, events = (ctypes.c_uint32 * 81)(*state), (ctypes.c_uint32 * 60)(*[77] * 60)
+        for image, state, made in (b"", [0] * 89, 0), (IMAGE, [0, 9, *[0] * 87], 0), (IMAGE, COUNTING_MODEL.start, 7):
+            words, events = (ctypes.c_uint32 * 89)(*state), (ctypes.c_uint32 * 60)(*[77] * 60)
             calls._library().jirvuntsag_trace_fresh(image, len(image), words, 20, events, 60)
             self.assertEqual(list(events)[3 * made :], [77] * (60 - 3 * made))
 
@@ -217,7 +218,7 @@ class Refusals(unittest.TestCase):
             damaged[chooser.randrange(len(IMAGE))] ^= 1 << chooser.randrange(8)
             state = array("I", COUNTING_MODEL.start)
             for _ in range(chooser.randrange(3)):
-                state[chooser.randrange(81)] = chooser.choice([0, 1, 2, 3, 2**32 - 1])
+                state[chooser.randrange(89)] = chooser.choice([0, 1, 2, 3, 2**32 - 1])
             numbers.add(calls.run_fresh(chooser.choice([IMAGE, damaged]), state, chooser.randrange(40)).number)
         self.assertEqual(numbers, {0, 2, 3, 4, 6, 8, 9, 11, 12, 13})
 
@@ -248,7 +249,7 @@ class NothingKept(unittest.TestCase):
             self.assertEqual(model.at(state, fresh=True).run(), (9, 7, unittest.mock.ANY))
             self.assertEqual(jv.sweep([run.copy()])[0].number, 9)
         state, store = run._kept
-        self.assertEqual((len(state), len(store)), (81, 2_305))
+        self.assertEqual((len(state), len(store)), (89, 2_305))
 
     def test_a_table_that_is_asked_for_is_made_then(self):
         run = COUNTING_MODEL.open(fresh=True)
@@ -300,7 +301,7 @@ class Choice(unittest.TestCase):
     def test_a_stale_table_from_before_is_left_behind(self):
         # the goal is (5, nil), and the entry is what a match gave before variables stopped taking nil
         image = pack([2], [(1, 5, 6)], rules=[Rule([(0, 1, {0: "v0", 1: "v1"})], [(0, "modify", {0: 7})])])
-        old = jv.Run(jv.Model(image), [0, 1, 5, *[0] * 78], [1, 5, *[0] * 7])
+        old = jv.Run(jv.Model(image), [0, 1, 5, *[0] * 86], [1, 5, *[0] * 7])
         self.assertEqual(outcome(old.run), (7, 0, []))
         self.assertEqual(old.copy(fresh=True).run(), (9, 0, []))
 

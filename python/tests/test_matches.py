@@ -49,4 +49,4 @@ class Misses(unittest.TestCase):
                 miss = first_miss(run.model, rule, run.words)
                 self.assertEqual(miss is None, entry[0] == 1)
                 seen.add(miss and miss.what)
-        self.assertEqual(seen, {None, "pending", "type", "empty", "slot"})
+        self.assertEqual(seen, {None, "pending", "type", "empty", "slot", "query"})

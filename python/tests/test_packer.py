@@ -6,6 +6,7 @@ import unittest
 from array import array
 
 from jirvuntsag import Model, NotPacked, Refused, calls, packer
+from jirvuntsag.rows import ROW_WORDS
 from jirvuntsag.shape import fields_of, shape_of
 from jirvuntsag.wording import shown_lines
 
@@ -105,7 +106,7 @@ class Fields(unittest.TestCase):
     def test_fields_that_make_no_image(self):
         good = fields_of(shape_of(COUNTING.read_bytes()))
         cases = [([], "end before"), (good[:-1], "end before"), ([*good, 0], "follow the last")]
-        cases += [([2, *good[1:]], "version is 2")]
+        cases += [([4, *good[1:]], "version is 4")]
         cases += [([1, 9, *good[2:]], "."), ([1, 1, 0, 0, 0, 0, 5], "type 5 is not declared")]
         cases += [([1, 1, 1, 0, 0, 0, 8, 1, *[4_096] * 8], "too large for its field"), ([1, 1, 1, 0, 0, 0, 300], "too large")]
         for fields, words in cases:
@@ -159,7 +160,7 @@ class Runs(unittest.TestCase):
         run.run()
         at = 0
         for row in range(5):
-            number, made, kept, *words = rows[84 * row : 84 * (row + 1)]
+            number, made, kept, *words = rows[ROW_WORDS * row : ROW_WORDS * (row + 1)]
             self.assertEqual((number, made, kept, tuple(words)), (9, 7 - row, 7 - row, run.words))
             self.assertEqual(list(events[at : at + 3 * kept]), told[3 * row :])
             at += 3 * kept
@@ -178,7 +179,7 @@ class Runs(unittest.TestCase):
         self.assertEqual(packer.run_all(packer.Runs([image], none, none, b"", 1)), [none, none, array("H")])
 
     def test_a_state_that_is_not_well_formed_is_told_by_its_number(self):
-        rows, *_ = packer.run_all(packer.Runs([COUNTING.read_bytes()], array("I", [0]), array("I", [0, 9] + [0] * 79), b"", 5))
+        rows, *_ = packer.run_all(packer.Runs([COUNTING.read_bytes()], array("I", [0]), array("I", [0, 9] + [0] * 87), b"", 5))
         self.assertEqual(rows[:2], array("I", [6, 0]))
 
 

@@ -25,7 +25,7 @@ VARIABLE = 4_096
 # 159, its rules at 221, 328 and 487, and after bit 562 the pad bits follow. Each line: what is put where (bit, width, value), and
 # the number and position that come of it.
 CASES = [
-    ("version", [(0, 8, 2)], 3, 0),
+    ("version", [(0, 8, 4)], 3, 0),
     ("no buffers", [(8, 4, 0)], 3, 8),
     ("nine buffers", [(8, 4, 9)], 3, 8),
     ("257 rules", [(18, 9, 257)], 3, 18),
@@ -108,13 +108,13 @@ class EveryCall(unittest.TestCase):
     """All calls tell the same number and position, and leave everything as it was."""
 
     # no call looks at these before it has looked at the image: they are no state, no mark and no table of any
-    STATE, MARK, TABLE = array("I", range(2**32 - 81, 2**32)), 65_535, array("H", range(7))
+    STATE, MARK, TABLE = array("I", range(2**32 - 89, 2**32)), 65_535, array("H", range(7))
 
     def hold(self, image, number, position):
         """Each call refuses an image by this number and position."""
         state, table, none = self.STATE, self.TABLE, array("I")
         self.assertEqual(calls.table_length(image), (number, 0, position))
-        self.assertEqual(calls.open_image(image, table), (number, array("I", [0] * 81), table, position))
+        self.assertEqual(calls.open_image(image, table), (number, array("I", [0] * 89), table, position))
         self.assertEqual(calls.run_steps(image, state, table, 9), (number, 0, state, table, position))
         self.assertEqual(calls.trace_steps(image, state, table, 9), (number, 0, state, table, none, position))
         self.assertEqual(calls.refresh_table(image, state, self.MARK, table), (number, 0, table, position))
@@ -218,7 +218,7 @@ class Errors(unittest.TestCase):
         refused = refusal(with_fields(IMAGE, (258, 8, 0b10100000)))
         self.assertEqual(refused.where, (32, 2))
         self.assertEqual(str(refused), f"refused by 11 at bit 258 (byte 32, bit 2 of it): {refused.words}")
-        self.assertEqual(refusal(b"\x02").where, (0, 0))
+        self.assertEqual(refusal(b"\x04").where, (0, 0))
 
     def test_the_packer_names_the_field_its_value_and_its_rule(self):
         words = refusal(with_fields(IMAGE, (258, 8, 0b10100000))).words
@@ -253,7 +253,7 @@ class Errors(unittest.TestCase):
 
     def test_each_number_has_words_of_its_own(self):
         self.assertEqual((len(jv.MEANINGS), len(set(jv.MEANINGS))), (16, 16))
-        meant = {3: "version, count, type or action kind", 11: "mask", 12: "variable", 13: "buffer"}
+        meant = {3: "version, count, type or kind", 11: "mask", 12: "variable", 13: "buffer"}
         for number, words in {**meant, 14: "more than 256 facts", 15: "a fact that the image could not hold"}.items():
             self.assertIn(words, jv.MEANINGS[number])
 

@@ -366,7 +366,7 @@ class Calls(unittest.TestCase):
             fresh = calls.run_fresh_lent(self.IMAGE, self.OPENED.state, steps, store)
             self.assertEqual(fresh, (15, 0, self.OPENED.state, none, as_it_was, 0))
         # 6 comes before it
-        wrong = [0, 9, *[0] * 79]
+        wrong = [0, 9, *[0] * 87]
         self.assertEqual(calls.run_fresh_lent(self.IMAGE, wrong, 9, [])[:2], (6, 0))
 
     def test_with_nothing_lent_they_are_the_others(self):

@@ -16,6 +16,7 @@ from array import array
 
 import jirvuntsag as jv
 from jirvuntsag import bench, packer
+from jirvuntsag.rows import ROW_WORDS
 from jirvuntsag.sweeping import LARGEST_BATCH
 
 from . import EXAMPLES, ROOT
@@ -164,7 +165,7 @@ class Failures(unittest.TestCase):
             time.sleep(0.5)
             flag.value = 1
             words, *_ = future.result(timeout=60)
-        self.assertTrue(0 < len(words) < 84 * 100_000)
+        self.assertTrue(0 < len(words) < ROW_WORDS * 100_000)
         self.assertEqual(words[:4], array("I", [0, 65_535, 0, 50 * 65_535]))
 
         def stop(done, total):

@@ -1,8 +1,9 @@
-"""Every case of vectors/05.txt, through Python."""
+"""Every case of vectors/06.txt, through Python."""
 import collections
 import unittest
 
 from jirvuntsag import Model, Refused, calls
+from jirvuntsag.states import BUFFER_WORDS
 
 from . import ROOT
 
@@ -13,7 +14,7 @@ OF_IMAGES = (1, 2, 3, 4, 11, 12, 13)
 
 def cases():
     """All cases: the line of the call, and that of its answer."""
-    lines = (ROOT / "vectors" / "05.txt").read_text(encoding="ascii").splitlines()
+    lines = (ROOT / "vectors" / "06.txt").read_text(encoding="ascii").splitlines()
     return list(zip(lines[::2], lines[1::2]))
 
 
@@ -28,7 +29,7 @@ def read_words(text):
 
 
 def read_state(text):
-    """`CLOCK/B0/../B7` as 81 words."""
+    """`CLOCK/B0/../B7` as 89 words."""
     return [int(word) for word in text.replace("/", ",").split(",")]
 
 
@@ -46,7 +47,7 @@ def show_words(words):
 
 def show_state(words):
     """A state as it is written in a case."""
-    buffers = [show_words(words[at : at + 10]) for at in range(1, 81, 10)]
+    buffers = [show_words(words[at : at + BUFFER_WORDS]) for at in range(1, len(words), BUFFER_WORDS)]
     return "/".join([str(words[0]), *buffers])
 
 
