@@ -19,11 +19,12 @@ PROGRAM = "python3 -m jirvuntsag"
 EXPLAIN = """\
 Runs a model from its opening and tells the run in words: each step and what it changed, why the run ended, the buffers at the
 end, what was learned (the run begins with an empty store, as a printed run does, and learns what it clears), and for each rule
-whether it matches then, or the first of its tests that does not hold."""
+whether it matches then, or the first of its tests, or else of its queries, that does not hold."""
 TIMELINE = """\
 Runs a model from its opening and writes a timeline as SVG: the steps, and what each buffer holds, against the clock.
 The run begins with an empty store, as a printed run does, and learns what it clears.
-Hatched bars are pending. Every bar says all that it stands for where a pointer rests on it."""
+Hatched bars are pending; what is red is in error, since a request found no fact.
+Every bar says all that it stands for where a pointer rests on it."""
 
 
 class Failure(Exception):

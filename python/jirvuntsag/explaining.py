@@ -106,11 +106,12 @@ def _asked(run, event):
 
 
 def _changed(run, before, asked):
-    """A line for each buffer that holds another chunk than before, whose chunk has arrived, or that was asked a fact for."""
+    """A line for each buffer that holds another chunk than before, or in error or not as before, whose chunk has arrived, or
+    that was asked a fact for."""
     lines = []
     for number, ((name, now), old) in enumerate(zip(_buffers(run), before.values())):
-        if number in asked or (now[:2], now.visible) != (old[:2], old.visible):
-            failed = number in asked and _is_empty(run, now)
+        if number in asked or now._replace(delay=now.visible) != old._replace(delay=old.visible):
+            failed = number in asked and now.error
             lines.append(f"{name}{_told(run, now)}{': no fact fits the request' if failed else ''}")
     return lines
 
@@ -120,8 +121,9 @@ def _is_empty(run, buffer):
 
 
 def _told(run, buffer):
-    """What a buffer holds."""
-    held = "empty" if _is_empty(run, buffer) else str(buffer._replace(delay=0))
+    """What a buffer holds, and that it is empty because a request has failed."""
+    empty = "empty (error)" if buffer.error else "empty"
+    held = empty if _is_empty(run, buffer) else str(buffer._replace(delay=0))
     return held if buffer.visible else f"{held}, in {buffer.delay:,} ms"
 
 
@@ -133,7 +135,7 @@ def _end(run, made, number):
 
 
 def _rules(run, fired):
-    """A line for each rule: that it matches, or the first test that does not hold; and whether it has fired."""
+    """A line for each rule: that it matches, or the first test or query that does not hold; and whether it has fired."""
     matches = {match.rule: match for match in run.matching()}
     count = len(run.model.vocabulary.rules)
     width = max((len(_rule(run, number)) for number in range(count)), default=0)

@@ -52,11 +52,11 @@ def record(run, steps):
 
 
 def _spans(clocks, held):
-    """Neighbouring states in which a buffer holds the same are one span: the same chunk, visible or due at the same time."""
+    """Neighbouring states in which a buffer holds the same are one span: chunk and flag, visible or due at the same time."""
 
     def content(at):
         buffer = held[at]
-        return buffer.type, buffer.slots, None if buffer.visible else clocks[at] + buffer.delay
+        return buffer.type, buffer.slots, buffer.error, None if buffer.visible else clocks[at] + buffer.delay
 
     starts = [next(states) for _, states in itertools.groupby(range(len(held)), content)]
     ends = [clocks[at] for at in starts[1:]] + [None]

@@ -26,17 +26,17 @@ at 300 ms  after a wait of 100 ms
     retrieval  follows first=2 second=3
 at 350 ms  go-on has fired
     goal       count current=3 target=3
-    retrieval  empty, in 200 ms: no fact fits the request
+    retrieval  empty (error), in 200 ms: no fact fits the request
 at 400 ms  stop has fired
     goal       empty
 at 550 ms  after a wait of 150 ms
-    retrieval  empty
+    retrieval  empty (error)
 
 It ends at 550 ms after 7 steps: no rule matches, and nothing is pending (end 9).
 
 The buffers then:
     goal       empty
-    retrieval  empty
+    retrieval  empty (error)
 
 Learned, in this order:
     at 400 ms  count current=3 target=3
@@ -99,7 +99,7 @@ class Words(unittest.TestCase):
     def test_a_request_that_fails_at_once_is_told(self):
         model = jv.Model.load(EXAMPLES / "counting.model")
         told = jv.explain(model.replace(facts=[], failure=0), 2)
-        self.assertEqual(told.count("has fired\n    retrieval  empty: no fact fits the request\n"), 2)
+        self.assertEqual(told.count("has fired\n    retrieval  empty (error): no fact fits the request\n"), 2)
 
     def test_without_names(self):
         told = jv.explain(jv.Model.load(COUNTING), 1)

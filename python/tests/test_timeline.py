@@ -13,7 +13,7 @@ from jirvuntsag.__main__ import main
 from jirvuntsag.recording import record
 from jirvuntsag.drawing.svg import CHARACTER, columns
 
-from . import COUNT_FROM, COUNT_FROM_NAMES, COUNTING, COUNTING_NAMES, PUPIL, PUPIL_NAMES, ROOT
+from . import COUNT_FROM, COUNT_FROM_NAMES, COUNTING, COUNTING_NAMES, PUPIL, PUPIL_NAMES, RETRY, RETRY_NAMES, ROOT
 from .packing import Rule, pack
 
 PICTURES = ROOT / "docs" / "pictures"
@@ -95,6 +95,25 @@ class Pictures(unittest.TestCase):
         self.assertIn("retrieval: count-order first=4 second=5, from 3,150 ms on", titles)
         self.assertIn("goal: nil, from 2,200 ms on", titles)
 
+    def test_a_failed_request_is_seen(self):
+        svg = timeline(Model.load(RETRY, RETRY_NAMES).open())
+        titles = [content(node) for node in xml.dom.minidom.parseString(svg).getElementsByTagName("title")]
+        self.assertIn("retrieval: nil error, pending, from 50 to 250 ms", titles)
+        self.assertIn("retrieval: nil error, from 250 to 300 ms", titles)
+        self.assertIn("retrieval: nil, from 450 ms on", titles)
+        self.assertEqual([len(groups(svg, kind)) for kind in ("error", "nil")], [1, 3])
+        (pending, _) = groups(svg, "pending")
+        self.assertEqual([content(line) for line in pending.getElementsByTagName("text")], ["nil", "error"])
+        self.assertEqual(svg.count(">error</text>"), 2)  # on that bar, and in the legend
+        self.assertNotIn(">error</text>", timeline(Model.load(COUNT_FROM, COUNT_FROM_NAMES).open()))
+
+    def test_a_flag_that_goes_ends_a_span(self):
+        run = Model.load(RETRY, RETRY_NAMES).replace(facts=[]).open()
+        spans = record(run, 1000).lanes["retrieval"]
+        told = [(span.start, span.buffer.visible, span.buffer.error) for span in spans]
+        failed = [(50, False, True), (250, True, True), (300, False, True), (500, True, True)]
+        self.assertEqual(told, [(0, True, False), *failed, (550, True, False)])
+
     def test_texts_have_room_in_their_bars(self):
         for names in None, COUNT_FROM_NAMES:
             for bar in groups(timeline(Model.load(COUNT_FROM, names).open(), width=700), "held"):
@@ -161,13 +180,13 @@ class Command(unittest.TestCase):
 
     def test_the_stored_pictures(self):
         cases = [(COUNTING, COUNTING_NAMES, "counting.svg"), (COUNT_FROM, COUNT_FROM_NAMES, "count-chr.svg")]
-        cases += [(PUPIL, PUPIL_NAMES, "pupil.svg")]
+        cases += [(PUPIL, PUPIL_NAMES, "pupil.svg"), (RETRY, RETRY_NAMES, "retry.svg")]
         for image, names, picture in cases:
             self.assertEqual(self.status(image, "--names", names, "-o", self.folder / picture), 0)
             self.assertEqual((self.folder / picture).read_bytes(), (PICTURES / picture).read_bytes())
             self.assertEqual(self.status(image, "--names", names), 0)
             self.assertEqual(self.written.buffer.getvalue(), (PICTURES / picture).read_bytes())
-        self.assertEqual(len(list(self.folder.iterdir())), 3)
+        self.assertEqual(len(list(self.folder.iterdir())), 4)
 
     def test_a_text_is_drawn_like_its_image(self):
         self.assertEqual(self.status(COUNTING.with_suffix(".model"), "-o", self.folder / "text.svg"), 0)

@@ -2,7 +2,7 @@
 from typing import List, NamedTuple, Tuple
 
 from ..recording import Span
-from .colours import NIL_COLOURS, colours_of, type_text
+from .colours import ERROR_COLOURS, NIL_COLOURS, colours_of, type_text
 from .lanes import NARROW, PAD, Lane, lane_name, room
 from .svg import LINE, columns, element, packed, shortened, text, titled
 
@@ -22,11 +22,11 @@ class Bar(NamedTuple):
     @property
     def is_nil(self):
         """An empty buffer that can be seen as such: a line, no bar."""
-        return self.colours is NIL_COLOURS and self.span.buffer.visible
+        return self.colours in (NIL_COLOURS, ERROR_COLOURS) and self.span.buffer.visible
 
 
 def buffer_lane(name, spans, scale, vocabulary):
-    """A bar for each chunk that the buffer holds, hatched while it is pending, and a line where it holds nil."""
+    """A bar for each chunk that the buffer holds, hatched while it is pending, and a line where it holds nil; red in error."""
     bars = [_bar(name, span, scale, vocabulary) for span in spans]
     lines = max([2, *(len(bar.lines) for bar in bars)])
     height = LINE * lines + 8
@@ -38,12 +38,13 @@ def buffer_lane(name, spans, scale, vocabulary):
 def _bar(name, span, scale, vocabulary):
     left, right = scale.x(span.start), scale.right if span.end is None else scale.x(span.end)
     isa = vocabulary.types.number(span.buffer.type)
-    words = [f"{slot}={value}" for slot, value in span.buffer.slots.items()]
+    words = [f"{slot}={value}" for slot, value in span.buffer.slots.items()] + ["error"] * span.buffer.error
     when = f"from {span.start:,} ms on" if span.end is None else f"from {span.start:,} to {span.end:,} ms"
     pending = "" if span.buffer.visible else ", pending"
     whole = " ".join([type_text(isa, vocabulary), *words])
     lines = _lines(type_text(isa, vocabulary), words, room(right - left))
-    return Bar(span, left, right, lines, colours_of(isa), f"{name}: {whole}{pending}, {when}")
+    colours = colours_of(isa, span.buffer.error)
+    return Bar(span, left, right, lines, colours, f"{name}: {whole}{pending}, {when}")
 
 
 def _lines(isa, words, most):
@@ -72,5 +73,5 @@ def _held(bar, height):
 
 
 def _nil(bar, height):
-    y = 2 + height / 2
-    return titled(bar.title, element("path", d=f"M{bar.left:.2f} {y:.1f}H{bar.right - 1:.2f}"), class_="nil")
+    y, kind = 2 + height / 2, "nil error" if bar.span.buffer.error else "nil"
+    return titled(bar.title, element("path", d=f"M{bar.left:.2f} {y:.1f}H{bar.right - 1:.2f}"), class_=kind)

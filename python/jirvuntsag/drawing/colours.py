@@ -12,11 +12,14 @@ COLOURS = [
     ("#e3dccf", "#6d5a3a"),
 ]
 NIL_COLOURS = ("#e4e7ea", "#6b7480")
+ERROR_COLOURS = ("#f6dada", "#a83232")
 
 
-def colours_of(isa):
-    """Fill and border of a chunk's bar, by the number of its type."""
-    return COLOURS[(isa - 1) % len(COLOURS)] if isa else NIL_COLOURS
+def colours_of(isa, error=False):
+    """Fill and border of a chunk's bar, by the number of its type; of an empty buffer's, whether a request has failed."""
+    if isa:
+        return COLOURS[(isa - 1) % len(COLOURS)]
+    return ERROR_COLOURS if error else NIL_COLOURS
 
 
 def type_text(isa, vocabulary):

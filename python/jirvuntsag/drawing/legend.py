@@ -9,7 +9,8 @@ def legend(recording, scale, vocabulary):
     spans = [span for spans in recording.lanes.values() for span in spans]
     types = sorted({vocabulary.types.number(span.buffer.type) for span in spans} - {0})
     items = [("firing", _sample("fire")), ("wait", _sample("wait")), ("pending", _swatch(NIL_COLOURS, hatched=True))]
-    items.append(("nil", element("g", element("path", d="M0 6H22"), class_="nil")))
+    items.append(("nil", _line("nil")))
+    items += [("error", _line("nil error"))] * any(span.buffer.error for span in spans)
     items += [(shortened(type_text(isa, vocabulary), 24), _swatch(colours_of(isa))) for isa in types]
     parts, x, y = [], MARGIN, 4
     for name, sample in items:
@@ -19,6 +20,10 @@ def legend(recording, scale, vocabulary):
         parts.append(element("g", sample, text(name, 28, 10), transform=f"translate({x:.1f} {y})"))
         x += width
     return Lane(y + 26, parts)
+
+
+def _line(kind):
+    return element("g", element("path", d="M0 6H22"), class_=kind)
 
 
 def _sample(kind):

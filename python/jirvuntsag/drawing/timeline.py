@@ -22,7 +22,7 @@ STYLE = (
     ".lane{font:bold 12px sans-serif}.axis{font:11px sans-serif;fill:#444}.type{font-weight:bold}.stop{fill:#a83232}"
     ".held text,.fire text{paint-order:stroke;stroke:#fff;stroke-opacity:.75;stroke-width:3px;stroke-linejoin:round}"
     ".fire rect{fill:#33475b}.fire text.in{fill:#fff;stroke:none}.fire path{stroke:#33475b;stroke-width:.75;fill:none}"
-    ".wait rect{fill:#eceff2}.wait text{fill:#667}.nil path{stroke:#b5bcc4;stroke-width:2}"
+    ".wait rect{fill:#eceff2}.wait text{fill:#667}.nil path{stroke:#b5bcc4;stroke-width:2}.error path{stroke:#a83232}"
     ".grid{stroke:#e3e6ea}.rule{stroke:#8d959e}.end{stroke:#a83232;stroke-dasharray:4 3}"
 )
 
