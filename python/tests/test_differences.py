@@ -11,7 +11,8 @@ NIL = (0,)
 
 def run_of(*opening, facts=(), rules=(), types=(2,), failure=200, store=Store()):
     """A run of a small model; type 1 has two slots, if nothing else is said."""
-    return Model(pack(types, opening, facts, rules, failure)).open(store=store)
+    version = 2 if any(rule.queries for rule in rules) else 1
+    return Model(pack(types, opening, facts, rules, failure, version)).open(store=store)
 
 
 def lines(run, steps=20):
@@ -55,6 +56,29 @@ class Seeing(unittest.TestCase):
         self.assertEqual(lines(run), ["50 fire 0", "170 wait 120"])
         self.assertEqual((run.buffers[1].type, run.buffers[1].visible), (0, True))
 
+    def test_a_query_asks_the_buffer_that_it_names(self):
+        rules = [Rule([], [], queries=[(buffer, state)]) for buffer in (0, 1) for state in ("busy", "free")]
+        run = run_of((1, 5, 0), NIL, rules=rules)
+        run.put(1, 0, delay=5)
+        self.assertEqual([match.rule for match in run.matching()], [1, 2])
+
+    def test_a_failure_is_busy_then_free_and_in_error_and_no_empty_buffer_is_before(self):
+        rules = [ASK, *(Rule([], [], queries=[(1, state)], utility=-1) for state in ("busy", "free", "error"))]
+        rules.append(Rule([(1, 0, {})], [], -1))
+        run, told = run_of((1, 5, 0), NIL, rules=rules, failure=50), []
+        for _ in range(3):
+            told.append([match.rule for match in run.matching()])
+            run.step()
+        self.assertEqual(told, [[0, 2, 4], [1], [2, 3, 4]])
+
+    def test_an_error_lasts_until_the_next_action_on_its_buffer(self):
+        again = [(1, "request", 1, {0: 7})], [(1, "modify", {})], [(1, "clear")], []
+        for actions, lasts in zip(again, (False, False, False, True)):
+            after = Rule([(1, 0, {})], actions, queries=[(1, "error")])
+            run = run_of((1, 5, 0), NIL, facts=[((1, 7, 7), 0, 0)], rules=[ASK, after], failure=0)
+            self.assertEqual(lines(run, 3), ["50 fire 0", "100 fire 1", *["150 fire 1"] * lasts])
+            self.assertEqual(run.buffers[1].error, lasts)
+
 
 class Timing(unittest.TestCase):
     """When things happen."""
@@ -77,6 +101,12 @@ class Timing(unittest.TestCase):
         run = run_of((1, 5, 0), NIL, facts=facts, rules=[ASK, again])
         self.assertEqual(lines(run), ["50 fire 0", "100 fire 1", "200 wait 100"])
         self.assertEqual(run.buffers[1].slots, {0: 6, 1: 6})
+
+    def test_a_rule_that_asks_first_makes_no_second_request(self):
+        again = Rule([(0, 1, {1: 9})], [(0, "clear"), (1, "request", 1, {0: 6})], queries=[(1, "free")])
+        facts = [((1, 5, 5), 0, 400), ((1, 6, 6), 0, 100)]
+        run = run_of((1, 5, 0), NIL, facts=facts, rules=[ASK, again])
+        self.assertEqual(lines(run), ["50 fire 0", "450 wait 400", "500 fire 1", "600 wait 100"])
 
     def test_actions_read_the_state_before_the_step(self):
         swap = Rule([(0, 1, {0: "v0"}), (1, 1, {0: "v1"})], [(0, "modify", {0: "v1"}), (1, "modify", {0: "v0"})])
