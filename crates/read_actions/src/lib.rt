@@ -55,7 +55,7 @@ fn action(
     }
 }
 
-// m actions into a rule's words, a row each, after its side of tests. The words begin with the rule's n tests.
+// m actions into a rule's words, a row each, after its tests and queries. The words begin with the rule's n tests.
 pub fn actions(
     image: &[u8],
     p: usize,

@@ -5,14 +5,15 @@ use mathlib.Core.List.{List, [], _∷_, _++_}
 use native.Mathlib.Omega.{arith}
 use native.Mathlib.Decide.{ℕ-discrete}
 use lib.ListN.{length, getD, take, drop, length-drop}
-use lib.Seq.{sets, length-sets, drop-drop}
-use Rattle.meaning.specs.Model.{Test, Action, Rule}
-use Rattle.meaning.specs.Image.{utilityOf}
-use Rattle.layout.specs.Rows.{rowsIn, testIn, actionIn, testsIn, actionsIn, ruleIn, rulesIn, testedMask, Laid}
+use lib.Seq.{sets, length-sets, drop-drop, getD-drop}
+use Rattle.meaning.specs.Base.{bit}
+use Rattle.meaning.specs.Model.{Test, Query, Action, Rule}
+use Rattle.laws.specs.RefreshLaws.{looksAt}
+use Rattle.layout.specs.Rows.{rowsIn, testIn, actionIn, testsIn, actionsIn, ruleIn, rulesIn, queryBy, queriesAt, Laid}
 use Rattle.layout.proofs.WordLaws.{below-get, sets-below, sets-at, sets-drop, part-below, part-own}
-use Rattle.layout.proofs.RowLaws.{rows-more, in-drop, test-like, action-like}
-use Rattle.layout.proofs.KeptLaws.{SameTo, same-below, tests-kept, rules-kept}
-use Rattle.read_rules.specs.Heads.{ruleBy, RuleFits}
+use Rattle.layout.proofs.RowLaws.{rows-more, rows-same, in-drop, test-like, action-like}
+use Rattle.layout.proofs.KeptLaws.{SameTo, same-below, rule-kept, rules-kept}
+use Rattle.read_rules.specs.Heads.{aRule, ruleBy, RuleFits}
 
 module _ (heads heads′ words words′ four own : List ℕ) (k : ℕ) (laid : Laid heads words k)
     (old-heads : SameTo (4 * k) heads heads′)
@@ -28,10 +29,21 @@ module _ (heads heads′ words words′ four own : List ℕ) (k : ℕ) (laid : L
   new-actions : (n : ℕ) → actionsIn words′ (185 * k + 97) n ≡ actionsIn own 97 n
   new-actions n = sym (in-drop actionIn action-like words′ (185 * k) 97 (185 * k + 97) n refl) ∙ ap (λ (l : List ℕ). actionsIn l 97 n) is-own
 
+  -- a word of its own, further on in all words
+  new-word : (i : ℕ) → getD words′ (185 * k + i) 0 ≡ getD own i 0
+  new-word i = sym (getD-drop (185 * k) words′ i 0) ∙ ap (λ (l : List ℕ). getD l i 0) is-own
+
+  new-queries : queriesAt words′ (185 * k) ≡ queriesAt own 0
+  new-queries =
+      let at : (i : ℕ) → getD words′ (185 * k + 89 + i) 0 ≡ getD own (89 + i) 0 = λ i. let e : 185 * k + 89 + i ≡ 185 * k + (89 + i) = omega arith in rw e (new-word (89 + i)) in
+      rw (new-word 88)
+      (rows-same (λ i. queryBy (getD words′ (185 * k + 89 + i) 0)) (λ i. queryBy (getD own (89 + i) 0)) 0 (getD own 88 0) (λ i low high. ap queryBy (at i)))
+
   new-rule : ruleIn heads′ words′ k ≡ ruleBy four own
   new-rule =
       rw (first-new, new-head 1 (omega arith), new-head 2 (omega arith))
-      (ap₂ (λ (ts : List Test) (as′ : List Action). record { utility = utilityOf (getD four 2 0); tests = ts; actions = as′ }) (new-tests (getD four 0 0)) (new-actions (getD four 1 0)))
+      (ap₂ (λ (ts : List Test) (as′ : List Action). aRule (getD four 2 0) ts (queriesAt words′ (185 * k)) as′) (new-tests (getD four 0 0)) (new-actions (getD four 1 0))
+      ∙ ap (λ (qs : List Query). aRule (getD four 2 0) (testsIn own 0 (getD four 0 0)) qs (actionsIn own 97 (getD four 1 0))) new-queries)
 
   pub rules-more : rulesIn heads′ words′ (k + 1) ≡ rulesIn heads words k ++ (ruleBy four own ∷ [])
   rules-more =
@@ -43,6 +55,9 @@ module _ (heads heads′ words words′ four own : List ℕ) (k : ℕ) (laid : L
     by : {C : Type 0} (j : ℕ) → j < k + 1 → (j < k → C) → (j ≡ k → C) → C
     by j l old new = elim (ℕ-discrete j k) [ yes e ↦ new e | no e ↦ old (omega arith) ]
 
+    old-rule : (j : ℕ) → j < k → ruleIn heads′ words′ j ≡ ruleIn heads words j
+    old-rule = rule-kept heads heads′ words words′ k laid old-heads old-words
+
     pub laid-more : Laid heads′ words′ (k + 1)
     laid-more =
         record {
@@ -50,10 +65,11 @@ module _ (heads heads′ words words′ four own : List ℕ) (k : ℕ) (laid : L
           heads-room = omega arith;
           words-room = omega arith;
           tests-few = λ j l. by j l (λ g. omega (arith, old-heads (4 * j) (omega arith), laid .tests-few j g)) (λ e. rw e (omega (arith, first-new, f .tests-few)));
+          queries-few = λ j l. by j l (λ g. omega (arith, old-words (185 * j + 88) (omega arith), laid .queries-few j g)) (λ e. rw e (omega (arith, new-word 88, f .queries-few)));
           actions-few = λ j l. by j l (λ g. omega (arith, old-heads (4 * j + 1) (omega arith), laid .actions-few j g)) (λ e. rw e (omega (arith, new-head 1 (omega arith), f .actions-few)));
           masks = λ j l.
-              by j l (λ g. old-heads (4 * j + 3) (omega arith) ∙ laid .masks j g ∙ ap testedMask (sym (tests-kept heads heads′ words words′ k laid old-heads old-words j g)))
-              (λ e. rw e (new-head 3 (omega arith) ∙ f .mask-is ∙ ap testedMask (sym (ap (testsIn words′ (185 * k)) first-new ∙ new-tests (getD four 0 0)))));
+              by j l (λ g b. ap (λ (mask : ℕ). bit mask b) (old-heads (4 * j + 3) (omega arith)) ∙ laid .masks j g b ∙ ap (λ (r : Rule). looksAt r b) (sym (old-rule j g)))
+              (λ e. rw e (λ b. ap (λ (mask : ℕ). bit mask b) (new-head 3 (omega arith)) ∙ f .mask-is b ∙ ap (λ (r : Rule). looksAt r b) (sym new-rule)));
         }
 
 -- heads and rows stand on one tape: rule k's own words came back from rows + 185 k on, and then its head was written
@@ -93,6 +109,7 @@ laid-none heads words =
       heads-room = omega arith;
       words-room = omega arith;
       tests-few = λ j l. absurd (omega arith);
+      queries-few = λ j l. absurd (omega arith);
       actions-few = λ j l. absurd (omega arith);
       masks = λ j l. absurd (omega arith);
     }

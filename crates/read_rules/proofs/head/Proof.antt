@@ -6,6 +6,9 @@ use borrow.Author.Needs.{needs}
 use Rattle.read_rules.proofs.head.Statement.{statement}
 use Rattle.read_rules.proofs.head.Tie as tie
 
+least-tests-requires : tie.Need-least-tests-requires
+least-tests-requires c κs = search needs
+
 any-after-requires : tie.Need-any-after-requires
 any-after-requires c κs = (search needs, next-within _ _ _ refl (search needs), search needs)
 
@@ -30,9 +33,10 @@ returns c =
     let r₂ = c .before .before .ranged-after in
     let r₃ = c .before .ranged-after2 in
     let r₄ = c .ranged-after3 in
-    let a = c .before .before .before .before .before .args in (
-      head-on (a .buffers) (a .image .now) (a .p) (r₁ .result .walk) (r₂ .result .walk) (r₃ .result .walk) (r₄ .result .walk) _ _ _ _
-          (r₁ .ensures .0) (r₂ .ensures .0) (r₃ .ensures .0) (r₄ .ensures .0),
+    let least = c .before .before .before .before .least-tests in
+    let a = c .before .before .before .before .before .before .args in (
+      head-on (a .version) (a .buffers) (a .image .now) (a .p) (r₁ .result .walk) (r₂ .result .walk) (r₃ .result .walk) (r₄ .result .walk) _ _ _ _
+          (r₁ .ensures .0) (rw (least .ensures) at (r₂ .ensures .0)) (r₃ .ensures .0) (r₄ .ensures .0),
       r₄ .ensures .1,
     )
 
@@ -40,6 +44,7 @@ pub head-spec : {M : Type 1} → statement M
 head-spec =
     tie.close
     (tie.spec
+    least-tests-requires
     any-after-requires
     add-ranged-after
     ranged-after-requires

@@ -7,7 +7,7 @@ use borrow.Rule.Slice.PartMut.{same-len-mid}
 use native.Mathlib.Omega.{arith}
 use lib.ListN.{length, take, drop, length-drop}
 use Rattle.meaning.specs.Model.{Rule}
-use Rattle.meaning.specs.Read.{Read, Got, times}
+use Rattle.meaning.specs.Read.{Read, Reader, Got, times}
 use Rattle.meaning.specs.Numbers.{finer}
 use Rattle.meaning.specs.Image.{rule}
 use Rattle.layout.specs.Rows.{sizes, rowsIn, rulesIn, Laid}
@@ -21,12 +21,12 @@ use Rattle.read_rules.proofs.rules.Statement.{statement}
 use Rattle.read_rules.proofs.rules.Tie as tie
 
 abbrev Inv-loop : tie.InvT-loop
-Inv-loop image p n buffers types words₀ rows at₀ k₀ words at k =
+Inv-loop image p n version buffers types words₀ rows at₀ k₀ words at k =
     (k ≤ n) × (at ≤ 8 * length image) × (length words ≡ length words₀) × Laid words (drop rows words) k
-    × (along (rule finer (sizes buffers types)) image n (rulesIn words (drop rows words) k) k at ≡ times n (rule finer (sizes buffers types)) image p)
+    × (along (rule finer version (sizes buffers types)) image n (rulesIn words (drop rows words) k) k at ≡ times n (rule finer version (sizes buffers types)) image p)
 
 abbrev μ-loop : tie.MeasureT-loop
-μ-loop image p n buffers types words₀ rows at₀ k₀ words at k = n - k
+μ-loop image p n version buffers types words₀ rows at₀ k₀ words at k = n - k
 
 -- ---- the places of the code, each named once
 
@@ -45,9 +45,13 @@ known c = c .before .before .before .before
 abbrev read : tie.After-known-told Inv-loop μ-loop → tie.After-rule Inv-loop μ-loop
 read c = c .before .before .before .before .before
 
+-- how one rule is read
+abbrev one : tie.Start Inv-loop μ-loop → Reader Rule
+one c = rule finer (c .args .version) (sizes (c .args .buffers) (c .args .types .now))
+
 -- the rule's own words, as they came back
 abbrev own : tie.After-rule Inv-loop μ-loop → List ℕ
-own c = c .rule .last .1 .1 .1 .1 .0
+own c = c .rule .last .1 .1 .1 .1 .1 .0
 
 -- where the rule's own words begin, and all words once they are back
 abbrev place : tie.In-loop Inv-loop μ-loop → ℕ
@@ -57,7 +61,7 @@ abbrev after : tie.After-rule Inv-loop μ-loop → List ℕ
 after c = let w = turn c .before .loop .words in let o = place (turn c) in take o w ++ (own c ++ drop (length w - o) (drop o w))
 
 as-long : (c : tie.After-rule Inv-loop μ-loop) → length (after c) ≡ length (turn c .before .loop .words)
-as-long c = let w = turn c .before .loop .words in let o = place (turn c) in same-len-mid o (length w - o) w (own c) (c .rule .kept .1 .1 .1 .1 .0)
+as-long c = let w = turn c .before .loop .words in let o = place (turn c) in same-len-mid o (length w - o) w (own c) (c .rule .kept .1 .1 .1 .1 .1 .0)
 
 four-long : (c : tie.After-four Inv-loop μ-loop) → length (read (c .before) .rule .result .words) ≡ 4
 four-long c = search needs
@@ -69,7 +73,7 @@ unfolding rowsIn
 loop-holds c =
     let s = c .before .before .before in
     let a = s .args in
-    (search needs, s .pre .1, refl, laid-none _ _, along-start (rule finer (sizes (a .buffers) (a .types .now))) (a .image .now) (a .n) (a .p))
+    (search needs, s .pre .1, refl, laid-none _ _, along-start (one s) (a .image .now) (a .n) (a .p))
 
 mul-o : tie.Need-mul-o Inv-loop μ-loop
 mul-o c = search needs
@@ -116,8 +120,7 @@ returns c =
     let l = at-loop .loop in
     let rules = rulesIn (l .words) (drop (a .rows) (l .words)) (l .k) in
     let bad = sym (answer-bad _ (ruleBy (r .rule .result .words) (own r)) _ _ (c .before .walk2 .given .1)) ∙ r .rule .ensures .reads in
-    let one = rule finer (sizes (a .buffers) (a .types .now)) in
-    (along-bad one (a .image .now) (a .n) rules (l .k) (l .at) (turn r .loop-test .taken) _ _ bad ∙ l .inv .4, (bad-within _ _ _ _ refl, bad-never _ _ _ refl))
+    (along-bad (one (start at-loop)) (a .image .now) (a .n) rules (l .k) (l .at) (turn r .loop-test .taken) _ _ bad ∙ l .inv .4, (bad-within _ _ _ _ refl, bad-never _ _ _ refl))
 
 mul-copy-into : tie.Need-mul-copy-into Inv-loop μ-loop
 mul-copy-into c = search needs
@@ -157,13 +160,13 @@ loop-again c =
     let more = tape-more (l .words) (after r) _ four (own r) (a .rows) (l .k) (a .n) (l .inv .3) below (pre .5) room long put (as-long r) (copied .copy-into .ensures) in
     let rules = rulesIn (l .words) (drop (a .rows) (l .words)) (l .k) in
     let q = known copied .before .walk .given .0 .0 in
-    let along′ : List Rule → Read (List Rule) = λ rs. along (rule finer (sizes (a .buffers) (a .types .now))) (a .image .now) (a .n) rs (l .k + 1) q in (
+    let along′ : List Rule → Read (List Rule) = λ rs. along (one (start at-loop)) (a .image .now) (a .n) rs (l .k + 1) q in (
       omega (arith, below),
       met .within q next,
       copied .copy-into .kept .0 ∙ as-long r ∙ l .inv .2,
       laid (pre .4) (met .fits q next),
       ap along′ more
-          ∙ along-turn (rule finer (sizes (a .buffers) (a .types .now))) (a .image .now) (a .n) rules (l .k) (l .at) below _ q (sym (answer-next _ (ruleBy four (own r)) _ next) ∙ met .reads)
+          ∙ along-turn (one (start at-loop)) (a .image .now) (a .n) rules (l .k) (l .at) below _ q (sym (answer-next _ (ruleBy four (own r)) _ next) ∙ met .reads)
           ∙ l .inv .4,
     )
 
@@ -177,7 +180,7 @@ returns-2 c =
     let e : l .k ≡ a .n = omega (arith, l .inv .0, c .loop-test .left) in
     let rules : ℕ → List Rule = λ m. rulesIn (l .words) (drop (a .rows) (l .words)) m in (
       ap (λ (m : ℕ). Got (rules m) (l .at)) (sym e)
-          ∙ along-end (rule finer (sizes (a .buffers) (a .types .now))) (a .image .now) (a .n) (rules (l .k)) (l .k) (l .at) (c .loop-test .left) ∙ l .inv .4,
+          ∙ along-end (one (start (c .before))) (a .image .now) (a .n) (rules (l .k)) (l .k) (l .at) (c .loop-test .left) ∙ l .inv .4,
       (next-within _ (l .at) _ refl (l .inv .1), λ q g. rw (← e) (l .inv .3)),
     )
 
