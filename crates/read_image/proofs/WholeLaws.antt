@@ -112,7 +112,7 @@ pub not-long : (s : List ℕ) → length s ≤ 65536 → header finer s 0 ≡ he
 not-long s h = rw (le-ltb 65536 (length s) h)
 
 -- a refusal, with the plan for nothing
-pub refused-begun : (r : PlanRead) (x y : ℕ) (s : List ℕ) → r .walk ≡ Bad x y → r .plan ≡ planOf 0 0 0 0 0 0 false → Refused x y ≡ headerOf s → Begun r s
+pub refused-begun : (r : PlanRead) (x y : ℕ) (s : List ℕ) → r .walk ≡ Bad x y → r .plan ≡ planOf 0 0 0 0 0 0 0 false → Refused x y ≡ headerOf s → Begun r s
 refused-begun r x y s n p e =
     record {
       reads = answer-bad (r .walk) (headerIn (r .plan)) x y n ∙ e;
@@ -130,10 +130,10 @@ places-most facts true = (omega arith, omega arith)
 places-most facts false = (omega arith, omega arith)
 
 -- the sections of a plan by its places
-pub placed-starts : (p : Plan) → Placed p → p ≡ planOf (p .buffers) (p .declared) (p .rules) (p .facts) (p .failure) (p .places) (p .learns)
+pub placed-starts : (p : Plan) → Placed p → p ≡ planOf (p .version) (p .buffers) (p .declared) (p .rules) (p .facts) (p .failure) (p .places) (p .learns)
 placed-starts p e =
     let places : p .places ≡ placesFor (p .facts) (p .learns) = ap (λ (p : Plan). p .places) e in
-    e ∙ ap (λ (n : ℕ). planOf (p .buffers) (p .declared) (p .rules) (p .facts) (p .failure) n (p .learns)) (sym places)
+    e ∙ ap (λ (n : ℕ). planOf (p .version) (p .buffers) (p .declared) (p .rules) (p .facts) (p .failure) n (p .learns)) (sym places)
 
 -- with a store there are 256 places more than facts
 pub places-store : (p : Plan) → Placed p → p .learns ≡ true → p .places ≡ p .facts + 256
@@ -187,17 +187,17 @@ small-take n types h k =
 abbrev pub someContents : List Fact → List Rule → Contents
 someContents facts rules = record { facts = facts; rules = rules }
 
-module _ (z : Sizes) (n m : ℕ) (s : List ℕ) (p : ℕ) where
-  pub contents-first : (x y : ℕ) → Refused x y ≡ times n (fact finer (z .types)) s p → Refused x y ≡ contents finer z n m s p
+module _ (version : ℕ) (z : Sizes) (n m : ℕ) (s : List ℕ) (p : ℕ) where
+  pub contents-first : (x y : ℕ) → Refused x y ≡ times n (fact finer (z .types)) s p → Refused x y ≡ contents finer version z n m s p
   unfolding contents
   contents-first x y e = rw (← e)
 
   module _ (facts : List Fact) (q : ℕ) (e₁ : Got facts q ≡ times n (fact finer (z .types)) s p) where
-    pub contents-second : (x y : ℕ) → Refused x y ≡ times m (rule finer z) s q → Refused x y ≡ contents finer z n m s p
+    pub contents-second : (x y : ℕ) → Refused x y ≡ times m (rule finer version z) s q → Refused x y ≡ contents finer version z n m s p
     unfolding contents
     contents-second x y e = rw (← e₁, ← e)
 
-    pub contents-on : (rules : List Rule) (o : ℕ) → Got rules o ≡ times m (rule finer z) s q → (w : Walk) → answer w tt ≡ ending s o → answer w (someContents facts rules) ≡ contents finer z n m s p
+    pub contents-on : (rules : List Rule) (o : ℕ) → Got rules o ≡ times m (rule finer version z) s q → (w : Walk) → answer w tt ≡ ending s o → answer w (someContents facts rules) ≡ contents finer version z n m s p
     unfolding contents
     contents-on rules o e₂ (Next i) e = rw (← e₁, ← e₂, ← e)
     contents-on rules o e₂ (Bad x y) e = rw (← e₁, ← e₂, ← e)
@@ -208,7 +208,7 @@ abbrev pub aModel : Beginning → Contents → Model
 aModel b c = record { buffers = b .head .buffers; types = b .types; failure = b .head .failure; opening = b .opening; facts = c .facts; rules = c .rules }
 
 abbrev restOf : Beginning → Reader Model
-restOf b s q = follow (contents finer (sizes (b .head .buffers) (b .types)) (b .head .facts) (b .head .rules) s q) (λ c z. Got (aModel b c) z)
+restOf b s q = follow (contents finer (b .head .version) (sizes (b .head .buffers) (b .types)) (b .head .facts) (b .head .rules) s q) (λ c z. Got (aModel b c) z)
 
 -- a refusal of the header, by length or by what it says
 pub decode-refused : (s : List ℕ) (x y : ℕ) → Refused x y ≡ headerOf s → Refused x y ≡ decode s
@@ -244,7 +244,7 @@ module _ (s : List ℕ) (h : length s ≤ 65536) where
   decode-beginning x y e = rw (decode-short, ← e)
 
   pub decode-on : (b : Beginning) (p : ℕ) (w : Walk) (c : Contents) → Got b p ≡ beginning finer s 0
-      → answer w c ≡ contents finer (sizes (b .head .buffers) (b .types)) (b .head .facts) (b .head .rules) s p → answer w (aModel b c) ≡ decode s
+      → answer w c ≡ contents finer (b .head .version) (sizes (b .head .buffers) (b .types)) (b .head .facts) (b .head .rules) s p → answer w (aModel b c) ≡ decode s
   decode-on b p (Next q) c e₁ e = rw (decode-short, ← e₁, ← e)
   decode-on b p (Bad x y) c e₁ e = rw (decode-short, ← e₁, ← e)
 

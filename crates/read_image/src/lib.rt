@@ -80,7 +80,7 @@ fn finish(image: &[u8], at: usize) -> Walk
 // The facts and rules of a plan and the end, from p on: laid on the tape after what is there.
 fn contents(image: &[u8], p: usize, types: &[u16], plan: Plan, tape: &mut [u16]) -> Walk
     requires { ⌜ (length (now image) ≤ 65536) × (p ≤ 8 * length (now image)) × Small (now types) × (0 < length (now types)) × InBounds plan × (plan .end ≤ length (now tape)) ⌝ }
-    ensures { λ r. ⌜ answer r (contentsOn plan (now (tape .exit))) ≡ contents finer (sizes (plan .buffers) (now (types .entry))) (plan .facts) (plan .rules) (now (image .entry)) p ⌝ }
+    ensures { λ r. ⌜ answer r (contentsOn plan (now (tape .exit))) ≡ contents finer (plan .version) (sizes (plan .buffers) (now (types .entry))) (plan .facts) (plan .rules) (now (image .entry)) p ⌝ }
     ensures kept { λ r. ⌜ take 152 (now (tape .exit)) ≡ take 152 (now (tape .entry)) ⌝ }
     ensures laid { λ r. ⌜ LaidIf r (headsOn plan (now (tape .exit))) (rowsOn plan (now (tape .exit))) (plan .rules) ⌝ }
 {
@@ -95,7 +95,16 @@ fn contents(image: &[u8], p: usize, types: &[u16], plan: Plan, tape: &mut [u16])
     let m = plan.rules as usize;
     let heads = plan.heads;
     let rows = HEAD_WORDS * m;
-    let after_rules = read_rules::rules(image, q, m, plan.buffers, types, &mut tape[heads..], rows);
+    let after_rules = read_rules::rules(
+        image,
+        q,
+        m,
+        plan.version,
+        plan.buffers,
+        types,
+        &mut tape[heads..],
+        rows,
+    );
     let o = match after_rules {
         Walk::Next(o) => o,
         Walk::Bad(number, at) => {

@@ -43,7 +43,7 @@ ruled c = c .before .before .before .before .before
 -- ---- where the plan's sections begin and end
 
 ends : (c : tie.Start)
-    → let p = c .args .plan in (152 + 11 * p .facts ≤ p .heads) × (p .heads ≤ 9424) × (p .rows ≡ p .heads + 4 * p .rules) × (p .rows + 185 * p .rules ≤ length (c .args .tape .now))
+    → let p = c .args .plan in (152 + 11 * p .facts ≤ p .heads) × (p .heads ≤ 9432) × (p .rows ≡ p .heads + 4 * p .rules) × (p .rows + 185 * p .rules ≤ length (c .args .tape .now))
 ends c =
     let e = c .pre .4 .starts in
     let heads = ap (λ (p : Plan). p .heads) e in
@@ -64,7 +64,7 @@ facts-long : (c : tie.After-facts) → length (with-facts c) ≡ length (begun c
 facts-long c = let w = begun c .args .tape .now in same-len-mid 152 (length w - 152) w (facts-own c) (c .facts .kept .1 .1 .1 .1 .0)
 
 abbrev rules-own : tie.After-rules → List ℕ
-rules-own c = c .rules .last .1 .1 .1 .1 .1 .0
+rules-own c = c .rules .last .1 .1 .1 .1 .1 .1 .0
 
 abbrev heads-at : tie.After-rules → ℕ
 heads-at c = begun (found (first c)) .args .plan .heads
@@ -162,7 +162,7 @@ returns c =
     let w = a .tape .now in
     let l : 152 ≤ length w = omega (arith, ends (begun f)) in
     let bad = sym (answer-bad _ (factsIn (facts-own f) (a .plan .facts)) _ _ (c .before .after-facts2 .given .1)) ∙ f .facts .ensures .0 in (
-      contents-first (sizes (a .plan .buffers) (a .types .now)) (a .plan .facts) (a .plan .rules) (a .image .now) (a .p) _ _ bad,
+      contents-first (a .plan .version) (sizes (a .plan .buffers) (a .types .now)) (a .plan .facts) (a .plan .rules) (a .image .now) (a .p) _ _ bad,
       (ap (take 152) (part-put 152 w (facts-own f)) ∙ part-below 152 w (facts-own f) l, bad-never _ _ _ refl),
     )
 
@@ -213,7 +213,7 @@ returns-2 c =
     let n = a .plan .rules in
     let own = rulesIn (rules-own r) (drop (4 * n) (rules-own r)) n in
     let bad = sym (answer-bad _ own _ _ (c .before .after-rules2 .given .1)) ∙ r .rules .ensures .0 in (
-      contents-second (sizes (a .plan .buffers) (a .types .now)) (a .plan .facts) n (a .image .now) (a .p) _ _ (read-facts k) _ _ bad,
+      contents-second (a .plan .version) (sizes (a .plan .buffers) (a .types .now)) (a .plan .facts) n (a .image .now) (a .p) _ _ (read-facts k) _ _ bad,
       (still r, bad-never _ _ _ refl),
     )
 
@@ -233,7 +233,7 @@ returns-3 c =
     let next = d .before .after-rules .given .1 in
     let own = rulesIn (rules-own r) (drop (4 * n) (rules-own r)) n in
     let rules = sym (answer-next _ own _ next) ∙ r .rules .ensures .0 in
-    let on = contents-on (sizes (a .plan .buffers) (a .types .now)) (a .plan .facts) n (a .image .now) (a .p) _ _ (read-facts k) _ _ rules (c .finish .result) (c .finish .ensures) in
+    let on = contents-on (a .plan .version) (sizes (a .plan .buffers) (a .types .now)) (a .plan .facts) n (a .image .now) (a .p) _ _ (read-facts k) _ _ rules (c .finish .result) (c .finish .ensures) in
     let laid : (q : ℕ) → Laid (rules-own r) (drop (4 * n) (rules-own r)) n = λ q. r .rules .ensures .1 .1 _ next in (
       ap₂ (λ (fs : List Fact) (rs : List Rule). answer (c .finish .result) (someContents fs rs)) (facts-still r) (rules-here r) ∙ on,
       (still r, λ q g. rw (heads-here r, rows-here r) (laid q)),

@@ -83,7 +83,7 @@ laid : (c : tie.After-lay-state) → buffersIn (drop 64 (tape c)) ≡ opened (co
 laid c =
     let w = typed (copied c) in
     let h : 64 ≤ length w = omega (arith, room (copied c)) in
-    ap buffersIn (ap (drop 64) (part-put 64 w (own c)) ∙ part-own 64 w (own c) h) ∙ c .lay-state .ensures
+    ap buffersIn (ap (drop 64) (part-put 64 w (own c)) ∙ part-own 64 w (own c) h) ∙ c .lay-state .ensures .0
 
 -- ---- what is asked
 
