@@ -45,11 +45,8 @@ fn no_rule(number: u8, at: usize) -> RuleRead
 fn least_tests(version: u16) -> u16
     ensures { λ r. ⌜ r ≡ leastTests version ⌝ }
 {
-    if read_queries::has_queries(version) {
-        0
-    } else {
-        1
-    }
+    let asks = read_queries::has_queries(version);
+    if asks { 0 } else { 1 }
 }
 
 // Utility, and how many tests, actions and variables follow.
