@@ -16,7 +16,8 @@ use match_best::Chosen;
 // Of n rules, each matched afresh, the one that is chosen; its entry goes to nine lent words.
 pub fn best(heads: &[u16], words: &[u16], n: usize, state: &[u16], nine: &mut [u16]) -> Chosen
     requires { ⌜ Laid (now heads) (now words) n × (88 ≤ length (now state)) × (length (now nine) ≡ 9) ⌝ }
-    ensures { λ r. ⌜ ((clock : ℕ) → chooseFresh (rulesIn (now (heads .entry)) (now (words .entry)) n) (utilities (rulesIn (now (heads .entry)) (now (words .entry)) n)) (stateIn (now (state .entry)) clock)
+    ensures { λ r. ⌜ ((clock : ℕ) → chooseFresh (rulesIn (now (heads .entry)) (now (words .entry)) n)
+        (utilities (rulesIn (now (heads .entry)) (now (words .entry)) n)) (stateIn (now (state .entry)) clock)
         ≡ matchedOf (now (heads .entry)) (now (words .entry)) (stateIn (now (state .entry)) clock) r) ⌝ }
     ensures entry { λ r. ⌜ Entered (now (heads .entry)) (now (words .entry)) (now (state .entry)) r (now (nine .exit)) ⌝ }
     ensures below { λ r. ⌜ Below r n ⌝ }

@@ -80,7 +80,8 @@ returns c clock =
     let entered = c .before .before in
     let a = begun (entered .before) .args in
     let nine : 9 * a .k + 9 - 9 * a .k ≡ 9 = omega arith in
-    ap₂ (λ (ys zs : List ℕ). take (9 * a .k) (a .table .now) ++ (ys ++ zs)) (entered .entry-into .ensures (ruleIn (a .heads .now) (a .words .now) (a .k)) clock (rule-stands (a .heads .now) (a .words .now) (a .k)))
+    let stands = rule-stands (a .heads .now) (a .words .now) (a .k) in
+    ap₂ (λ (ys zs : List ℕ). take (9 * a .k) (a .table .now) ++ (ys ++ zs)) (entered .entry-into .ensures (ruleIn (a .heads .now) (a .words .now) (a .k)) clock stands)
     (ap (λ (j : ℕ). drop j (drop (9 * a .k) (a .table .now))) nine ∙ drop-drop 9 (9 * a .k) (a .table .now))
 
 pub entry-at-spec : {M : Type 1} → statement M
