@@ -197,7 +197,8 @@ module _ (version : ℕ) (z : Sizes) (n m : ℕ) (s : List ℕ) (p : ℕ) where
     unfolding contents
     contents-second x y e = rw (← e₁, ← e)
 
-    pub contents-on : (rules : List Rule) (o : ℕ) → Got rules o ≡ times m (rule finer version z) s q → (w : Walk) → answer w tt ≡ ending s o → answer w (someContents facts rules) ≡ contents finer version z n m s p
+    pub contents-on : (rules : List Rule) (o : ℕ) → Got rules o ≡ times m (rule finer version z) s q → (w : Walk) → answer w tt ≡ ending s o
+        → answer w (someContents facts rules) ≡ contents finer version z n m s p
     unfolding contents
     contents-on rules o e₂ (Next i) e = rw (← e₁, ← e₂, ← e)
     contents-on rules o e₂ (Bad x y) e = rw (← e₁, ← e₂, ← e)

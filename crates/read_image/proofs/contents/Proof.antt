@@ -9,7 +9,7 @@ use borrow.Rule.Slice.PartMut.{same-len-mid}
 use Rattle.meaning.specs.Model.{Fact, Rule}
 use Rattle.meaning.specs.Read.{Got, times}
 use Rattle.meaning.specs.Numbers.{finer}
-use Rattle.meaning.specs.Image.{fact, rule}
+use Rattle.meaning.specs.Image.{fact}
 use Rattle.layout.specs.declared.Plan.{Plan}
 use Rattle.layout.specs.Rows.{sizes, factsIn, rulesIn, Laid}
 use Rattle.layout.specs.Plans.{factsOn, headsOn, rowsOn, rulesOn}
@@ -233,7 +233,8 @@ returns-3 c =
     let next = d .before .after-rules .given .1 in
     let own = rulesIn (rules-own r) (drop (4 * n) (rules-own r)) n in
     let rules = sym (answer-next _ own _ next) ∙ r .rules .ensures .0 in
-    let on = contents-on (a .plan .version) (sizes (a .plan .buffers) (a .types .now)) (a .plan .facts) n (a .image .now) (a .p) _ _ (read-facts k) _ _ rules (c .finish .result) (c .finish .ensures) in
+    let z = sizes (a .plan .buffers) (a .types .now) in
+    let on = contents-on (a .plan .version) z (a .plan .facts) n (a .image .now) (a .p) _ _ (read-facts k) _ _ rules (c .finish .result) (c .finish .ensures) in
     let laid : (q : ℕ) → Laid (rules-own r) (drop (4 * n) (rules-own r)) n = λ q. r .rules .ensures .1 .1 _ next in (
       ap₂ (λ (fs : List Fact) (rs : List Rule). answer (c .finish .result) (someContents fs rs)) (facts-still r) (rules-here r) ∙ on,
       (still r, λ q g. rw (heads-here r, rows-here r) (laid q)),

@@ -164,7 +164,8 @@ returns-3 c =
     let places = places-in q b in
     let kept = d .contents .ensures .1 .0 in
     let same = beginning-kept q old new kept (declared h) in
-    let rest = d .contents .ensures .0 ∙ ap (λ (ts : List ℕ). contents finer (q .version) (sizes (q .buffers) ts) (q .facts) (q .rules) s (k .before .after-opening .given .0 .0)) (sym (same-types k)) in
+    let at = k .before .after-opening .given .0 .0 in
+    let rest = d .contents .ensures .0 ∙ ap (λ (ts : List ℕ). contents finer (q .version) (sizes (q .buffers) ts) (q .facts) (q .rules) s at) (sym (same-types k)) in
     let on = decode-on s (short h) (beginningOn q old) _ (d .contents .result) (contentsOn q new) (read-beginning k) rest in
     record {
       reads = ap (λ (x : Beginning). answer (d .contents .result) (aModel x (contentsOn q new))) same ∙ on;
