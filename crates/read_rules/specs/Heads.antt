@@ -21,7 +21,7 @@ use Rattle.read_rules.specs.declared.RuleRead.{RuleRead}
 abbrev pub headIn : HeadRead → Head
 headIn r = record { utility = r .utility; tests = r .tests; actions = r .actions; variables = r .variables }
 
--- the counts of a head that was read
+-- a head whose counts are at most eight
 pub record HeadSmall (h : HeadRead) : Type 0 where
   pub tests-few : h .tests ≤ 8
   pub actions-few : h .actions ≤ 8
