@@ -172,5 +172,6 @@ pub few-rules : (image : List ℕ) (m : Model) (at : ℕ) → decode image ≡ G
 few-rules image m at e =
     let p : Parts image m = parts image m at e in
     let l : length (m .rules) ≡ p .head .rules =
-    times-all (rule finer (p .head .version) (record { buffers = m .buffers; types = m .types })) (λ r. true) (λ image at a next e. refl) (p .head .rules) image (p .rules-at) (m .rules) (p .end) (p .rules-read) .1 in
+    times-all (rule finer (p .head .version) (record { buffers = m .buffers; types = m .types })) (λ r. true) (λ image at a next e. refl)
+    (p .head .rules) image (p .rules-at) (m .rules) (p .end) (p .rules-read) .1 in
     omega (arith, l, header-rules image (p .head) (p .types-at) (p .head-read))

@@ -13,7 +13,8 @@ use Rattle.meaning.specs.Model.{Model, Rule, Test, Action, Deed, Modify,
 use Rattle.meaning.specs.State.{wellFormed, bufferOf}
 use Rattle.meaning.specs.Bits.{fieldAt}
 use Rattle.meaning.specs.Read.{Got, field, times, rising}
-use Rattle.meaning.specs.Image.{header, chunk, fact, utilityOf, slotsIn, terms, masked, head, test, query, queried, deed, action, body, rule, ending, beginning, contents, model, decode, decodeBy}
+use Rattle.meaning.specs.Image.{header, chunk, fact, utilityOf, slotsIn, terms, masked, head, test, query, queried, deed, action, body, rule}
+use Rattle.meaning.specs.Image.{ending, beginning, contents, model, decode, decodeBy}
 use Rattle.meaning.specs.Match.{places, valueIn, matches, entryOf, freshTable}
 use Rattle.meaning.specs.Choice.{candidates, choose}
 use Rattle.meaning.specs.Retrieval.{retrieve}
