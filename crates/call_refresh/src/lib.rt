@@ -1,4 +1,4 @@
-// Refreshing a table: refused by number, or the entries of the rules that test a marked buffer made afresh.
+// Refreshing a table: refused by number, or the entries of the rules that test or query a marked buffer made afresh.
 ghost use mathlib.Core.Path.{_≡_};
 ghost use Prim.Native.Nat.{_*_, _^_, _≤_};
 ghost use lib.Dec.{ltb};
@@ -20,7 +20,7 @@ use meaning::numbers::ALL_DONE;
 use meaning::numbers::BAD_MARK;
 use meaning::numbers::ILL_FORMED;
 
-// What refresh answers: the number, the position of the refused field if there is one, else 0, and how many rules test a marked buffer.
+// What refresh answers: the number, the position of the refused field if there is one, else 0, and how many rules test or query a marked buffer.
 pub struct RefreshDone {
     pub number: u8,
     pub position: usize,
@@ -91,7 +91,7 @@ fn refresh_on(
     refresh_for(table, plan, tape, state, mark)
 }
 
-// Makes the entries of the rules that test a marked buffer afresh: the number, the position of a refused field, and how many these rules are.
+// Makes the entries of the rules that test or query a marked buffer afresh: the number, the position of a refused field, and how many these rules are.
 pub fn refresh(image: &[u8], state: State, mark: u16, table: &mut [u16]) -> RefreshDone
     ensures { λ r. ⌜ refreshedIn r (now (table .exit)) ≡ refreshOf (now (image .entry)) state mark (now (table .entry)) ⌝ }
 {

@@ -92,7 +92,7 @@ pub fn run_lent(
     call_run::run_lent(image, state, table, steps, events, lent, store)
 }
 
-// Makes the entries of the rules that test a marked buffer afresh: the number, the position of a refused field, and how many these rules are.
+// Makes the entries of the rules that test or query a marked buffer afresh: the number, the position of a refused field, and how many these rules are.
 pub fn refresh(image: &[u8], state: State, mark: u16, table: &mut [u16]) -> RefreshDone
     ensures { λ r. ⌜ refreshedIn r (now (table .exit)) ≡ refreshOf (now (image .entry)) state mark (now (table .entry)) ⌝ }
 {

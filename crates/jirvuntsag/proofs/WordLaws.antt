@@ -15,7 +15,7 @@ use Rattle.layout.specs.Rows.{rowsIn}
 use Rattle.layout.specs.StateWords.{buffersIn, stateIn}
 use Rattle.layout_state.specs.Words.{flagWord, Flags}
 use Rattle.layout_state.proofs.LayLaws.{rows-list}
-use Rattle.jirvuntsag.specs.Words.{stateOf, buffersWords, wordsOf, narrows, flagsFit, fits, unfitState, givenBy}
+use Rattle.jirvuntsag.specs.Words.{buffersWords, wordsOf, narrows, flagsFit, fits, unfitState, givenBy}
 
 -- ---- a loop over the 88 words after the clock
 

@@ -1,8 +1,7 @@
 -- What the calls without a table answer, for all that C could hand in; that this settles all; and a word too large for its field.
-use Prim.Native.Nat.{ℕ, _<_}
+use Prim.Native.Nat.{ℕ}
 use mathlib.Core.Path.{_≡_, sym, ap, _∙_}
 use mathlib.Core.List.{List, []}
-use lib.ListN.{getD, drop}
 use Rattle.meaning.specs.Base.{if_then_else_}
 use Rattle.meaning.specs.Numbers.{ill-formed}
 use Rattle.meaning.specs.Model.{Model}

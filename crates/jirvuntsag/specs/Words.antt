@@ -30,7 +30,7 @@ wordsOf s = s .clock ∷ buffersWords (s .buffers)
 unfoldable pub narrows : List ℕ → Bool
 narrows w = every (λ v. leb v 65535) (drop 1 w)
 
--- a flag is 0 or 1: "a word over 1 makes it 6"
+-- a flag is 0 or 1: a word over 1 makes the state not well formed, as one that is too large for its field does
 abbrev pub flagAt : List ℕ → ℕ → ℕ
 flagAt w b = getD w (11 * b + 11) 0
 

@@ -223,7 +223,7 @@ pub extern "C" fn jirvuntsag_run_lent(
     answer(done.number, done.made, done.position)
 }
 
-// Makes the entries of the rules that test a marked buffer afresh.
+// Makes the entries of the rules that test or query a marked buffer afresh.
 #[no_mangle]
 pub extern "C" fn jirvuntsag_refresh(
     image: &[u8],

@@ -7,7 +7,7 @@ use mathlib.Core.Option.{Option, none, some}
 use Prim.Native.Nat.{ℕ, zero, suc, _+_, _-_, _≤_, _<_}
 use native.Mathlib.Nat.{zero-add, add-zero}
 use native.Mathlib.Omega.{arith}
-use borrow.Author.Tests.{eqb-true, eqb-false, ne-eqb, eq-eqb}
+use borrow.Author.Tests.{eqb-true}
 use lib.Dec.{leb}
 use lib.IntN.{ℤ}
 use lib.ListN.{length, getD, List·getD-eq-default}
@@ -15,7 +15,7 @@ use Rattle.meaning.specs.declared.Buffer.{Buffer}
 use Rattle.meaning.specs.declared.State.{State}
 use Rattle.meaning.specs.Base.{if_then_else_, anyOf, upFrom, same, bit}
 use Rattle.meaning.specs.Numbers.{not-fresh, clock-full}
-use Rattle.meaning.specs.Model.{Model, Rule, Test, Action, Deed, Fact}
+use Rattle.meaning.specs.Model.{Model, Rule, Action, Deed, Fact}
 use Rattle.meaning.specs.State.{nothing, bufferOf, visible}
 use Rattle.meaning.specs.Match.{entryOf}
 use Rattle.meaning.specs.Choice.{Candidate, choose}

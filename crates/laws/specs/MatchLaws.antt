@@ -11,7 +11,7 @@ use lib.ListN.{length, replicate, length-append}
 use Rattle.meaning.specs.Base.{if_then_else_, every, anyOf, upFrom}
 use Rattle.meaning.specs.Model.{Term, Symbol, Variable, Rule, Test, Query, Ask, Busy, Free, Error}
 use Rattle.meaning.specs.Image.{isVariable}
-use Rattle.meaning.specs.Match.{Place, valueIn, termIn, takes, agrees, agreed, places, shows, testsHold, answers, queriesHold, matches, entryOf, freshTable}
+use Rattle.meaning.specs.Match.{Place, valueIn, termIn, takes, agrees, agreed, places, shows, answers, queriesHold, matches, entryOf, freshTable}
 use Rattle.meaning.specs.declared.Buffer.{Buffer}
 use Rattle.meaning.specs.declared.State.{State}
 use Rattle.meaning.specs.State.{bufferOf, visible}

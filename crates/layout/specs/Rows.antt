@@ -1,7 +1,6 @@
 -- What stands in words. Every list of words is read as something (a buffer is below 8, a variable too),
 -- so that whoever reads words needs no fact that they are valid.
 use Prim.Native.Nat.{ℕ, zero, suc, _+_, _*_, _/_, _%_, _≤_, _<_}
-use mathlib.Core.Path.{_≡_}
 use mathlib.Core.List.{List, [], _∷_, map}
 use lib.Dec.{ltb, eqb}
 use lib.ListN.{length, getD}

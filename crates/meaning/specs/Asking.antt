@@ -3,13 +3,13 @@ use mathlib.Core.Path.{_≡_, refl}
 use mathlib.Core.Bool.{Bool, true, false}
 use mathlib.Core.List.{List, [], _∷_, _++_, map}
 use Prim.Native.Nat.{ℕ, _+_, _-_, _*_, _/_, _%_, _^_}
-use lib.ListN.{length, getD, replicate, take, drop}
+use lib.ListN.{getD, replicate, take}
 use lib.IntN.{pos}
 use Rattle.meaning.specs.declared.Buffer.{Buffer}
 use Rattle.meaning.specs.declared.State.{State}
 use Rattle.meaning.specs.Base.{if_then_else_, upFrom}
 use Rattle.meaning.specs.Model.{Model, Rule, Test, Query, Ask, Busy, Free, Error, Action, Deed, Modify, Request, Clear, Term, Symbol}
-use Rattle.meaning.specs.State.{nilAfter, zeroState, bufferOf, wellFormed}
+use Rattle.meaning.specs.State.{nilAfter, bufferOf, wellFormed}
 use Rattle.meaning.specs.Read.{Read, Refused, Got}
 use Rattle.meaning.specs.Image.{decode}
 use Rattle.meaning.specs.Match.{entryOf, freshTable}
@@ -134,7 +134,7 @@ pub retry-is : decode retry ≡ Got toldRetry 167
 unfolding everything retry image wide joined toldRetry
 retry-is = refl
 
--- one rule of version 2, from its head at bit 69 on, and the number and the position of its refusal; two zeros for an image that is accepted
+-- an image of one rule, from its head at bit 69 on: the number and the position of its refusal; two zeros for an image that is accepted
 abbrev placed : Read Model → List ℕ
 placed (Refused n at) = n ∷ at ∷ []
 placed (Got m at) = 0 ∷ 0 ∷ []

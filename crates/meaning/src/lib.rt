@@ -4,7 +4,7 @@ ghost use Rattle.meaning.specs.State.{nilAfter, zeroState};
 
 pub mod numbers;
 
-// One buffer: the type of its chunk, eight slot values, the ms until it is visible, and whether its last request found no fact.
+// One buffer: the type of its chunk, eight slot values, the ms until it is visible, and whether the last action on it was a request that found no fact.
 // (`isa` is ACT-R's own word for a chunk's type; Rattle keeps the word `type` for itself.)
 pub struct Buffer {
     pub isa: u16,

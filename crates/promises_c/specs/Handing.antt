@@ -41,7 +41,7 @@ ranIn a = record { number = numberIn (a .answered); position = positionIn (a .an
 abbrev pub freshRanIn : FreshTold → FreshRan
 freshRanIn a = record { number = numberIn (a .answered); position = positionIn (a .answered); state = stateOf (a .words); made = countIn (a .answered) }
 
--- two states have the same ten words for buffer b
+-- two states have the same eleven words for buffer b
 abbrev pub SameBuffer : List ℕ → List ℕ → ℕ → Type 0
 SameBuffer w w′ b = (j : ℕ) → j < 11 → getD w (1 + (11 * b + j)) 0 ≡ getD w′ (1 + (11 * b + j)) 0
 

@@ -14,7 +14,7 @@ use Rattle.meaning.specs.Image.{decode}
 use Rattle.meaning.specs.Match.{freshTable}
 use Rattle.meaning.specs.Step.{largest}
 use Rattle.meaning.specs.Calls.{WithStore}
-use Rattle.jirvuntsag.specs.Words.{stateOf, wordsOf, fits}
+use Rattle.jirvuntsag.specs.Words.{stateOf, wordsOf, flagsFit, fits}
 use Rattle.jirvuntsag.specs.Told.{answer, Told, told, openIn, runIn, refreshIn}
 use Rattle.jirvuntsag.specs.Lent.{toldWith, runLentIn}
 use Rattle.promises.specs.Words.{Machine, Reached}
@@ -31,8 +31,8 @@ use Rattle.promises_c.specs.Proofs.Lent as lending
 pub words-of-state : (s : State) → Machine s → (length (wordsOf s) ≡ 89) × (fits (wordsOf s) ≡ true) × (stateOf (wordsOf s) ≡ s)
 words-of-state s m = (back.all-words s m, back.words-fit s m, back.state-back s m)
 
--- 89 words of which each fits its field are the words of the state that they hold, and that is a state of the machine.
-pub state-of-words : (w : List ℕ) → length w ≡ 89 → fits w ≡ true → wordsOf (stateOf w) ≡ w
+-- 89 words whose flags are 0 or 1 are the words of the state that they hold, and if each word fits its field that is a state of the machine.
+pub state-of-words : (w : List ℕ) → length w ≡ 89 → flagsFit w ≡ true → wordsOf (stateOf w) ≡ w
 state-of-words w l f = back.words-back w l f
 
 pub fitting-state : (w : List ℕ) → fits w ≡ true → getD w 0 0 ≤ largest → Machine (stateOf w)

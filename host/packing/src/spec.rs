@@ -203,7 +203,7 @@ impl QuerySpec {
         QuerySpec { buffer, kind: 1 }
     }
 
-    /// Whether the last request found no fact, and that is seen by now.
+    /// Whether the last action was a request that found no fact, and that is seen by now.
     pub fn error(buffer: u8) -> QuerySpec {
         QuerySpec { buffer, kind: 2 }
     }

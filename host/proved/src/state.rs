@@ -1,6 +1,6 @@
 //! States and steps, as values.
 
-/// A buffer: a chunk, the ms until it is visible, and whether the last request found no fact.
+/// A buffer: a chunk, the ms until it is visible, and whether the last action on it was a request that found no fact.
 #[derive(Clone, Copy, PartialEq, Eq, Hash, Debug, Default)]
 pub struct Buffer {
     /// Type of the chunk, 0 for nil.

@@ -2,7 +2,8 @@
 
 use crate::{BUFFERS, SLOTS};
 
-/// One buffer: a chunk, the ms until it is visible (0: visible now), and whether the last request found no fact.
+/// One buffer: a chunk, the ms until it is visible (0: visible now), and whether the last action on it was a request
+/// that found no fact.
 #[derive(Clone, Copy, PartialEq, Eq, Debug, Default)]
 pub struct Buffer {
     /// Type of the chunk, 0 for nil.

@@ -46,8 +46,8 @@ words c = c .lay-state .last .1 .0
 declared : (c : tie.Start) → c .args .plan .declared + 1 ≤ length (c .args .tape .now)
 declared c = let d = c .pre .0 .most-declared in omega (arith, sections (c .pre .0) .facts-end)
 
-eighty : (c : tie.After-lay-state) → 88 ≤ length (words c)
-eighty c = search needs
+long-enough : (c : tie.After-lay-state) → 88 ≤ length (words c)
+long-enough c = search needs
 
 -- a place on the tape fits the machine's words, in bytes too
 within : (c : tie.After-shared-slice-known) → 2 * length (c .before .before .args .tape .now) ≤ 18446744073709551615
@@ -142,7 +142,7 @@ slice-aggregate-refresh c = search needs
 refresh-requires : tie.Need-refresh-requires
 refresh-requires c κs =
     let s = begun (c .before .before .before) in
-    simp to-end (s .pre .0 .laid, s .pre .1, eighty (laid (argued (judged (allowed (c .before .before .before))))))
+    simp to-end (s .pre .0 .laid, s .pre .1, long-enough (laid (argued (judged (allowed (c .before .before .before))))))
 
 same-length : tie.Need-same-length
 same-length c = search needs

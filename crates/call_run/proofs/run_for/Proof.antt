@@ -99,9 +99,9 @@ set-out-requires c κs =
     let k = c .before .before .before .before .before .before in
     let t = admitted (k .before) in
     let s = start t in
-    let eighty : 88 ≤ length (words t) = search needs in
+    let long-enough : 88 ≤ length (words t) = search needs in
     let rules = t .admit .ensures .rules (k .if1 .left) in
-    (t .admit .ensures .planned (k .if1 .left), rw rules (s .pre .1), eighty, rw rules (s .pre .2), s .pre .3)
+    (t .admit .ensures .planned (k .if1 .left), rw rules (s .pre .1), long-enough, rw rules (s .pre .2), s .pre .3)
 
 give-back-requires : tie.Need-give-back-requires
 give-back-requires c κs =

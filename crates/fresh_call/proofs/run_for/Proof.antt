@@ -97,8 +97,8 @@ slice-aggregate-set-out c = search needs
 set-out-requires : tie.Need-set-out-requires
 set-out-requires c κs =
     let k = c .before .before .before .before in
-    let eighty : 88 ≤ length (words (admitted (k .before))) = search needs in
-    (admitted (k .before) .admit .ensures .planned (k .if1 .left), eighty)
+    let long-enough : 88 ≤ length (words (admitted (k .before))) = search needs in
+    (admitted (k .before) .admit .ensures .planned (k .if1 .left), long-enough)
 
 give-back-requires : tie.Need-give-back-requires
 give-back-requires c κs =

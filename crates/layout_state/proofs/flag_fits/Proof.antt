@@ -1,5 +1,4 @@
 -- `layout_state::flag_fits` meets its contract: where the flag is set, the buffer must hold nil.
-use mathlib.Core.Path.{_∙_}
 use borrow.Author.Needs.{needs}
 use borrow.Author.Tests.{eq-eqb, ne-eqb}
 use Rattle.layout_state.proofs.flag_fits.Statement.{statement}

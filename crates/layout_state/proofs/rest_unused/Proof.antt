@@ -1,6 +1,6 @@
 -- `layout_state::rest_unused` meets its contract: the buffers that are left, judged from here on, give what all past the count give.
 use Prim.Native.Nat.{_≤_, _-_}
-use mathlib.Core.Path.{_≡_, refl, sym, _∙_}
+use mathlib.Core.Path.{_≡_, sym, _∙_}
 use borrow.Author.Needs.{needs}
 use borrow.Author.Tests.{not-true, not-false}
 use Rattle.meaning.specs.Base.{every}

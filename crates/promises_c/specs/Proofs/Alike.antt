@@ -34,7 +34,7 @@ use Rattle.promises.specs.Keeping.{reached-fresh}
 use Rattle.promises.specs.Proofs.Numbers.{taken-accepted, refused-accepted}
 use Rattle.promises.specs.Proofs.Afresh.{call-as-kept, reached-as-kept, kept-refuses, fresh-refuses}
 use Rattle.promises_c.specs.Handing.{Held, SameDone, SameTold, SameLent}
-use Rattle.promises_c.specs.Proofs.Back.{words-back}
+use Rattle.promises_c.specs.Proofs.Back.{fit-back}
 use Rattle.promises_c.specs.Proofs.Calling.{same-place, toldBy, eventsBy, by-fits, run-told, run-noted, lent-told, lent-noted, fit-store, unfit-store}
 use Rattle.promises_c.specs.Proofs.Calling.{fit-run, unfit-run, fit-events, unfit-events, six-by, held-stands}
 
@@ -287,7 +287,7 @@ module _ (image w : List ℕ) (steps : ℕ) (lent : Option (List ℕ)) (table : 
   ends-told n at p l f e =
       fit-run image w table steps lent f
       ∙ ap₂ (λ (at : ℕ) (x : Run Going). toldRun (ranBy at x)) (same-place image table ∙ p) e
-      ∙ ap (λ (x : List ℕ). told (answer n 0 at) x table) (words-back w l f)
+      ∙ ap (λ (x : List ℕ). told (answer n 0 at) x table) (fit-back w l f)
 
   -- ---- by what the image is
 

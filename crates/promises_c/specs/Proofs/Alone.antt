@@ -33,7 +33,7 @@ use Rattle.promises.specs.Proofs.Machines.{Sound, StoreFit, fit, known-sound, l
 use Rattle.promises.specs.Proofs.Afresh.{run-as-kept, answers-as-kept, both-refuse, left-refused, call-refused, lent-never}
 use Rattle.promises.specs.Proofs.Lending.{Accepts, Freed, put-off, moves, freed}
 use Rattle.promises_c.specs.Handing.{numberIn, countIn, Reads, freshRanIn, FreshLeaves, layEvents}
-use Rattle.promises_c.specs.Proofs.Back.{state-back, words-back, state-fits}
+use Rattle.promises_c.specs.Proofs.Back.{state-back, fit-back, state-fits}
 use Rattle.promises_c.specs.Proofs.Calling.{number-of, none-of, answer-reads, unfit-reads, by-fits, most-by}
 use Rattle.promises_c.specs.Proofs.Alike.{freeBy, freeEvents, free-told, free-noted, lent-free, lent-free-noted, fit-free-store, unfit-free-store}
 use Rattle.promises_c.specs.Proofs.Alike.{fit-fresh, unfit-fresh, fit-fresh-events, unfit-fresh-events}
@@ -117,7 +117,7 @@ module _ (image w : List ℕ) (steps : ℕ) (lent : Option (List ℕ)) where
         by-fits w
         (λ f.
         record {
-          words-stay = ap (λ (x : FreshTold). x .words) (fit-fresh image w steps lent f) ∙ ap (λ (x : FreshRan). wordsOf (x .state)) (fit-refused f) ∙ words-back w l f;
+          words-stay = ap (λ (x : FreshTold). x .words) (fit-fresh image w steps lent f) ∙ ap (λ (x : FreshRan). wordsOf (x .state)) (fit-refused f) ∙ fit-back w l f;
           none-counted =
               ap (λ (x : FreshTold). countIn (x .answered)) (fit-fresh image w steps lent f)
               ∙ none-of (run .number) (run .made) (run .position) (small image (stateOf w) steps lent) (ap (λ (x : FreshRan). x .made) (fit-refused f));

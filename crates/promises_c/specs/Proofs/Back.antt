@@ -209,10 +209,14 @@ flags-of w e k l =
     let at : 1 + (11 * k + 10) ≡ 11 * (0 + k) + 11 = omega arith in
     rw (getD-drop 1 w (11 * k + 10) 0, at) (leb-true (flagAt w (0 + k)) 1 (each-row (λ v. leb v 1) (flagAt w) 0 8 e k l))
 
-pub words-back : (w : List ℕ) → length w ≡ 89 → fits w ≡ true → wordsOf (stateOf w) ≡ w
+pub words-back : (w : List ℕ) → length w ≡ 89 → flagsFit w ≡ true → wordsOf (stateOf w) ≡ w
 unfolding wordsOf
 words-back [] e f = absurd (omega arith)
-words-back (x ∷ xs) e f = ap (λ (l : List ℕ). x ∷ l) (words-in xs (omega arith) (flags-of (x ∷ xs) (and-right (narrows (x ∷ xs)) (flagsFit (x ∷ xs)) f)))
+words-back (x ∷ xs) e f = ap (λ (l : List ℕ). x ∷ l) (words-in xs (omega arith) (flags-of (x ∷ xs) f))
+
+-- and if each word fits its field, each flag is
+pub fit-back : (w : List ℕ) → length w ≡ 89 → fits w ≡ true → wordsOf (stateOf w) ≡ w
+fit-back w l f = words-back w l (and-right (narrows w) (flagsFit w) f)
 
 -- ---- the same words hold the same buffer
 

@@ -34,7 +34,7 @@ use Rattle.promises.specs.Numbers.{accepted-taken, open-refused, lent-refused, 
 use Rattle.promises.specs.Keeping.{reached-fresh, reached-machine}
 use Rattle.promises.specs.Proofs.Numbers.{taken-accepted, open-small, refresh-small, run-refused, left-refused, lent-small}
 use Rattle.promises_c.specs.Handing.{numberIn, countIn, Reads, ranIn, SameBuffer, Leaves, Held, opened, ran, refreshed, changed, layEvents}
-use Rattle.promises_c.specs.Proofs.Back.{state-back, same-buffer, words-back, all-words, words-fit, state-fits}
+use Rattle.promises_c.specs.Proofs.Back.{state-back, same-buffer, fit-back, all-words, words-fit, state-fits}
 
 -- ---- an answer taken apart
 
@@ -202,7 +202,7 @@ module _ (image w table : List ℕ) where
           let r : Ran = ranLent image (stateOf w) table steps lent in
           let left = run-refused image table (stateOf w) lent steps (rw (number-by f) at b) in
           record {
-            words-stay = ap (λ (x : Ran). wordsOf (x .state)) left ∙ words-back w l f;
+            words-stay = ap (λ (x : Ran). wordsOf (x .state)) left ∙ fit-back w l f;
             table-stays = ap (λ (x : Ran). x .table) left;
             none-counted = none-of (r .number) (r .made) (r .position) (lent-small image table (stateOf w) lent steps) (ap (λ (x : Ran). x .made) left);
           }
