@@ -1,26 +1,36 @@
--- Document 01 as it stood before request 2026-06: its reading of an image, its match and its marks, and what the request says that it leaves alone. And the words in which
--- Versions compares them with what is there now: a state without its error flags, and the same run but for flags.
+-- Document 01 as it stood before request 2026-06: its reading of an image, its match, its states, its step and its runs, the one without a table (request 2026-02) too, both with
+-- a store (2026-05). What the request leaves alone is cited. And the words in which Versions compares them with what is there now: a state without its error flags, and a run
+-- but for flags.
 use mathlib.Core.Path.{_≡_}
 use mathlib.Core.Bool.{Bool, true, false, _&&_}
-use mathlib.Core.List.{List, [], _∷_, map, List·Memᴰ}
-use mathlib.Core.Option.{Option}
-use Prim.Native.Nat.{ℕ}
+use mathlib.Core.List.{List, [], _∷_, _++_, map, List·Memᴰ}
+use mathlib.Core.Option.{Option, none, some}
+use Prim.Native.Nat.{ℕ, zero, suc, _+_, _-_}
 use lib.Dec.{ltb, leb, eqb}
-use lib.ListN.{length, getD, drop}
+use lib.ListN.{length, getD, take, drop, replicate}
+use lib.IntN.{ℤ, pos}
 use lib.Pow.{areBytes}
 use Rattle.meaning.specs.declared.Buffer.{Buffer}
 use Rattle.meaning.specs.declared.State.{State}
-use Rattle.meaning.specs.Base.{if_then_else_, every, anyOf, upFrom, bit}
-use Rattle.meaning.specs.Numbers.{RuleNumbers, finer, too-long}
-use Rattle.meaning.specs.Model.{Model, Sizes, Rule}
-use Rattle.meaning.specs.State.{slotCount, bufferOf}
+use Rattle.meaning.specs.Base.{if_then_else_, every, anyOf, keep, upFrom, same, bit}
+use Rattle.meaning.specs.Highest.{highest}
+use Rattle.meaning.specs.Numbers.{RuleNumbers, finer, all-done, too-long, not-fresh, halted}
+use Rattle.meaning.specs.Model.{Model, Sizes, Rule, Deed, Modify, Request, Clear, Fact}
+use Rattle.meaning.specs.State.{nilAfter, slotCount, bufferOf}
 use Rattle.meaning.specs.Bits.{fieldAt}
 use Rattle.meaning.specs.Read.{Read, Refused, Got, Reader, andThen as _>>=_, next as _>>_, give, must, field, require, times}
 use Rattle.meaning.specs.Image.{between, anything, Header, slotCounts, chunk, fact, Head, utilityOf, tests, standsIn, actions, ending, Beginning, Contents, decode}
-use Rattle.meaning.specs.Match.{places, agreed, shows}
-use Rattle.meaning.specs.Run.{Run, Going, going}
+use Rattle.meaning.specs.Match.{places, valueIn, agreed, shows}
+use Rattle.meaning.specs.Choice.{Candidate, counts, lower, utilities, choose}
+use Rattle.meaning.specs.Retrieval.{retrieve}
+use Rattle.meaning.specs.Fire.{put, deedOn, change}
+use Rattle.meaning.specs.Wait.{soonest}
+use Rattle.meaning.specs.Mark.{markOf}
+use Rattle.meaning.specs.Step.{Fired, Waited, Step, Stopped, Made, unlessPast}
+use Rattle.meaning.specs.Learning.{knowing, storeAfter, ifRoom}
+use Rattle.meaning.specs.Run.{Run, ends, before, Going, going}
 use Rattle.meaning.specs.Calls.{neededOf, openOf, traceLent, Ran, WithStore, runLent, runOf, refreshOf}
-use Rattle.meaning.specs.Fresh.{Moving, moving, freshTraceLent, FreshRan, freshLent, freshOf}
+use Rattle.meaning.specs.Fresh.{Move, Stays, movesTo, Moving, moving, ifRoomFresh, moveOn, freshTraceLent, FreshRan, freshLent, freshOf}
 use Rattle.meaning.specs.Print.{printed}
 
 -- ---- the reading of 01, for all its numbers; what it shares with the reading of now is cited
@@ -102,9 +112,18 @@ NoQueries rules = (r : Rule) → List·Memᴰ r rules → r .queries ≡ []
 abbrev pub matches01 : Rule → State → Bool
 matches01 r s = every (λ t. shows t (bufferOf s (t .buffer))) (r .tests) && agreed (places (r .tests) s)
 
+-- "An entry is 1 and then the values of variables 0 to 7 (0 where unused) if the rule matches, nine zeros if it does not."
+unfoldable pub entryOf01 : Rule → State → List ℕ
+entryOf01 r s = if matches01 r s then 1 ∷ map (valueIn (places (r .tests) s)) (upFrom 0 8) else replicate 9 0
+
 -- "rules test a marked buffer"
 abbrev pub testsMarked01 : ℕ → Rule → Bool
 testsMarked01 mark r = anyOf (λ t. bit mark (t .buffer)) (r .tests)
+
+-- the table is "refreshed with that mark": their entries are made afresh, all others stay
+unfoldable pub refresh01 : List Rule → State → ℕ → List ℕ → List ℕ
+refresh01 [] s mark table = []
+refresh01 (r ∷ rs) s mark table = (if testsMarked01 mark r then entryOf01 r s else take 9 table) ++ refresh01 rs s mark (drop 9 table)
 
 -- ---- the states of 01
 
@@ -122,12 +141,111 @@ isUnused01 b = eqb (b .isa) 0 && every (λ v. eqb v 0) (b .slots) && eqb (b .del
 abbrev pub wellFormed01 : Model → State → Bool
 wellFormed01 m s = every (wellBuffer01 (m .types)) (s .buffers) && every isUnused01 (drop (m .buffers) (s .buffers))
 
+-- "each with a type, eight slot values and a delay": a buffer that has no error flag is written with a clear one
+abbrev pub buffer01 : ℕ → List ℕ → ℕ → Buffer
+buffer01 isa slots delay = record { isa = isa; slots = slots; delay = delay; error = false }
+
 -- a buffer, and a state, with the error flag left out
 abbrev pub unflag : Buffer → Buffer
-unflag b = record { isa = b .isa; slots = b .slots; delay = b .delay; error = false }
+unflag b = buffer01 (b .isa) (b .slots) (b .delay)
 
 abbrev pub unflagged : State → State
 unflagged s = record { buffers = map unflag (s .buffers); clock = s .clock }
+
+-- ---- a step of 01
+
+-- "with the fact's latency as its delay. If no fact fits it gets nil with the failure latency."
+abbrev pub retrieved01 : ℕ → Option Fact → Buffer
+retrieved01 failure none = nilAfter failure
+retrieved01 failure (some f) = buffer01 (f .chunk .isa) (f .chunk .slots) (f .latency)
+
+-- "A modified buffer keeps its type and unnamed slots, and gets delay 0." "A requested buffer gets a fact .." "A cleared buffer holds nil, delay 0."
+unfoldable pub done01 : ℕ → List Fact → List ℕ → Buffer → Deed → Buffer
+done01 failure memory entry b (Modify ns) = buffer01 (b .isa) (put ns entry (b .slots)) 0
+done01 failure memory entry b (Request isa ns) = retrieved01 failure (retrieve memory isa ns entry)
+done01 failure memory entry b Clear = nilAfter 0
+
+-- a buffer after some ms: its delay is lowered, "not below 0"
+abbrev pub later01 : ℕ → Buffer → Buffer
+later01 ms b = buffer01 (b .isa) (b .slots) (b .delay - ms)
+
+-- "A buffer without an action loses 50 from its delay, not below 0."
+abbrev pub after01 : ℕ → List Fact → List ℕ → Buffer → Option Deed → Buffer
+after01 failure memory entry b none = later01 50 b
+after01 failure memory entry b (some d) = done01 failure memory entry b d
+
+-- "The clock rises by 50. All actions read the state before the step."
+unfoldable pub fire01 : ℕ → List Fact → Rule → List ℕ → State → State
+fire01 failure memory r entry s =
+    record { buffers = change (λ i b. after01 failure memory entry b (deedOn (r .actions) i)) 0 (s .buffers); clock = s .clock + 50 }
+
+-- "is taken from every delay above 0 and added to the clock"
+unfoldable pub wait01 : ℕ → State → State
+wait01 ms s = record { buffers = change (λ i b. later01 ms b) 0 (s .buffers); clock = s .clock + ms }
+
+-- "The chosen entry must equal the fresh entry of that rule." "In a step 7 comes before 8."
+unfoldable pub fireStep01 : ℕ → List Fact → State → Candidate → Step
+fireStep01 failure memory s c =
+    let s′ : State = fire01 failure memory (c .rule) (c .entry) s in
+    if same (c .entry) (entryOf01 (c .rule) s) then unlessPast (Fired (c .number)) s′ (markOf (c .rule .actions) s s′) else Stopped not-fresh
+
+-- "No entry matches and nothing is pending. No step is made."; else "the smallest such delay"
+abbrev pub waitStep01 : State → ℕ → Step
+waitStep01 s zero = Stopped halted
+waitStep01 s (suc n) = unlessPast (Waited (suc n)) (wait01 (suc n) s) (markOf [] s (wait01 (suc n) s))
+
+-- "Fire.", with the chosen entry; "Wait. No entry matches and some delay is above 0"
+abbrev pub stepBy01 : ℕ → List Fact → State → Option Candidate → Step
+stepBy01 failure memory s none = waitStep01 s (soonest 0 (s .buffers))
+stepBy01 failure memory s (some c) = fireStep01 failure memory s c
+
+-- "Among those, the highest utility is chosen, then the lowest number."
+unfoldable pub step01 : Model → State → List ℕ → Step
+step01 m s table = stepBy01 (m .failure) (m .facts) s (choose (m .rules) (utilities (m .rules)) table)
+
+-- ---- a run of 01, with the store of request 2026-05
+
+-- "After each step the table is refreshed with that mark." "Numbers 7, 8 and 9 return the state, table and count after the steps already made; the step in question changes
+-- nothing."
+abbrev pub goOn01 : Model → Going → (Going → Run Going) → Step → Run Going
+goOn01 m g next (Stopped n) = ends n g
+goOn01 m g next (Made e s′ mark) =
+    before (record { clock = s′ .clock; event = e }) (next (going s′ (refresh01 (m .rules) s′ mark (g .table)) (storeAfter m (g .state) e (g .store))))
+
+-- so many steps at most, each of what the image and the store know, and with 14 "after 8"
+unfoldable pub runFrom01 : Model → ℕ → Going → Run Going
+runFrom01 m zero g = ends all-done g
+runFrom01 m (suc n) g = goOn01 m g (λ g′. runFrom01 m n g′) (ifRoom m (g .store) (g .state) (step01 (knowing m (g .store)) (g .state) (g .table)))
+
+-- ---- the run without a table: it "matches every rule afresh at each step"
+
+-- the rules from number k on, each with the next utility and its entry, worked out from the state
+unfoldable pub matched01 : ℕ → List Rule → List ℤ → State → List Candidate
+matched01 k [] us s = []
+matched01 k (r ∷ rs) us s = record { number = k; rule = r; utility = getD us 0 (pos 0); entry = entryOf01 r s } ∷ matched01 (k + 1) rs (drop 1 us) s
+
+-- "the highest utility is chosen, then the lowest number"
+abbrev pub chooseFresh01 : List Rule → State → Option Candidate
+chooseFresh01 rules s = highest lower none (keep counts (matched01 0 rules (utilities rules) s))
+
+-- "No entry matches and nothing is pending. No step is made."; else "the smallest such delay"
+abbrev pub waitFresh01 : State → ℕ → Move
+waitFresh01 s zero = Stays halted
+waitFresh01 s (suc n) = movesTo (Waited (suc n)) (wait01 (suc n) s)
+
+-- "Fire.", with the values of the chosen entry; "Wait. No entry matches and some delay is above 0". 7 has "no meaning here"
+abbrev pub moveBy01 : ℕ → List Fact → State → Option Candidate → Move
+moveBy01 failure memory s none = waitFresh01 s (soonest 0 (s .buffers))
+moveBy01 failure memory s (some c) = movesTo (Fired (c .number)) (fire01 failure memory (c .rule) (c .entry) s)
+
+-- a step from the state alone
+unfoldable pub move01 : Model → State → Move
+move01 m s = moveBy01 (m .failure) (m .facts) s (chooseFresh01 (m .rules) s)
+
+-- so many steps at most, with 14 "after 8" here too
+unfoldable pub freshFrom01 : Model → ℕ → Moving → Run Moving
+freshFrom01 m zero g = ends all-done g
+freshFrom01 m (suc n) g = moveOn m g (λ g′. freshFrom01 m n g′) (ifRoomFresh m (g .store) (g .state) (move01 (knowing m (g .store)) (g .state)))
 
 -- ---- a run but for flags: its number, its events, and what it leaves, table and store among it, with the flags of the state left out
 
