@@ -1,6 +1,6 @@
--- Request 2026-06, "rules that ask whether a buffer is busy", brings a second version of images and an error flag. Here: an image of version 1 means what it meant, the same
--- model and the same runs; and every model that has one has an image of version 2 with the same runs, where there is room for it. `Before` has document 01 as it stood, in its
--- words.
+-- Request 2026-06, "rules that ask whether a buffer is busy", brings a second version of images and an error flag. Here: an image of version 1 means what it meant: the same
+-- model, and its runs are those of document 01 but for flags; and every model that has one has an image of version 2 with the same runs, where there is room for it. `Before`
+-- has document 01 as it stood, in its words: reading, match, states, step and runs.
 use mathlib.Core.Path.{_≡_, refl, sym, _∙_}
 use mathlib.Core.Logic.{_↔_}
 use mathlib.Core.Bool.{true}
@@ -20,7 +20,7 @@ use Rattle.meaning.specs.Refresh.{testsMarked}
 use Rattle.meaning.specs.Run.{going, runFrom}
 use Rattle.meaning.specs.Calls.{traceLent, runLent, refreshOf}
 use Rattle.meaning.specs.Fresh.{moving, freshFrom, freshTraceLent, freshLent}
-use Rattle.promises.specs.Before.{versionOf, decode01By, decode01, NoQueries, matches01, testsMarked01, wellFormed01, unflagged}
+use Rattle.promises.specs.Before.{versionOf, decode01By, decode01, NoQueries, matches01, testsMarked01, wellFormed01, unflagged, runFrom01, freshFrom01}
 use Rattle.promises.specs.Before.{unflaggedRun, unflaggedFresh, unflaggedRan, unflaggedFreshRan, SecondVersion, SameAnswers}
 use Rattle.promises.specs.Proofs.VersionsRead as reading
 use Rattle.promises.specs.Proofs.VersionsFlags as flags
@@ -74,8 +74,17 @@ well-formed-unflagged m s well = flags.well-unflagged m s well
 
 -- ---- the same runs
 
--- Where no rule has a query, nobody sees a flag: from two states that are the same but for flags, with the same table and store, any number of steps gives the same number,
--- the same events with the same clocks, table and store, and leaves two such states again. (The table may be any, and the states ill formed.)
+-- Where no rule has a query, a run of any number of steps is the run of 01 from the state without its flags, with the same table and store: it has its number, its events with
+-- their clocks, and leaves its table, its store and, but for flags, its state. So is the run without a table. (The table may be any, and the state ill formed.)
+module _ (m : Model) (bare : NoQueries (m .rules)) (steps : ℕ) (s : State) (store : Option (List Chunk)) where
+  pub runs-as-before : (table : List ℕ) → unflaggedRun (runFrom m steps (going s table store)) ≡ runFrom01 m steps (going (unflagged s) table store)
+  runs-as-before table = runs.run-before m bare steps s table store
+
+  pub fresh-runs-as-before : unflaggedFresh (freshFrom m steps (moving s store)) ≡ freshFrom01 m steps (moving (unflagged s) store)
+  fresh-runs-as-before = runs.fresh-run-before m bare steps s store
+
+-- So nobody sees a flag there: from two states that are the same but for flags, with the same table and store, any number of steps gives the same number, the same events with
+-- the same clocks, table and store, and leaves two such states again.
 module _ (m : Model) (bare : NoQueries (m .rules)) (steps : ℕ) (s t : State) (alike : unflagged s ≡ unflagged t) (store : Option (List Chunk)) where
   pub runs-alike : (table : List ℕ) → unflaggedRun (runFrom m steps (going s table store)) ≡ unflaggedRun (runFrom m steps (going t table store))
   runs-alike table = runs.run-alike m bare steps s t table store alike

@@ -1,24 +1,28 @@
--- No rule without queries sees an error flag: of two states that are the same but for flags, matches, choices, marks and what is learned are the same, and a step leaves two
--- such states again.
+-- No rule without queries sees an error flag: what 01 said of a state without flags is what is said now of the state with them, of matches, refreshed tables, marks, what is
+-- learned, what fires and what waits.
 use mathlib.Core.Path.{_≡_, refl, sym, ap, ap₂, _∙_}
 use mathlib.Core.Bool.{true, not, and-true, or-false}
 use mathlib.Core.List.{List, [], _∷_, map, List·Memᴰ·head, List·Memᴰ·tail}
 use mathlib.Core.Option.{Option, none, some}
 use Prim.Native.Nat.{ℕ, zero, suc, _+_}
+use lib.IntN.{ℤ}
 use lib.ListN.{drop, List·getD-map, length-map}
 use Rattle.meaning.specs.declared.Buffer.{Buffer}
 use Rattle.meaning.specs.declared.State.{State}
 use Rattle.meaning.specs.Base.{every}
 use Rattle.meaning.specs.Model.{Model, Rule, Test, Action, Deed, Modify, Request, Clear, Fact}
 use Rattle.meaning.specs.State.{nothing, bufferOf, flagFits, wellBuffer, isUnused, wellFormed}
-use Rattle.meaning.specs.Match.{places, shows, matches, entryOf, freshTable}
-use Rattle.meaning.specs.Fire.{done, later, deedOn, after, change, fire}
+use Rattle.meaning.specs.Match.{places, shows, matches, entryOf}
+use Rattle.meaning.specs.Retrieval.{retrieve, retrieved}
+use Rattle.meaning.specs.Fire.{done, deedOn, after, change, fire}
 use Rattle.meaning.specs.Wait.{sooner, soonest, wait}
 use Rattle.meaning.specs.Mark.{arrived, markOf}
 use Rattle.meaning.specs.Refresh.{testsMarked, refresh}
 use Rattle.meaning.specs.Learning.{cleared}
+use Rattle.meaning.specs.Fresh.{matched}
 use Rattle.laws.specs.BaseLaws.{and-left, and-right, every-map}
-use Rattle.promises.specs.Before.{NoQueries, matches01, testsMarked01, wellBuffer01, isUnused01, wellFormed01, unflag, unflagged}
+use Rattle.promises.specs.Before.{NoQueries, matches01, entryOf01, testsMarked01, refresh01, matched01, wellBuffer01, isUnused01, wellFormed01, unflag, unflagged}
+use Rattle.promises.specs.Before.{retrieved01, done01, later01, after01, fire01, wait01}
 use Rattle.promises.specs.Proofs.Decoded.{and-true as all-true, all-weaken}
 
 -- ---- a rule without queries
@@ -55,17 +59,35 @@ shown-unflagged : (ts : List Test) (s : State) → every (λ t. shows t (bufferO
 shown-unflagged [] s = refl
 shown-unflagged (t ∷ ts) s = rw (buffer-unflagged s (t .buffer), shown-unflagged ts s) refl
 
-entry-unflagged : (r : Rule) → r .queries ≡ [] → (s : State) → entryOf r (unflagged s) ≡ entryOf r s
-unfolding entryOf
-entry-unflagged r bare s =
-    rw (matches-before r bare (unflagged s), matches-before r bare s, shown-unflagged (r .tests) s, places-unflagged (r .tests) s) refl
+pub entry-before : (r : Rule) → r .queries ≡ [] → (s : State) → entryOf r s ≡ entryOf01 r (unflagged s)
+unfolding entryOf entryOf01
+entry-before r bare s = rw (matches-before r bare s, shown-unflagged (r .tests) s, places-unflagged (r .tests) s) refl
 
-soonest-unflagged : (ms : ℕ) (bs : List Buffer) → soonest ms (map unflag bs) ≡ soonest ms bs
+pub refresh-before : (rules : List Rule) → NoQueries rules → (s : State) (mark : ℕ) (table : List ℕ) → refresh rules s mark table ≡ refresh01 rules (unflagged s) mark table
+unfolding refresh refresh01
+refresh-before [] bare s mark table = refl
+refresh-before (r ∷ rs) bare s mark table =
+    let none : r .queries ≡ [] = bare r (List·Memᴰ·head refl) in
+    rw (marked-before r none mark, entry-before r none s, refresh-before rs (λ q m. bare q (List·Memᴰ·tail m)) s mark (drop 9 table)) refl
+
+-- so two states that are the same but for flags have one refreshed table
+pub refresh-alike : (s t : State) → unflagged s ≡ unflagged t → (rules : List Rule) → NoQueries rules → (mark : ℕ) (table : List ℕ)
+    → refresh rules s mark table ≡ refresh rules t mark table
+refresh-alike s t alike rules bare mark table =
+    refresh-before rules bare s mark table ∙ ap (λ (x : State). refresh01 rules x mark table) alike ∙ sym (refresh-before rules bare t mark table)
+
+pub matched-before : (k : ℕ) (rules : List Rule) (us : List ℤ) → NoQueries rules → (s : State) → matched k rules us s ≡ matched01 k rules us (unflagged s)
+unfolding matched matched01
+matched-before k [] us bare s = refl
+matched-before k (r ∷ rs) us bare s =
+    rw (entry-before r (bare r (List·Memᴰ·head refl)) s, matched-before (k + 1) rs (drop 1 us) (λ q m. bare q (List·Memᴰ·tail m)) s) refl
+
+pub soonest-unflagged : (ms : ℕ) (bs : List Buffer) → soonest ms (map unflag bs) ≡ soonest ms bs
 unfolding soonest
 soonest-unflagged ms [] = refl
 soonest-unflagged ms (b ∷ bs) = soonest-unflagged (sooner ms (b .delay)) bs
 
-cleared-unflagged : (as′ : List Action) (i : ℕ) (bs : List Buffer) → cleared as′ i (map unflag bs) ≡ cleared as′ i bs
+pub cleared-unflagged : (as′ : List Action) (i : ℕ) (bs : List Buffer) → cleared as′ i (map unflag bs) ≡ cleared as′ i bs
 unfolding cleared
 cleared-unflagged as′ i [] = refl
 cleared-unflagged as′ i (b ∷ bs) = rw (cleared-unflagged as′ (i + 1) bs) refl
@@ -73,70 +95,39 @@ cleared-unflagged as′ i (b ∷ bs) = rw (cleared-unflagged as′ (i + 1) bs) r
 arrived-unflagged : (s s′ : State) (b : ℕ) → arrived (unflagged s) (unflagged s′) b ≡ arrived s s′ b
 arrived-unflagged s s′ b = rw (buffer-unflagged s b, buffer-unflagged s′ b) refl
 
-mark-unflagged : (as′ : List Action) (s s′ : State) → markOf as′ (unflagged s) (unflagged s′) ≡ markOf as′ s s′
+pub mark-unflagged : (as′ : List Action) (s s′ : State) → markOf as′ (unflagged s) (unflagged s′) ≡ markOf as′ s s′
 unfolding markOf
 mark-unflagged as′ s s′ = simp (length-map, arrived-unflagged)
 
 -- ---- what a step makes of a state: the same but for flags
 
-changed-unflagged : (f : ℕ → Buffer → Buffer) → ((i : ℕ) (b : Buffer) → unflag (f i (unflag b)) ≡ unflag (f i b)) → (i : ℕ) (bs : List Buffer)
-    → map unflag (change f i (map unflag bs)) ≡ map unflag (change f i bs)
+changed-before : (f g : ℕ → Buffer → Buffer) → ((i : ℕ) (b : Buffer) → unflag (f i b) ≡ g i (unflag b)) → (i : ℕ) (bs : List Buffer)
+    → map unflag (change f i bs) ≡ change g i (map unflag bs)
 unfolding change
-changed-unflagged f h i [] = refl
-changed-unflagged f h i (b ∷ bs) = ap₂ (λ (x : Buffer) (xs : List Buffer). x ∷ xs) (h i b) (changed-unflagged f h (i + 1) bs)
+changed-before f g h i [] = refl
+changed-before f g h i (b ∷ bs) = ap₂ (λ (x : Buffer) (xs : List Buffer). x ∷ xs) (h i b) (changed-before f g h (i + 1) bs)
+
+retrieved-before : (failure : ℕ) (o : Option Fact) → unflag (retrieved failure o) ≡ retrieved01 failure o
+retrieved-before failure none = refl
+retrieved-before failure (some f) = refl
 
 module _ (failure : ℕ) (memory : List Fact) (entry : List ℕ) where
-  after-unflagged : (b : Buffer) (d : Option Deed) → unflag (after failure memory entry (unflag b) d) ≡ unflag (after failure memory entry b d)
-  unfolding done
-  after-unflagged b none = refl
-  after-unflagged b (some (Modify ns)) = refl
-  after-unflagged b (some (Request isa ns)) = refl
-  after-unflagged b (some Clear) = refl
+  after-before : (b : Buffer) (d : Option Deed) → unflag (after failure memory entry b d) ≡ after01 failure memory entry (unflag b) d
+  unfolding done done01
+  after-before b none = refl
+  after-before b (some (Modify ns)) = refl
+  after-before b (some (Request isa ns)) = retrieved-before failure (retrieve memory isa ns entry)
+  after-before b (some Clear) = refl
 
-  fire-unflagged : (r : Rule) (s : State) → unflagged (fire failure memory r entry (unflagged s)) ≡ unflagged (fire failure memory r entry s)
-  unfolding fire
-  fire-unflagged r s =
+  pub fire-before : (r : Rule) (s : State) → unflagged (fire failure memory r entry s) ≡ fire01 failure memory r entry (unflagged s)
+  unfolding fire fire01
+  fire-before r s =
       ap (λ (bs : List Buffer). record { buffers = bs; clock = s .clock + 50 })
-      (changed-unflagged (λ i b. after failure memory entry b (deedOn (r .actions) i)) (λ i b. after-unflagged b (deedOn (r .actions) i)) 0 (s .buffers))
+      (changed-before _ (λ i b. after01 failure memory entry b (deedOn (r .actions) i)) (λ i b. after-before b (deedOn (r .actions) i)) 0 (s .buffers))
 
-wait-unflagged : (ms : ℕ) (s : State) → unflagged (wait ms (unflagged s)) ≡ unflagged (wait ms s)
-unfolding wait
-wait-unflagged ms s = ap (λ (bs : List Buffer). record { buffers = bs; clock = s .clock + ms }) (changed-unflagged (λ i b. later ms b) (λ i b. refl) 0 (s .buffers))
-
--- ---- so it is of two states that are the same but for flags
-
-module _ (s t : State) (alike : unflagged s ≡ unflagged t) where
-  seen : {A : Type 0} (f : State → A) → ((x : State) → f (unflagged x) ≡ f x) → f s ≡ f t
-  seen f h = sym (h s) ∙ ap f alike ∙ h t
-
-  pub entry-alike : (r : Rule) → r .queries ≡ [] → entryOf r s ≡ entryOf r t
-  entry-alike r bare = seen (entryOf r) (entry-unflagged r bare)
-
-  pub soonest-alike : soonest 0 (s .buffers) ≡ soonest 0 (t .buffers)
-  soonest-alike = seen (λ x. soonest 0 (x .buffers)) (λ x. soonest-unflagged 0 (x .buffers))
-
-  pub cleared-alike : (as′ : List Action) → cleared as′ 0 (s .buffers) ≡ cleared as′ 0 (t .buffers)
-  cleared-alike as′ = seen (λ x. cleared as′ 0 (x .buffers)) (λ x. cleared-unflagged as′ 0 (x .buffers))
-
-  pub fire-alike : (failure : ℕ) (memory : List Fact) (r : Rule) (entry : List ℕ) → unflagged (fire failure memory r entry s) ≡ unflagged (fire failure memory r entry t)
-  fire-alike failure memory r entry = seen (λ x. unflagged (fire failure memory r entry x)) (fire-unflagged failure memory entry r)
-
-  pub wait-alike : (ms : ℕ) → unflagged (wait ms s) ≡ unflagged (wait ms t)
-  wait-alike ms = seen (λ x. unflagged (wait ms x)) (wait-unflagged ms)
-
-  pub mark-alike : (as′ : List Action) (s′ t′ : State) → unflagged s′ ≡ unflagged t′ → markOf as′ s s′ ≡ markOf as′ t t′
-  mark-alike as′ s′ t′ after′ = sym (mark-unflagged as′ s s′) ∙ ap₂ (markOf as′) alike after′ ∙ mark-unflagged as′ t t′
-
-  pub refresh-alike : (rules : List Rule) → NoQueries rules → (mark : ℕ) (table : List ℕ) → refresh rules s mark table ≡ refresh rules t mark table
-  unfolding refresh
-  refresh-alike [] bare mark table = refl
-  refresh-alike (r ∷ rs) bare mark table =
-      rw (entry-alike r (bare r (List·Memᴰ·head refl)), refresh-alike rs (λ q m. bare q (List·Memᴰ·tail m)) mark (drop 9 table)) refl
-
-  pub fresh-alike : (rules : List Rule) → NoQueries rules → freshTable rules s ≡ freshTable rules t
-  unfolding freshTable
-  fresh-alike [] bare = refl
-  fresh-alike (r ∷ rs) bare = rw (entry-alike r (bare r (List·Memᴰ·head refl)), fresh-alike rs (λ q m. bare q (List·Memᴰ·tail m))) refl
+pub wait-before : (ms : ℕ) (s : State) → unflagged (wait ms s) ≡ wait01 ms (unflagged s)
+unfolding wait wait01
+wait-before ms s = ap (λ (bs : List Buffer). record { buffers = bs; clock = s .clock + ms }) (changed-before _ (λ i b. later01 ms b) (λ i b. refl) 0 (s .buffers))
 
 -- ---- a state without flags is judged as before
 

@@ -1,7 +1,7 @@
--- In a model without queries two states that are the same but for flags have the same runs but for flags: the same number, events, table and store.
+-- In a model without queries a run is the run of 01 but for flags: the same number, events, table and store. So the runs from two states that are the same but for flags are.
 use mathlib.Core.Path.{_≡_, refl, sym, ap, ap₂, _∙_}
 use mathlib.Core.Logic.{⊎-elim}
-use mathlib.Core.Bool.{true, false}
+use mathlib.Core.Bool.{Bool, true, false}
 use mathlib.Core.List.{List, [], _∷_, List·Memᴰ, List·Memᴰ·head, List·Memᴰ·tail, List·Memᴰ·not-nil, List·Memᴰ·cases-cons}
 use mathlib.Core.Option.{Option, none, some}
 use Prim.Native.Nat.{ℕ, zero, suc, _+_}
@@ -9,11 +9,11 @@ use lib.Dec.{leb}
 use lib.ListN.{getD, take, drop}
 use lib.IntN.{ℤ, pos}
 use Rattle.meaning.specs.declared.State.{State}
-use Rattle.meaning.specs.Base.{if_then_else_, same}
+use Rattle.meaning.specs.Base.{if_then_else_, keep, same}
+use Rattle.meaning.specs.Highest.{highest}
 use Rattle.meaning.specs.Numbers.{not-fresh, clock-full, store-full}
-use Rattle.meaning.specs.Model.{Model, Rule, Chunk, Fact}
-use Rattle.meaning.specs.Match.{entryOf, freshTable}
-use Rattle.meaning.specs.Choice.{Candidate, candidates, choose, utilities}
+use Rattle.meaning.specs.Model.{Model, Rule, Action, Chunk, Fact}
+use Rattle.meaning.specs.Choice.{Candidate, candidates, counts, lower, choose, utilities}
 use Rattle.meaning.specs.Fire.{fire}
 use Rattle.meaning.specs.Wait.{soonest, wait}
 use Rattle.meaning.specs.Mark.{markOf}
@@ -21,13 +21,11 @@ use Rattle.meaning.specs.Refresh.{refresh}
 use Rattle.meaning.specs.Step.{Event, Fired, Waited, Step, Stopped, Made, largest, unlessPast, fireStep, waitStep, stepBy, step, stepOf}
 use Rattle.meaning.specs.Learning.{knowing, actionsOf, storeAfter, overfull, ifRoom, stepWith}
 use Rattle.meaning.specs.Run.{Going, going, Run, before, goOn, runFrom}
-use Rattle.meaning.specs.Fresh.{Moving, moving, freshFrom}
+use Rattle.meaning.specs.Fresh.{chooseFresh, Move, Stays, Moves, movesTo, waitFresh, moveBy, move, moveOf, Moving, moving, ifRoomFresh, moveWith, moveOn, freshFrom}
 use Rattle.laws.specs.ChoiceLaws.{choose-best}
-use Rattle.promises.specs.Words.{AsKept}
-use Rattle.promises.specs.Before.{NoQueries, unflagged, unflaggedRun, unflaggedFresh}
-use Rattle.promises.specs.Proofs.Steps.{no-made}
-use Rattle.promises.specs.Proofs.Afresh.{run-as-kept}
-use Rattle.promises.specs.Proofs.VersionsFlags.{entry-alike, soonest-alike, cleared-alike, fire-alike, wait-alike, mark-alike, refresh-alike, fresh-alike}
+use Rattle.promises.specs.Before.{NoQueries, entryOf01, unflagged, unflaggedRun, unflaggedFresh, wait01, fireStep01, waitStep01, stepBy01, step01}
+use Rattle.promises.specs.Before.{goOn01, runFrom01, waitFresh01, moveBy01, move01, freshFrom01}
+use Rattle.promises.specs.Proofs.VersionsFlags.{entry-before, refresh-before, matched-before, soonest-unflagged, cleared-unflagged, mark-unflagged, fire-before, wait-before}
 
 -- ---- the rule that is chosen is one of the model's
 
@@ -41,128 +39,152 @@ candidate-rule k (r ∷ rs) us table {c} h =
 
 -- ---- a step but for flags
 
+-- what is made of a choice is the choice of what is made
+chosen : {A B : Type 0} (f : A → B) (t : Bool) (x y : A) → f (if t then x else y) ≡ (if t then f x else f y)
+chosen f true x y = refl
+chosen f false x y = refl
+
 abbrev unflaggedStep : Step → Step
 unflaggedStep (Stopped n) = Stopped n
 unflaggedStep (Made e s mark) = Made e (unflagged s) mark
 
-past-unflagged : (e : Event) (s : State) (mark : ℕ) → unflaggedStep (unlessPast e s mark) ≡ unlessPast e (unflagged s) mark
-past-unflagged e s mark =
-    elim (leb (s .clock) largest) as
-    (λ b. unflaggedStep (if b then Made e s mark else Stopped clock-full) ≡ (if b then Made e (unflagged s) mark else Stopped clock-full)) [
-      | true ↦ refl
-      | false ↦ refl
-    ]
+-- a state after a step is marked as it was, and the clock stops it as it did
+past-before : (e : Event) (as′ : List Action) (s s′ t′ : State) → unflagged s′ ≡ t′
+    → unflaggedStep (unlessPast e s′ (markOf as′ s s′)) ≡ unlessPast e t′ (markOf as′ (unflagged s) t′)
+past-before e as′ s s′ t′ after =
+    chosen unflaggedStep (leb (s′ .clock) largest) (Made e s′ (markOf as′ s s′)) (Stopped clock-full)
+    ∙ ap₂ (unlessPast e) after (sym (mark-unflagged as′ s s′) ∙ ap (markOf as′ (unflagged s)) after)
 
-past-alike : (e : Event) (s t : State) (mark mark′ : ℕ) → unflagged s ≡ unflagged t → mark ≡ mark′ → unflaggedStep (unlessPast e s mark) ≡ unflaggedStep (unlessPast e t mark′)
-past-alike e s t mark mark′ alike marks = past-unflagged e s mark ∙ ap₂ (unlessPast e) alike marks ∙ sym (past-unflagged e t mark′)
+fired-before : (failure : ℕ) (memory : List Fact) (s : State) (c : Candidate) → c .rule .queries ≡ []
+    → unflaggedStep (fireStep failure memory s c) ≡ fireStep01 failure memory (unflagged s) c
+unfolding fireStep fireStep01
+fired-before failure memory s c bare =
+    let s′ : State = fire failure memory (c .rule) (c .entry) s in
+    let past = past-before (Fired (c .number)) (c .rule .actions) s s′ _ (fire-before failure memory (c .entry) (c .rule) s) in
+    let fresh : Bool = same (c .entry) (entryOf01 (c .rule) (unflagged s)) in
+    rw (entry-before (c .rule) bare s)
+    (chosen unflaggedStep fresh (unlessPast (Fired (c .number)) s′ (markOf (c .rule .actions) s s′)) (Stopped not-fresh)
+    ∙ ap (λ (st : Step). if fresh then st else Stopped not-fresh) past)
 
-module _ (s t : State) (alike : unflagged s ≡ unflagged t) where
-  fired-alike : (failure : ℕ) (memory : List Fact) (c : Candidate) → c .rule .queries ≡ [] → unflaggedStep (fireStep failure memory s c) ≡ unflaggedStep (fireStep failure memory t c)
-  unfolding fireStep
-  fired-alike failure memory c bare =
-      let s′ : State = fire failure memory (c .rule) (c .entry) s in
-      let t′ : State = fire failure memory (c .rule) (c .entry) t in
-      let after : unflagged s′ ≡ unflagged t′ = fire-alike s t alike failure memory (c .rule) (c .entry) in
-      let past = past-alike (Fired (c .number)) s′ t′ _ _ after (mark-alike s t alike (c .rule .actions) s′ t′ after) in
-      rw (entry-alike s t alike (c .rule) bare)
-      (elim (same (c .entry) (entryOf (c .rule) t)) as
-      (λ b. unflaggedStep (if b then unlessPast (Fired (c .number)) s′ (markOf (c .rule .actions) s s′) else Stopped not-fresh)
-      ≡ unflaggedStep (if b then unlessPast (Fired (c .number)) t′ (markOf (c .rule .actions) t t′) else Stopped not-fresh)) [
-        | true ↦ past
-        | false ↦ refl
-      ])
+waited-before : (s : State) (ms : ℕ) → unflaggedStep (waitStep s ms) ≡ waitStep01 (unflagged s) ms
+waited-before s zero = refl
+waited-before s (suc n) = past-before (Waited (suc n)) [] s (wait (suc n) s) (wait01 (suc n) (unflagged s)) (wait-before (suc n) s)
 
-  waited-alike : (ms : ℕ) → unflaggedStep (waitStep s ms) ≡ unflaggedStep (waitStep t ms)
-  waited-alike zero = refl
-  waited-alike (suc n) =
-      let after : unflagged (wait (suc n) s) ≡ unflagged (wait (suc n) t) = wait-alike s t alike (suc n) in
-      past-alike (Waited (suc n)) (wait (suc n) s) (wait (suc n) t) _ _ after (mark-alike s t alike [] (wait (suc n) s) (wait (suc n) t) after)
+step-before : (m : Model) → NoQueries (m .rules) → (s : State) (table : List ℕ) → unflaggedStep (stepOf m s table) ≡ step01 m (unflagged s) table
+unfolding step step01
+step-before m bare s table = by (choose (m .rules) (utilities (m .rules)) table) refl
+  where
+    by : (o : Option Candidate) → choose (m .rules) (utilities (m .rules)) table ≡ o
+        → unflaggedStep (stepBy (m .failure) (m .facts) s o) ≡ stepBy01 (m .failure) (m .facts) (unflagged s) o
+    by none e = rw (soonest-unflagged 0 (s .buffers)) (waited-before s (soonest 0 (s .buffers)))
+    by (some c) e =
+        fired-before (m .failure) (m .facts) s c
+        (bare (c .rule) (candidate-rule 0 (m .rules) (utilities (m .rules)) table (choose-best (m .rules) (utilities (m .rules)) table c e .candidate)))
 
-  step-alike : (m : Model) → NoQueries (m .rules) → (table : List ℕ) → unflaggedStep (stepOf m s table) ≡ unflaggedStep (stepOf m t table)
-  unfolding step
-  step-alike m bare table = by (choose (m .rules) (utilities (m .rules)) table) refl
-    where
-      by : (o : Option Candidate) → choose (m .rules) (utilities (m .rules)) table ≡ o → unflaggedStep (stepBy (m .failure) (m .facts) s o) ≡ unflaggedStep (stepBy (m .failure) (m .facts) t o)
-      by none e = rw (soonest-alike s t alike) (waited-alike (soonest 0 (t .buffers)))
-      by (some c) e =
-          fired-alike (m .failure) (m .facts) c
-          (bare (c .rule) (candidate-rule 0 (m .rules) (utilities (m .rules)) table (choose-best (m .rules) (utilities (m .rules)) table c e .candidate)))
+-- ---- with a store
 
-  -- ---- with a store
+store-unflagged : (m : Model) (s : State) (e : Event) (store : Option (List Chunk)) → storeAfter m (unflagged s) e store ≡ storeAfter m s e store
+store-unflagged m s e none = refl
+store-unflagged m s (Fired k) (some store) = rw (cleared-unflagged (actionsOf (m .rules) k) 0 (s .buffers)) refl
+store-unflagged m s (Waited ms) (some store) = refl
 
-  store-alike : (m : Model) (e : Event) (store : Option (List Chunk)) → storeAfter m s e store ≡ storeAfter m t e store
-  store-alike m e none = refl
-  store-alike m (Fired k) (some store) = rw (cleared-alike s t alike (actionsOf (m .rules) k)) refl
-  store-alike m (Waited ms) (some store) = refl
-
-  room-alike : (m : Model) (store : Option (List Chunk)) (st : Step) → ifRoom m store s st ≡ ifRoom m store t st
-  room-alike m store (Stopped n) = refl
-  room-alike m store (Made e s′ mark) = rw (store-alike m e store) refl
-
-room-unflagged : (m : Model) (store : Option (List Chunk)) (s : State) (st : Step) → unflaggedStep (ifRoom m store s st) ≡ ifRoom m store s (unflaggedStep st)
+room-unflagged : (m : Model) (store : Option (List Chunk)) (s : State) (st : Step) → unflaggedStep (ifRoom m store s st) ≡ ifRoom m store (unflagged s) (unflaggedStep st)
 room-unflagged m store s (Stopped n) = refl
 room-unflagged m store s (Made e s′ mark) =
-    elim (overfull (storeAfter m s e store)) as
-    (λ b. unflaggedStep (if b then Stopped store-full else (Made e s′ mark)) ≡ (if b then Stopped store-full else (Made e (unflagged s′) mark))) [
-      | true ↦ refl
-      | false ↦ refl
-    ]
+    rw (store-unflagged m s e store) (chosen unflaggedStep (overfull (storeAfter m s e store)) (Stopped store-full) (Made e s′ mark))
 
 known-bare : (m : Model) (store : Option (List Chunk)) → NoQueries (m .rules) → NoQueries (knowing m store .rules)
 known-bare m none bare = bare
 known-bare m (some cs) bare = bare
 
-with-alike : (m : Model) → NoQueries (m .rules) → (store : Option (List Chunk)) (s t : State) → unflagged s ≡ unflagged t → (table : List ℕ)
-    → unflaggedStep (stepWith m store s table) ≡ unflaggedStep (stepWith m store t table)
-with-alike m bare store s t alike table =
-    room-unflagged m store s (stepOf (knowing m store) s table)
-    ∙ ap (ifRoom m store s) (step-alike s t alike (knowing m store) (known-bare m store bare) table)
-    ∙ room-alike s t alike m store (unflaggedStep (stepOf (knowing m store) t table))
-    ∙ sym (room-unflagged m store t (stepOf (knowing m store) t table))
+with-before : (m : Model) → NoQueries (m .rules) → (store : Option (List Chunk)) (s : State) (table : List ℕ)
+    → unflaggedStep (stepWith m store s table) ≡ ifRoom m store (unflagged s) (step01 (knowing m store) (unflagged s) table)
+with-before m bare store s table =
+    room-unflagged m store s (stepOf (knowing m store) s table) ∙ ap (ifRoom m store (unflagged s)) (step-before (knowing m store) (known-bare m store bare) s table)
+
+-- ---- a step without a table, so
+
+abbrev unflaggedMove : Move → Move
+unflaggedMove (Stays n) = Stays n
+unflaggedMove (Moves e s) = Moves e (unflagged s)
+
+moves-before : (e : Event) (s t : State) → unflagged s ≡ t → unflaggedMove (movesTo e s) ≡ movesTo e t
+moves-before e s t after =
+    chosen unflaggedMove (leb (s .clock) largest) (Moves e s) (Stays clock-full) ∙ ap (movesTo e) after
+
+waited-fresh-before : (s : State) (ms : ℕ) → unflaggedMove (waitFresh s ms) ≡ waitFresh01 (unflagged s) ms
+waited-fresh-before s zero = refl
+waited-fresh-before s (suc n) = moves-before (Waited (suc n)) (wait (suc n) s) (wait01 (suc n) (unflagged s)) (wait-before (suc n) s)
+
+moved-before : (failure : ℕ) (memory : List Fact) (s : State) (o : Option Candidate) → unflaggedMove (moveBy failure memory s o) ≡ moveBy01 failure memory (unflagged s) o
+moved-before failure memory s none = rw (soonest-unflagged 0 (s .buffers)) (waited-fresh-before s (soonest 0 (s .buffers)))
+moved-before failure memory s (some c) = moves-before (Fired (c .number)) _ _ (fire-before failure memory (c .entry) (c .rule) s)
+
+move-before : (m : Model) → NoQueries (m .rules) → (s : State) → unflaggedMove (moveOf m s) ≡ move01 m (unflagged s)
+unfolding move move01 chooseFresh
+move-before m bare s =
+    moved-before (m .failure) (m .facts) s (chooseFresh (m .rules) (utilities (m .rules)) s)
+    ∙ ap (λ (cs : List Candidate). moveBy01 (m .failure) (m .facts) (unflagged s) (highest lower none (keep counts cs)))
+    (matched-before 0 (m .rules) (utilities (m .rules)) bare s)
+
+room-fresh-unflagged : (m : Model) (store : Option (List Chunk)) (s : State) (v : Move)
+    → unflaggedMove (ifRoomFresh m store s v) ≡ ifRoomFresh m store (unflagged s) (unflaggedMove v)
+room-fresh-unflagged m store s (Stays n) = refl
+room-fresh-unflagged m store s (Moves e s′) =
+    rw (store-unflagged m s e store) (chosen unflaggedMove (overfull (storeAfter m s e store)) (Stays store-full) (Moves e s′))
+
+with-fresh-before : (m : Model) → NoQueries (m .rules) → (store : Option (List Chunk)) (s : State)
+    → unflaggedMove (moveWith m store s) ≡ ifRoomFresh m store (unflagged s) (move01 (knowing m store) (unflagged s))
+with-fresh-before m bare store s =
+    room-fresh-unflagged m store s (moveOf (knowing m store) s) ∙ ap (ifRoomFresh m store (unflagged s)) (move-before (knowing m store) (known-bare m store bare) s)
 
 -- ---- a run
 
--- two steps that are the same but for flags, and from there two such runs
-abbrev Going-on : (Going → Run Going) → Type 0
-Going-on next = (s t : State) (table : List ℕ) (store : Option (List Chunk)) → unflagged s ≡ unflagged t
-    → unflaggedRun (next (going s table store)) ≡ unflaggedRun (next (going t table store))
-
 module _ (m : Model) (bare : NoQueries (m .rules)) where
-  on-alike : (s t : State) (table : List ℕ) (store : Option (List Chunk)) → unflagged s ≡ unflagged t → (next : Going → Run Going) → Going-on next
-      → (st st′ : Step) → unflaggedStep st ≡ unflaggedStep st′ → unflaggedRun (goOn m (going s table store) next st) ≡ unflaggedRun (goOn m (going t table store) next st′)
-  on-alike s t table store alike next h (Stopped n) (Stopped k) e =
-      ap₂ (λ (i : ℕ) (x : State). record { events = []; number = i; left = going x table store }) (cc) alike
-  on-alike s t table store alike next h (Stopped n) (Made f t′ k) e = no-made n f (unflagged t′) k e
-  on-alike s t table store alike next h (Made f s′ k) (Stopped n) e = no-made n f (unflagged s′) k (sym e)
-  on-alike s t table store alike next h (Made f s′ mark) (Made f′ t′ mark′) e =
-      let events : f ≡ f′ = cc in
-      let marks : mark ≡ mark′ = cc in
-      let after : unflagged s′ ≡ unflagged t′ = cc in
-      let tables : refresh (m .rules) s′ mark table ≡ refresh (m .rules) t′ mark′ table =
-      refresh-alike s′ t′ after (m .rules) bare mark table ∙ ap (λ (x : ℕ). refresh (m .rules) t′ x table) marks in
-      let stores : storeAfter m s f store ≡ storeAfter m t f′ store = store-alike s t alike m f store ∙ ap (λ (x : Event). storeAfter m t x store) events in
-      ap₂ before (ap₂ (λ (x : State) (y : Event). record { clock = x .clock; event = y }) after events)
-      (ap₂ (λ (x : List ℕ) (y : Option (List Chunk)). unflaggedRun (next (going s′ x y))) tables stores
-      ∙ h s′ t′ (refresh (m .rules) t′ mark′ table) (storeAfter m t f′ store) after)
+  -- a step, and from there a run that is the one of 01 but for flags
+  abbrev Going-on : (Going → Run Going) → (Going → Run Going) → Type 0
+  Going-on next next′ = (s : State) (table : List ℕ) (store : Option (List Chunk)) → unflaggedRun (next (going s table store)) ≡ next′ (going (unflagged s) table store)
 
-  pub run-alike : (n : ℕ) → Going-on (runFrom m n)
-  unfolding runFrom
-  run-alike zero s t table store alike = ap (λ (x : State). record { events = []; number = 0; left = going x table store }) alike
-  run-alike (suc n) s t table store alike =
-      on-alike s t table store alike (λ g. runFrom m n g) (run-alike n) (stepWith m store s table) (stepWith m store t table) (with-alike m bare store s t alike table)
+  on-before : (next next′ : Going → Run Going) → Going-on next next′ → (s : State) (table : List ℕ) (store : Option (List Chunk)) (st : Step)
+      → unflaggedRun (goOn m (going s table store) next st) ≡ goOn01 m (going (unflagged s) table store) next′ (unflaggedStep st)
+  on-before next next′ h s table store (Stopped n) = refl
+  on-before next next′ h s table store (Made e s′ mark) =
+      ap (before (record { clock = s′ .clock; event = e }))
+      (h s′ (refresh (m .rules) s′ mark table) (storeAfter m s e store)
+      ∙ ap₂ (λ (x : List ℕ) (y : Option (List Chunk)). next′ (going (unflagged s′) x y)) (refresh-before (m .rules) bare s′ mark table) (sym (store-unflagged m s e store)))
 
-  -- ---- and the run without a table is one with the fresh table
+  pub run-before : (n : ℕ) → Going-on (runFrom m n) (runFrom01 m n)
+  unfolding runFrom runFrom01
+  run-before zero s table store = refl
+  run-before (suc n) s table store =
+      on-before (λ g. runFrom m n g) (λ g. runFrom01 m n g) (run-before n) s table store (stepWith m store s table)
+      ∙ ap (goOn01 m (going (unflagged s) table store) (λ g. runFrom01 m n g)) (with-before m bare store s table)
 
-  abbrev tableless : Run Going → Run Moving
-  tableless r = record { events = r .events; number = r .number; left = moving (r .left .state) (r .left .store) }
+  abbrev Moving-on : (Moving → Run Moving) → (Moving → Run Moving) → Type 0
+  Moving-on next next′ = (s : State) (store : Option (List Chunk)) → unflaggedFresh (next (moving s store)) ≡ next′ (moving (unflagged s) store)
 
-  as-tableless : (kept : Run Going) (fresh : Run Moving) → AsKept kept fresh → unflaggedFresh fresh ≡ tableless (unflaggedRun kept)
-  as-tableless kept fresh a = rw (a .same-events, a .same-number, a .same-state, a .same-store) refl
+  on-fresh-before : (next next′ : Moving → Run Moving) → Moving-on next next′ → (s : State) (store : Option (List Chunk)) (v : Move)
+      → unflaggedFresh (moveOn m (moving s store) next v) ≡ moveOn m (moving (unflagged s) store) next′ (unflaggedMove v)
+  on-fresh-before next next′ h s store (Stays n) = refl
+  on-fresh-before next next′ h s store (Moves e s′) =
+      ap (before (record { clock = s′ .clock; event = e }))
+      (h s′ (storeAfter m s e store) ∙ ap (λ (x : Option (List Chunk)). next′ (moving (unflagged s′) x)) (sym (store-unflagged m s e store)))
+
+  pub fresh-run-before : (n : ℕ) → Moving-on (freshFrom m n) (freshFrom01 m n)
+  unfolding freshFrom freshFrom01
+  fresh-run-before zero s store = refl
+  fresh-run-before (suc n) s store =
+      on-fresh-before (λ g. freshFrom m n g) (λ g. freshFrom01 m n g) (fresh-run-before n) s store (moveWith m store s)
+      ∙ ap (moveOn m (moving (unflagged s) store) (λ g. freshFrom01 m n g)) (with-fresh-before m bare store s)
+
+  -- ---- so it is from two states that are the same but for flags
+
+  pub run-alike : (n : ℕ) (s t : State) (table : List ℕ) (store : Option (List Chunk)) → unflagged s ≡ unflagged t
+      → unflaggedRun (runFrom m n (going s table store)) ≡ unflaggedRun (runFrom m n (going t table store))
+  run-alike n s t table store alike =
+      run-before n s table store ∙ ap (λ (x : State). runFrom01 m n (going x table store)) alike ∙ sym (run-before n t table store)
 
   pub fresh-run-alike : (n : ℕ) (s t : State) (store : Option (List Chunk)) → unflagged s ≡ unflagged t
       → unflaggedFresh (freshFrom m n (moving s store)) ≡ unflaggedFresh (freshFrom m n (moving t store))
   fresh-run-alike n s t store alike =
-      as-tableless _ _ (run-as-kept m n (moving s store))
-      ∙ ap (λ (table : List ℕ). tableless (unflaggedRun (runFrom m n (going s table store)))) (fresh-alike s t alike (m .rules) bare)
-      ∙ ap tableless (run-alike n s t (freshTable (m .rules) t) store alike)
-      ∙ sym (as-tableless _ _ (run-as-kept m n (moving t store)))
+      fresh-run-before n s store ∙ ap (λ (x : State). freshFrom01 m n (moving x store)) alike ∙ sym (fresh-run-before n t store)
