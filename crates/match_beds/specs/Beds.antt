@@ -32,7 +32,7 @@ isSure sets k = member sets 48 k
 
 -- the bed for a word of the state and the value wanted there; any number below 256 would do
 abbrev pub bedOf : ℕ → ℕ → ℕ
-bedOf place value = (value + 23 * place) % 256
+bedOf place value = (value + 75 * place) % 256
 
 -- ---- what holds of these words
 

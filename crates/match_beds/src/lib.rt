@@ -34,7 +34,7 @@ fn bed(place: usize, value: u16) -> usize
     requires { ⌜ place < 88 ⌝ }
     ensures { λ h. ⌜ h ≡ bedOf place value ⌝ }
 {
-    (value as usize + 23 * place) % 256
+    (value as usize + 75 * place) % 256
 }
 
 // Those who sleep in bed h are awake.
