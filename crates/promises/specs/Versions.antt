@@ -121,7 +121,7 @@ module _ (image : List ℕ) (other : versionOf image ≡ 2 → ⊥) (s : State) 
   pub refresh-unflagged : (mark : ℕ) (table : List ℕ) → refreshOf image (unflagged s) mark table ≡ refreshOf image s mark table
   refresh-unflagged = calls.refresh-call-alike image other (unflagged s) s (unflagged-alike s) judged
 
--- ---- "Every version 1 model has a version 2 image with the same runs"
+-- ---- every version 1 model has a version 2 image with the same runs, if that is not too long
 
 -- Of every accepted image of version 1 there is an image of version 2, of bytes and with 2 as its first, that decodes to the same model: four bits longer for each rule, if that
 -- is within the 65,536 bytes that an image may have.
