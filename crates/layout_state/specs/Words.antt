@@ -10,7 +10,7 @@ use Rattle.meaning.specs.Base.{if_then_else_, every, upFrom}
 use Rattle.meaning.specs.Model.{Model}
 use Rattle.meaning.specs.State.{wellBuffer, isUnused, wellFormed}
 use Rattle.layout.specs.Rows.{rowsIn}
-use Rattle.layout.specs.StateWords.{bufferIn, buffersIn, stateIn}
+use Rattle.layout.specs.StateWords.{buffersIn, stateIn}
 
 -- the word of a flag: 1 if it is set
 abbrev pub flagWord : Bool → ℕ
@@ -28,16 +28,15 @@ bufferAt w o = record { isa = getD w o 0; slots = map (λ b. getD w (o + b) 0) (
 abbrev pub stretch : List ℕ → ℕ → ℕ → List ℕ
 stretch w from end = rowsIn (λ j. getD w j 0) from (end - from)
 
--- the first buffers are well formed, and those past them unused
-abbrev pub firstWell : List ℕ → ℕ → List ℕ → Bool
-firstWell types buffers w = every (wellBuffer types) (rowsIn (bufferIn w) 0 buffers)
+-- `wellFormed` of the state in words, by what of the model it is judged by: each buffer, and those past the count
+abbrev pub allWell : List ℕ → List ℕ → Bool
+allWell types w = every (wellBuffer types) (buffersIn w)
 
 abbrev pub restUnused : ℕ → List ℕ → Bool
 restUnused buffers w = every isUnused (drop buffers (buffersIn w))
 
--- `wellFormed` of the state in words, by what of the model it is judged by
 abbrev pub wellIn : List ℕ → ℕ → List ℕ → Bool
-wellIn types buffers w = every (wellBuffer types) (buffersIn w) && restUnused buffers w
+wellIn types buffers w = allWell types w && restUnused buffers w
 
 pub well-in : (m : Model) (w : List ℕ) (clock : ℕ) → wellFormed m (stateIn w clock) ≡ wellIn (m .types) (m .buffers) w
 unfolding wellFormed

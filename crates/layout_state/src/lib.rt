@@ -1,12 +1,12 @@
 // A state by value laid into 88 words and read back, and whether the state in words is well formed.
 ghost use mathlib.Core.Path.{_≡_};
-ghost use Prim.Native.Nat.{_+_, _*_, _≤_, _<_};
+ghost use Prim.Native.Nat.{_+_, _*_, _≤_};
 ghost use lib.Dec.{leb};
 ghost use lib.ListN.{length, getD, take};
 ghost use Rattle.meaning.specs.Base.{every};
 ghost use Rattle.meaning.specs.State.{isNil, flagFits, wellBuffer, isUnused};
 ghost use Rattle.layout.specs.StateWords.{bufferIn, buffersIn, stateIn};
-ghost use Rattle.layout_state.specs.Words.{flagWord, Flags, bufferAt, stretch, firstWell, restUnused, wellIn};
+ghost use Rattle.layout_state.specs.Words.{flagWord, Flags, bufferAt, stretch, allWell, restUnused, wellIn};
 use layout::BUFFER_WORDS;
 use meaning::Buffer;
 use meaning::State;
@@ -147,13 +147,13 @@ fn well_buffer(words: &[u16], types: &[u16], k: usize) -> bool
     flag_fits(words, k)
 }
 
-// Whether each of the first buffers is well formed.
-fn first_well(words: &[u16], types: &[u16], buffers: usize) -> bool
-    requires { ⌜ (88 ≤ length (now words)) × (buffers ≤ 8) ⌝ }
-    ensures { λ r. ⌜ r ≡ firstWell (now (types .entry)) buffers (now (words .entry)) ⌝ }
+// Whether each buffer is well formed.
+fn all_well(words: &[u16], types: &[u16]) -> bool
+    requires { ⌜ 88 ≤ length (now words) ⌝ }
+    ensures { λ r. ⌜ r ≡ allWell (now (types .entry)) (now (words .entry)) ⌝ }
 {
     let mut k = 0;
-    while k < buffers {
+    while k < 8 {
         if !well_buffer(words, types, k) {
             return false;
         }
@@ -192,12 +192,12 @@ fn rest_unused(words: &[u16], buffers: usize) -> bool
     true
 }
 
-// Whether the state in words is well formed: each of the model's buffers is, and those past its count are unused, and so well formed too.
+// Whether the state in words is well formed: each buffer is, and those past the model's count are unused.
 pub fn well_formed(words: &[u16], types: &[u16], buffers: usize) -> bool
-    requires { ⌜ (88 ≤ length (now words)) × (buffers ≤ 8) × (0 < length (now types)) ⌝ }
+    requires { ⌜ (88 ≤ length (now words)) × (buffers ≤ 8) ⌝ }
     ensures { λ r. ⌜ r ≡ wellIn (now (types .entry)) buffers (now (words .entry)) ⌝ }
 {
-    if !first_well(words, types, buffers) {
+    if !all_well(words, types) {
         return false;
     }
     rest_unused(words, buffers)

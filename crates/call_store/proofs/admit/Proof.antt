@@ -55,10 +55,7 @@ cast-well-formed : tie.Need-cast-well-formed
 cast-well-formed c = search needs
 
 well-formed-requires : tie.Need-well-formed-requires
-well-formed-requires c κs =
-    let s = start (laid (c .before .before .before)) in
-    let many = length-take-le (s .args .plan .declared + 1) (s .args .tape .now) (declared s) in
-    (search needs, search needs, omega (arith, many))
+well-formed-requires c κs = search needs
 
 same-length : tie.Need-same-length
 same-length c = search needs
