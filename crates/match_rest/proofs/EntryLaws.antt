@@ -52,7 +52,8 @@ module _ (table : List ℕ) (k : ℕ) (nine : List ℕ) (l : length nine ≡ 9) 
   pub entry-other : (j : ℕ) → (j ≡ k → ⊥) → entryAt (withEntry table k nine) j ≡ entryAt table j
   entry-other j d =
       ext-getD 0 (entryAt (withEntry table k nine) j) (entryAt table j)
-      (length-take 9 (drop (9 * j) (withEntry table k nine)) ∙ ap (min 9) (length-drop (9 * j) (withEntry table k nine) ∙ ap (λ (n : ℕ). n - 9 * j) with-length ∙ sym (length-drop (9 * j) table))
+      (length-take 9 (drop (9 * j) (withEntry table k nine)) ∙ ap (min 9) (length-drop (9 * j) (withEntry table k nine)
+      ∙ ap (λ (n : ℕ). n - 9 * j) with-length ∙ sym (length-drop (9 * j) table))
       ∙ sym (length-take 9 (drop (9 * j) table)))
       (λ i h.
       let low : i < 9 = omega (arith, length-take 9 (drop (9 * j) (withEntry table k nine)), min-le-left 9 (length (drop (9 * j) (withEntry table k nine)))) in
@@ -75,7 +76,8 @@ entry-later t k = let e : 9 + 9 * k ≡ 9 * (k + 1) = omega arith in let f : 9 *
 
 module _ (rule : ℕ → Rule) (s : State) (mark : ℕ) where
   from : (n i : ℕ) (table table′ : List ℕ) → length table′ ≡ 9 * n
-      → ((k : ℕ) → k < n → entryAt table′ k ≡ (if testsMarked mark (rule (i + k)) then entryOf (rule (i + k)) s else entryAt table k)) → table′ ≡ refresh (rowsIn rule i n) s mark table
+      → ((k : ℕ) → k < n → entryAt table′ k ≡ (if testsMarked mark (rule (i + k)) then entryOf (rule (i + k)) s else entryAt table k))
+      → table′ ≡ refresh (rowsIn rule i n) s mark table
   unfolding refresh rowsIn
   from zero i table [] l all = refl
   from zero i table (x ∷ t) l all = absurd (omega arith)

@@ -63,7 +63,8 @@ module _ (heads words order : List ℕ) (n mark : ℕ) (before state table sets 
       ]
 
   -- STILL SHUT, OR WOKEN: the word of a rule that still sleeps is still another, if its buffer is visible
-  still : (k : ℕ) → k < n → isAwake sets′ k ≡ false → (a : Asleep heads words before table sets k) → getD state (delayOf (a .place)) 0 ≡ 0 → getD state (a .place) 0 ≡ a .value → ⊥
+  still : (k : ℕ) → k < n → isAwake sets′ k ≡ false → (a : Asleep heads words before table sets k)
+      → getD state (delayOf (a .place)) 0 ≡ 0 → getD state (a .place) 0 ≡ a .value → ⊥
   still k h no-one a shown e =
       by-test (bit mark (a .place / 11))
       (λ m.
@@ -167,7 +168,8 @@ pub record Renewed (heads words : List ℕ) (n : ℕ) (state : List ℕ) (mark w
 pub renewed-none : (heads words : List ℕ) (n : ℕ) (state : List ℕ) (mark : ℕ) (table : List ℕ) → Renewed heads words n state mark 0 table table
 renewed-none heads words n state mark table = record { made = λ k h l clock. absurd (omega arith); left = λ k l. refl }
 
-module _ (heads words order : List ℕ) (n : ℕ) (state : List ℕ) (mark w r : ℕ) (table sets : List ℕ) (laid : Laid heads words n) (ranked : Ranked heads order n) (fits : length table ≡ 9 * n)
+module _ (heads words order : List ℕ) (n : ℕ) (state : List ℕ) (mark w r : ℕ) (table sets : List ℕ)
+    (laid : Laid heads words n) (ranked : Ranked heads order n) (fits : length table ≡ 9 * n)
     (rests : Lying heads words order n state table sets) (touches : Touches sets w mark 8 r) (word : 64 * w < n) (small : bitAnd r (getD sets w 0) < 2 ^ 64) where
   abbrev todo : ℕ
   todo = bitAnd r (getD sets w 0)
@@ -202,7 +204,8 @@ module _ (heads words order : List ℕ) (n : ℕ) (state : List ℕ) (mark w r :
         place = omega (arith, ranked .low (64 * w + i) l, ranked .few);
       }
 
-  module _ (table₀ : List ℕ) (so-far : Renewed heads words n state mark w table₀ table) (table′ sets′ : List ℕ) (v : VisitedAll heads words order state w todo 64 table table′ sets sets′) where
+  module _ (table₀ : List ℕ) (so-far : Renewed heads words n state mark w table₀ table)
+      (table′ sets′ : List ℕ) (v : VisitedAll heads words order state w todo 64 table table′ sets sets′) where
     chosen : (q : ℕ) → Among w todo 64 q → (q < n) × (isAwake sets q ≡ true)
     chosen q a =
         let i : ℕ = q - 64 * w in
@@ -272,7 +275,8 @@ abbrev pub Surer : List ℕ → List ℕ → ℕ → ℕ → List ℕ → List �
 Surer heads words n mark sets sets′ = (k : ℕ) → k < n → isSure sets′ k ≡ true → (isSure sets k ≡ true) ⊎ (testsMarked mark (ruleIn heads words k) ≡ true)
 
 -- a set of words 48 to 51 is none of what the rules rest by
-pub lying-beside : (heads words order : List ℕ) (n : ℕ) (state table s s′ : List ℕ) → length s′ ≡ length s → ((j i : ℕ) → (48 ≤ j → j < 52 → ⊥) → has s′ j i ≡ has s j i)
+pub lying-beside : (heads words order : List ℕ) (n : ℕ) (state table s s′ : List ℕ) → length s′ ≡ length s
+    → ((j i : ℕ) → (48 ≤ j → j < 52 → ⊥) → has s′ j i ≡ has s j i)
     → Ranked heads order n → Lying heads words order n state table s → Lying heads words order n state table s′
 lying-beside heads words order n state table s s′ size same ranked x =
     record {

@@ -170,7 +170,8 @@ module _ (heads words order state : List ℕ) (w todo : ℕ) (table sets : List 
         rests = λ n l r c g. g;
       }
 
-  module _ (i m : ℕ) (up : i ≤ m) (none : (j : ℕ) → i ≤ j → j < m → bit todo j ≡ false) (table′ sets′ : List ℕ) (so-far : VisitedAll heads words order state w todo i table table′ sets sets′) where
+  module _ (i m : ℕ) (up : i ≤ m) (none : (j : ℕ) → i ≤ j → j < m → bit todo j ≡ false)
+      (table′ sets′ : List ℕ) (so-far : VisitedAll heads words order state w todo i table table′ sets sets′) where
     pub visited-end : VisitedAll heads words order state w todo m table table′ sets sets′
     visited-end =
         record {
@@ -220,5 +221,6 @@ module _ (heads words order state : List ℕ) (w todo : ℕ) (table sets : List 
             left = λ q d. other q (λ e. d (rw e (among-own w todo m here))) ∙ so-far .left q (λ a. d (among-more w todo i (m + 1) q (omega arith) a));
             rests = λ n l r c g.
                 let mine : (k < n) × (isAwake sets k ≡ true) = c k (among-more w todo (m + 1) 64 k (omega arith) (among-own w todo m here)) in
-                good-on heads words order state k n table′ table″ sets′ sets″ (so-far .entries ∙ l) r (mine .0) v (so-far .awake k (omega arith) not-yet ∙ mine .1) (so-far .rests n l r c g);
+                good-on heads words order state k n table′ table″ sets′ sets″ (so-far .entries ∙ l) r (mine .0) v
+                (so-far .awake k (omega arith) not-yet ∙ mine .1) (so-far .rests n l r c g);
           }

@@ -34,7 +34,8 @@ pub record Keeps (v : Vars) (before : List Place) : Type 0 where
 abbrev pub placeOf : Term → ℕ → Place
 placeOf t x = record { term = t; value = x }
 
-keeps-same : (v : Vars) (before : List Place) (p : Place) → ((k : ℕ) → stands (before ++ (p ∷ [])) k ≡ stands before k) → ((k : ℕ) → valueIn (before ++ (p ∷ [])) k ≡ valueIn before k)
+keeps-same : (v : Vars) (before : List Place) (p : Place) → ((k : ℕ) → stands (before ++ (p ∷ [])) k ≡ stands before k)
+    → ((k : ℕ) → valueIn (before ++ (p ∷ [])) k ≡ valueIn before k)
     → Keeps v before → Keeps v (before ++ (p ∷ []))
 keeps-same v before p s w k =
     record {
@@ -93,7 +94,8 @@ keeps-new v before i x l is-filled s k =
         rw q (getD-set-same (v .values) i x 0 n ∙ sym own)
     kept j h false t = getD-set-other (v .values) i j x 0 (eqb-false j i t) ∙ k .what j h ∙ sym (value-other before (placeOf (Variable i) x) j t)
 
-    there : (j : ℕ) → j < 8 → stands (before ++ (placeOf (Variable i) x ∷ [])) j ≡ true → (t : Bool) → eqb j i ≡ t → eqb (valueIn (before ++ (placeOf (Variable i) x ∷ [])) j) 0 ≡ false
+    there : (j : ℕ) → j < 8 → stands (before ++ (placeOf (Variable i) x ∷ [])) j ≡ true
+        → (t : Bool) → eqb j i ≡ t → eqb (valueIn (before ++ (placeOf (Variable i) x ∷ [])) j) 0 ≡ false
     there j h stood true t = let q : j ≡ i = eqb-true j i t in rw q (ap (λ (n : ℕ). eqb n 0) own ∙ is-filled)
     there j h stood false t =
         let earlier : stands before j ≡ true = sym (stands-more before (placeOf (Variable i) x) j ∙ ap (λ (b : Bool). stands before j || b) t ∙ or-false (stands before j)) ∙ stood in

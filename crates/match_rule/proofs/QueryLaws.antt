@@ -131,7 +131,8 @@ module _ (w : List ℕ) (o n b : ℕ) (low : b < 8) (a : Ask)
           hidden = while-pending (11 * b + 9) (omega arith);
         }
 
-    by-flag : ((st : List ℕ) → (getD st (11 * b + 10) 0 ≡ 1 → ⊥) → answered a st b ≡ false) → (st : List ℕ) → (getD st (11 * b + 10) 0 ≡ 1 → ⊥) → Differing w o n st (11 * b + 10) 1
+    by-flag : ((st : List ℕ) → (getD st (11 * b + 10) 0 ≡ 1 → ⊥) → answered a st b ≡ false)
+        → (st : List ℕ) → (getD st (11 * b + 10) 0 ≡ 1 → ⊥) → Differing w o n st (11 * b + 10) 1
     by-flag clear st z =
         record {
           low = omega arith;
@@ -152,7 +153,8 @@ because w o n b low Free st shut =
     ]
 because w o n b low Error st shut =
     let hidden : (st : List ℕ) → (getD st (11 * b + 9) 0 ≡ 0 → ⊥) → answered Error st b ≡ false = λ st z. rw (ne-eqb (getD st (11 * b + 9) 0) 0 z) in
-    let clear : (st : List ℕ) → (getD st (11 * b + 10) 0 ≡ 1 → ⊥) → answered Error st b ≡ false = λ st z. rw (ne-eqb (getD st (11 * b + 10) 0) 1 z) (and-false (eqb (getD st (11 * b + 9) 0) 0)) in
+    let clear : (st : List ℕ) → (getD st (11 * b + 10) 0 ≡ 1 → ⊥) → answered Error st b ≡ false
+    = λ st z. rw (ne-eqb (getD st (11 * b + 10) 0) 1 z) (and-false (eqb (getD st (11 * b + 9) 0) 0)) in
     elim (ℕ-discrete (getD st (11 * b + 9) 0) 0) [
       | yes d ↦ elim (ℕ-discrete (getD st (11 * b + 10) 0) 1) [
         | yes f ↦ rw (eq-eqb (getD st (11 * b + 9) 0) 0 d, eq-eqb (getD st (11 * b + 10) 0) 1 f) tt

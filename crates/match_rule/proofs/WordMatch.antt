@@ -37,7 +37,8 @@ module _ (bound nine : List ℕ) (x t : ℕ) where
         rw (le-ltb t 4096 h, e, f, drop-set-add 1 nine (t % 8) x)
         (elim (eqb x 0) as (λ b. (if not b then on new else stop) ≡ (if b then stop else on new)) [ true ↦ refl | false ↦ refl ])
 
-    pub term-seen : (getD bound (t % 8) 0 ≡ 0 → ⊥) → (r : Bool) → r ≡ eqb (getD nine (1 + t % 8) 0) x → (if r then on (varsIn bound nine) else stop) ≡ termRun x (wordTerm t) (varsIn bound nine)
+    pub term-seen : (getD bound (t % 8) 0 ≡ 0 → ⊥) → (r : Bool) → r ≡ eqb (getD nine (1 + t % 8) 0) x
+        → (if r then on (varsIn bound nine) else stop) ≡ termRun x (wordTerm t) (varsIn bound nine)
     unfolding termRun
     term-seen z r e = rw (le-ltb t 4096 h, ne-eqb (getD bound (t % 8) 0) 0 z, getD-drop 1 nine (t % 8) 0, e)
 
