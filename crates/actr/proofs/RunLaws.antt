@@ -1,4 +1,5 @@
 -- The lines of a run by what it answers: its events in the words lent for them, its number and its count.
+use Rattle.std.specs.Prelude.{if◌then◌else◌}
 use Prim.Native.Nat.{ℕ, zero, suc, ◌+◌, ◌*◌, ◌≤◌, ◌<◌}
 use mathlib.Core.Path.{◌≡◌, refl, ap, ap₂, ◌∙◌}
 use mathlib.Core.Bool.{true, false}
@@ -9,7 +10,6 @@ use lib.Dec.{leb}
 use lib.ListN.{length, get_or, set, length-set}
 use lib.Seq.{sets, length-sets, get_or-set_same, get_or-set_other}
 use Rattle.meaning.specs.declared.State.{State}
-use Rattle.meaning.specs.Base.{if◌then◌else◌}
 use Rattle.meaning.specs.Step.{Event, event_fired, event_waited}
 use Rattle.meaning.specs.Run.{Going, Timed, Run}
 use Rattle.meaning.specs.Calls.{Ran, WithStore, trace_lent, run_lent}

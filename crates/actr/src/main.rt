@@ -1,4 +1,6 @@
 // The printing program: reads one image from standard input, opens it, runs at most 1,000 steps and prints a line for each.
+#![tactic(auto)]
+
 ghost use Rattle.std.specs.Prelude.{◌≡◌, ◌≤◌, length, replicate, take};
 ghost use Rattle.std.proofs.Math.Option.{some};
 ghost use Rattle.io.specs.Counts.{IsPrefixLen};

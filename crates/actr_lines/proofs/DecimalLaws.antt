@@ -1,4 +1,5 @@
 -- The fewest digits of a number are one width, which the definition finds.
+use Rattle.std.specs.Prelude.{if◌then◌else◌}
 use Prim.Native.Nat.{ℕ, zero, suc, ◌+◌, ◌-◌, ◌^◌, ◌≤◌, ◌<◌}
 use mathlib.Core.Path.{◌≡◌, refl, ap, ◌∙◌}
 use mathlib.Core.Bool.{true, false}
@@ -8,7 +9,6 @@ use native.Mathlib.Nat.{pow-suc}
 use borrow.Author.Tests.{ltb-true, ltb-false}
 use lib.Dec.{ltb}
 use lib.ListN.{length, take}
-use Rattle.meaning.specs.Base.{if◌then◌else◌}
 use Rattle.laws.specs.BaseLaws.{by-lt}
 use Rattle.io.specs.Digits.{last_digits, IsDigitCount}
 use Rattle.actr_lines.specs.Text.{width_from, decimal}

@@ -1,6 +1,5 @@
 -- "The printing program": its lines in letters (ASCII), one blank between two words, a newline after each line.
-use Rattle.std.specs.Prelude.{List, [], ◌∷◌, ◌++◌, ℕ, zero, suc, ◌+◌, ◌^◌, ltb}
-use Rattle.meaning.specs.Base.{if◌then◌else◌}
+use Rattle.std.specs.Prelude.{if◌then◌else◌, List, [], ◌∷◌, ◌++◌, ℕ, zero, suc, ◌+◌, ◌^◌, ltb}
 use Rattle.meaning.specs.Step.{Event, event_fired, event_waited}
 use Rattle.meaning.specs.Print.{Line, stepped, end}
 use Rattle.io.specs.Digits.{last_digits}

@@ -1,6 +1,5 @@
 -- What is put into lent bytes, and the lines that the words of a run's events tell.
-use Rattle.std.specs.Prelude.{◌≡◌, List, [], ◌∷◌, ◌++◌, ℕ, zero, suc, ◌+◌, ◌*◌, ◌≤◌, eqb, length, get_or, take}
-use Rattle.meaning.specs.Base.{if◌then◌else◌}
+use Rattle.std.specs.Prelude.{if◌then◌else◌, ◌≡◌, List, [], ◌∷◌, ◌++◌, ℕ, zero, suc, ◌+◌, ◌*◌, ◌≤◌, eqb, length, get_or, take}
 use Rattle.meaning.specs.Print.{Line, stepped}
 use Rattle.step_note.specs.Events.{event_by}
 use Rattle.actr_lines.specs.Text.{fired, waited}

@@ -1,4 +1,6 @@
 // The lines of a run in letters, one after the other into lent bytes.
+#![tactic(auto)]
+
 ghost use Rattle.std.specs.Prelude.{◌+◌, ◌*◌, ◌≤◌, length};
 ghost use Rattle.meaning.specs.Print.{stepped, end};
 ghost use Rattle.step_note.specs.Events.{event_by};

@@ -1,6 +1,5 @@
 -- What the fetches that are timed answer, whatever they are asked: one definition for both, so that they answer the same.
-use Rattle.std.specs.Prelude.{ℕ, ◌^◌, Bool, ◌&&◌, List, leb, length}
-use Rattle.meaning.specs.Base.{if◌then◌else◌}
+use Rattle.std.specs.Prelude.{if◌then◌else◌, ℕ, ◌^◌, Bool, ◌&&◌, List, leb, length}
 use Rattle.meaning.specs.Read.{Read, read_refused, read_got, field}
 use Rattle.meaning.specs.Image.{anything}
 

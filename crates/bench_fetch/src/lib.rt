@@ -1,5 +1,7 @@
 // For the benchmark alone: a fetch that takes one bit at a time, proved to the contract of the one that takes three bytes, and what the two are timed by.
 // Nothing of the library calls it.
+#![tactic(auto)]
+
 ghost use Rattle.std.specs.Prelude.{◌≡◌, ℕ, ◌^◌, ◌≤◌, length};
 ghost use Rattle.meaning.specs.Bits.{bit_at, field_at};
 ghost use Rattle.read_fields.specs.Field.{fetched, FetchMet};
@@ -75,8 +77,7 @@ fn value_of(field: Field) -> u32
 }
 
 // A field by the fetch that takes three bytes, to be timed.
-#[unsafe(no_mangle)]
-pub extern "C" fn jirvuntsag_bench_field(image: &[u8], at: usize, width: usize) -> u32
+pub fn jirvuntsag_bench_field(image: &[u8], at: usize, width: usize) -> u32
     ensures { result ≡ answer_of image.now at width }
 {
     if !in_bounds(image, at, width) {
@@ -86,8 +87,7 @@ pub extern "C" fn jirvuntsag_bench_field(image: &[u8], at: usize, width: usize) 
 }
 
 // The same by the fetch that takes one bit at a time.
-#[unsafe(no_mangle)]
-pub extern "C" fn jirvuntsag_bench_field_singly(image: &[u8], at: usize, width: usize) -> u32
+pub fn jirvuntsag_bench_field_singly(image: &[u8], at: usize, width: usize) -> u32
     ensures { result ≡ answer_of image.now at width }
 {
     if !in_bounds(image, at, width) {
@@ -97,8 +97,7 @@ pub extern "C" fn jirvuntsag_bench_field_singly(image: &[u8], at: usize, width: 
 }
 
 // Opens an image as `jirvuntsag_open` does, under a name of its own, to be timed by either fetch (tools/bench-archive).
-#[unsafe(no_mangle)]
-pub extern "C" fn jirvuntsag_bench_open(
+pub fn jirvuntsag_bench_open(
     image: &[u8],
     table: &mut [u16],
     state: &mut [u32; 89],

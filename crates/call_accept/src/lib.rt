@@ -1,4 +1,6 @@
 // What every call looks at first, numbers 1 to 5 and 11 to 13: the image, and then the table's length.
+#![tactic(auto)]
+
 ghost use Rattle.std.specs.Prelude.{◌≡◌, ◌*◌, ◌≤◌, eqb, length};
 ghost use Rattle.read_image.specs.Whole.{Begun};
 ghost use Rattle.call_accept.specs.Acceptance.{TakenMet};
@@ -7,7 +9,7 @@ use layout::{ENTRY_WORDS, PlanRead, Walk};
 use meaning::numbers::WRONG_TABLE;
 
 // Whether an image and a table's length are accepted, or the number (1 to 5, or 11 to 13) of the refusal and the place of the refused field, 0 where there is none.
-#[derive(Drop)]
+#[derive(Clone, Copy)]
 pub enum Taken {
     Accepted,
     Refused(u8, usize),

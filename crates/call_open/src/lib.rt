@@ -1,4 +1,6 @@
 // Opening an image: refused by number, or the opening state and the fresh table.
+#![tactic(auto)]
+
 ghost use Rattle.std.specs.Prelude.{◌≡◌, ◌*◌, ◌≤◌, length, drop};
 ghost use Rattle.meaning.specs.State.{zero_state};
 ghost use Rattle.meaning.specs.Match.{fresh_table};
@@ -14,7 +16,7 @@ use meaning::State;
 use meaning::numbers::ALL_DONE;
 
 // What open answers: the number, the position of the refused field if there is one, else 0, and the state.
-#[derive(Drop)]
+#[derive(Clone, Copy)]
 pub struct OpenDone {
     pub number: u8,
     pub position: usize,

@@ -1,4 +1,6 @@
 // Refreshing a table: refused by number, or the entries of the rules that test or query a marked buffer made afresh.
+#![tactic(auto)]
+
 ghost use Rattle.std.specs.Prelude.{◌≡◌, ◌*◌, ◌^◌, ◌≤◌, ltb, length};
 ghost use Rattle.meaning.specs.Read.{read_got};
 ghost use Rattle.meaning.specs.Calls.{refreshed_by, refresh_of};
@@ -12,7 +14,7 @@ use meaning::State;
 use meaning::numbers::{ALL_DONE, BAD_MARK, ILL_FORMED};
 
 // What refresh answers: the number, the position of the refused field if there is one, else 0, and how many rules test or query a marked buffer.
-#[derive(Drop)]
+#[derive(Clone, Copy)]
 pub struct RefreshDone {
     pub number: u8,
     pub position: usize,

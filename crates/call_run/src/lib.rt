@@ -1,4 +1,6 @@
 // Running a model: refused by number, or step after step, with the table refreshed and an event noted after each.
+#![tactic(auto)]
+
 ghost use Rattle.std.specs.Prelude.{◌≡◌, ◌*◌, ◌≤◌, length, List};
 ghost use Rattle.meaning.specs.Read.{read_got};
 ghost use Rattle.std.proofs.Math.Option.{Option};
@@ -22,7 +24,7 @@ use meaning::numbers::ALL_DONE;
 use step_run::Went;
 
 // What run answers: the number, the position of the refused field if there is one, else 0, the state, and the steps made.
-#[derive(Drop)]
+#[derive(Clone, Copy)]
 pub struct RunDone {
     pub number: u8,
     pub position: usize,

@@ -1,4 +1,5 @@
 -- A store that is taken in is known, and what is known at the end is what is given back.
+use Rattle.std.specs.Prelude.{if◌then◌else◌}
 use Prim.Native.Nat.{ℕ, ◌+◌, ◌≤◌}
 use mathlib.Core.Path.{◌≡◌, refl, sym, ap, ◌∙◌, subst}
 use mathlib.Core.Bool.{Bool, true, false, ◌&&◌}
@@ -8,7 +9,7 @@ use native.Mathlib.Omega.{arith}
 use borrow.Author.Tests.{eqb-true, leb-true}
 use lib.Dec.{eqb, leb}
 use lib.ListN.{length, get_or, length-append, length-map}
-use Rattle.meaning.specs.Base.{if◌then◌else◌, every}
+use Rattle.meaning.specs.Base.{every}
 use Rattle.meaning.specs.Model.{Model, Chunk, Fact}
 use Rattle.meaning.specs.Mark.{is_some}
 use Rattle.meaning.specs.Learning.{learned}

@@ -1,8 +1,7 @@
 -- What a run is handed besides its image: which state and store it is refused for, what is known once they are taken, and what must be known to give a store back.
-use Rattle.std.specs.Prelude.{ℕ, ◌+◌, ◌≤◌, ◌≡◌, Bool, true, not, List, length, get_or, take}
+use Rattle.std.specs.Prelude.{if◌then◌else◌, ℕ, ◌+◌, ◌≤◌, ◌≡◌, Bool, true, not, List, length, get_or, take}
 use Rattle.std.proofs.Math.Option.{Option, none, some}
 use Rattle.meaning.specs.declared.State.{State}
-use Rattle.meaning.specs.Base.{if◌then◌else◌}
 use Rattle.meaning.specs.Numbers.{all_done, ill_formed, bad_store}
 use Rattle.meaning.specs.Model.{Model}
 use Rattle.meaning.specs.State.{well_formed}

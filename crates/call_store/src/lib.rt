@@ -1,8 +1,9 @@
 // What a run is handed besides its image: the state, judged and laid out in words, and a store that is lent, judged and laid on the tape before it, and given back after it.
 // Where no store is lent, none is read or written.
-ghost use Rattle.std.specs.Prelude.{◌≡◌, true, ◌≤◌, length};
+#![tactic(auto)]
+
+ghost use Rattle.std.specs.Prelude.{if◌then◌else◌, ◌≡◌, true, ◌≤◌, length};
 ghost use Rattle.std.proofs.Math.Option.{some};
-ghost use Rattle.meaning.specs.Base.{if◌then◌else◌};
 ghost use Rattle.meaning.specs.Store.{store_left};
 ghost use Rattle.layout.specs.Plans.{places_for, Planned};
 ghost use Rattle.store_words.specs.Loads.{learned_on};
@@ -14,7 +15,7 @@ use meaning::numbers::{ALL_DONE, BAD_STORE, ILL_FORMED};
 use store_words::Loaded;
 
 // What is asked of a run of either engine: the state to run from, the steps at most, and whether a store is lent.
-#[derive(Drop)]
+#[derive(Clone, Copy)]
 pub struct Asked {
     pub state: State,
     pub steps: u16,
@@ -22,7 +23,7 @@ pub struct Asked {
 }
 
 // The number by which a run is refused before its first step, 0 if by none; and then the plan that knows the facts of a store, if one is lent.
-#[derive(Drop)]
+#[derive(Clone, Copy)]
 pub struct Admitted {
     pub number: u8,
     pub plan: Plan,

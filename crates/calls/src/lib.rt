@@ -1,5 +1,7 @@
 // The calls: open, run and refresh, and the length of the table that they need; and the runs without a table. Each takes whatever it is handed,
 // and does its work or refuses by number; none has a `requires`.
+#![tactic(auto)]
+
 ghost use Rattle.std.specs.Prelude.{◌≡◌};
 ghost use Rattle.meaning.specs.Calls.{needed_of, open_of, trace_lent, run_lent, trace_of, run_of, refresh_of};
 ghost use Rattle.meaning.specs.Fresh.{fresh_trace_lent, fresh_lent, fresh_trace_of, fresh_of};
@@ -21,7 +23,7 @@ use meaning::State;
 use meaning::numbers::ALL_DONE;
 
 // What the table's length answers: the number, the position of the refused field if there is one, else 0, and the words.
-#[derive(Drop)]
+#[derive(Clone, Copy)]
 pub struct LengthDone {
     pub number: u8,
     pub position: usize,

@@ -1,4 +1,6 @@
 // The choice of a rule with nothing kept: every rule is matched from the words of the state, and the best so far is its number and its nine words.
+#![tactic(auto)]
+
 ghost use Rattle.std.specs.Prelude.{◌≡◌, ℕ, ◌≤◌, length};
 ghost use Rattle.meaning.specs.Choice.{utilities};
 ghost use Rattle.meaning.specs.Fresh.{choose_fresh};

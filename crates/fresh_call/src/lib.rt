@@ -1,4 +1,6 @@
 // Running a model with nothing kept: refused by number, or step after step, every rule matched afresh at each.
+#![tactic(auto)]
+
 ghost use Rattle.std.specs.Prelude.{◌≡◌, ◌≤◌, length, List};
 ghost use Rattle.meaning.specs.Read.{read_got};
 ghost use Rattle.meaning.specs.Image.{decode};
@@ -20,7 +22,7 @@ use meaning::State;
 use meaning::numbers::ALL_DONE;
 
 // What a run with nothing kept answers: the number, the position of the refused field if there is one, else 0, the state, and the steps made.
-#[derive(Drop)]
+#[derive(Clone, Copy)]
 pub struct FreshDone {
     pub number: u8,
     pub position: usize,

@@ -1,11 +1,11 @@
 -- A rule whose tests hold, without a variable in them: its queries tell whether it matches.
+use Rattle.std.specs.Prelude.{if◌then◌else◌}
 use Prim.Native.Nat.{ℕ}
 use mathlib.Core.Path.{◌≡◌, refl, sym, ap, ◌∙◌}
 use mathlib.Core.Bool.{Bool, true, false}
 use mathlib.Core.List.{List, ◌∷◌}
 use lib.Dec.{eqb}
 use lib.ListN.{get_or, replicate}
-use Rattle.meaning.specs.Base.{if◌then◌else◌}
 use Rattle.meaning.specs.Match.{queries_hold}
 use Rattle.layout.specs.Rows.{queries_at}
 use Rattle.layout.specs.StateWords.{state_in}

@@ -1,6 +1,5 @@
 -- Whether a rule matches, and its entry.
-use Rattle.std.specs.Prelude.{ℕ, ◌≡◌, Bool, true, List, ◌∷◌, eqb, get_or, replicate}
-use Rattle.meaning.specs.Base.{if◌then◌else◌}
+use Rattle.std.specs.Prelude.{if◌then◌else◌, ℕ, ◌≡◌, Bool, true, List, ◌∷◌, eqb, get_or, replicate}
 use Rattle.meaning.specs.Model.{Rule}
 use Rattle.meaning.specs.Match.{queries_hold, entry_of}
 use Rattle.layout.specs.Rows.{queries_at}

@@ -1,4 +1,6 @@
 // One rule matched by itself: it is given up at its first slot that differs, and until a variable is met or all its tests hold nothing is written for it.
+#![tactic(auto)]
+
 ghost use Rattle.std.specs.Prelude.{◌≡◌, ◌∷◌, ℕ, ◌+◌, ◌*◌, ◌/◌, ◌%◌, ◌≤◌, length, get_or, replicate};
 ghost use Rattle.meaning.specs.Image.{ask_of};
 ghost use Rattle.meaning.specs.Match.{answers, queries_hold};
@@ -9,7 +11,7 @@ ghost use Rattle.fresh_match.specs.Hits.{LookMet, HitMet};
 use layout::{ASKED_AT, QUERIES_AT};
 
 // What a look at the tests of a rule finds, as far as its first variable: something differs; all of them hold, and there is no variable; or a variable is met.
-#[derive(Drop)]
+#[derive(Clone, Copy)]
 pub enum Looked {
     Differs,
     Holds,

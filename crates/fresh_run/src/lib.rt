@@ -1,4 +1,6 @@
 // A run with nothing kept but what is learned: step after step, until all are made or one is refused. Between two steps there is the state, its clock and the memory.
+#![tactic(auto)]
+
 ghost use Rattle.std.specs.Prelude.{◌≤◌, List, length};
 ghost use Rattle.std.proofs.Math.Option.{Option};
 ghost use Rattle.meaning.specs.Model.{Model, Chunk};
@@ -12,7 +14,7 @@ use meaning::numbers::ALL_DONE;
 use step_learn::NEWS_WORDS;
 
 // How a run went: the number, the clock after it, the steps made, and the plan that knows of what was learned.
-#[derive(Drop)]
+#[derive(Clone, Copy)]
 pub struct Went {
     pub number: u8,
     pub clock: u32,

@@ -1,7 +1,6 @@
 -- What the numbers of a step stand for, and what it promises of them.
-use Rattle.std.specs.Prelude.{ℕ, ◌+◌, ◌≤◌, ◌≡◌, List, map, eqb}
+use Rattle.std.specs.Prelude.{if◌then◌else◌, ℕ, ◌+◌, ◌≤◌, ◌≡◌, List, map, eqb}
 use Rattle.meaning.specs.declared.State.{State}
-use Rattle.meaning.specs.Base.{if◌then◌else◌}
 use Rattle.meaning.specs.Numbers.{store_full}
 use Rattle.meaning.specs.Step.{largest}
 use Rattle.meaning.specs.Learning.{learned}

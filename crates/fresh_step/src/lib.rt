@@ -1,4 +1,6 @@
 // One step with nothing kept, in place on a state's 88 words: the best of the matching rules fires, or time passes, or no step is made.
+#![tactic(auto)]
+
 ghost use Rattle.std.specs.Prelude.{◌≡◌, ◌≤◌, ◌<◌, length};
 ghost use Rattle.meaning.specs.Fire.{fire};
 ghost use Rattle.meaning.specs.Wait.{soonest};
@@ -16,7 +18,7 @@ use meaning::numbers::{CLOCK_FULL, HALTED, STORE_FULL};
 
 // What a step did, in numbers: kind 0 a firing, 1 a wait, 2 no step; the rule, the ms, or why no step was made; the ms that passed;
 // how many chunks join the store.
-#[derive(Drop)]
+#[derive(Clone, Copy)]
 pub struct Moved {
     pub kind: u16,
     pub value: u16,

@@ -1,10 +1,10 @@
 -- Laws of the calls on words to which a store may be lent: a word too large stands for a state that is well formed in no model, and all words stay.
+use Rattle.std.specs.Prelude.{if◌then◌else◌}
 use Prim.Native.Nat.{ℕ, ◌≤◌}
 use mathlib.Core.Path.{◌≡◌, refl, ap, ◌∙◌}
 use mathlib.Core.Bool.{Bool, true, false}
 use mathlib.Core.List.{List, []}
 use Rattle.meaning.specs.declared.State.{State}
-use Rattle.meaning.specs.Base.{if◌then◌else◌}
 use Rattle.meaning.specs.Image.{decode}
 use Rattle.meaning.specs.Run.{Going, Run}
 use Rattle.meaning.specs.Store.{lent_by, store_left}

@@ -1,7 +1,6 @@
 -- What the calls without a table answer, for all that C could hand in; that this settles all; and a word too large for its field.
-use Rattle.std.specs.Prelude.{ℕ, ◌≡◌, List, []}
+use Rattle.std.specs.Prelude.{if◌then◌else◌, ℕ, ◌≡◌, List, []}
 use Rattle.std.proofs.Common.{sym, ap, ◌∙◌}
-use Rattle.meaning.specs.Base.{if◌then◌else◌}
 use Rattle.meaning.specs.Numbers.{ill_formed}
 use Rattle.meaning.specs.Model.{Model}
 use Rattle.meaning.specs.Read.{read_got}

@@ -1,7 +1,6 @@
 -- What each call answers, for all that C could hand in: the answer is the number, 65,536 times the steps made, the rules counted or the words needed,
 -- and 4,294,967,296 times the position.
-use Rattle.std.specs.Prelude.{ℕ, ◌+◌, ◌*◌, List, []}
-use Rattle.meaning.specs.Base.{if◌then◌else◌}
+use Rattle.std.specs.Prelude.{if◌then◌else◌, ℕ, ◌+◌, ◌*◌, List, []}
 use Rattle.meaning.specs.Numbers.{ill_formed}
 use Rattle.meaning.specs.Model.{Model}
 use Rattle.meaning.specs.Read.{Read, read_refused, read_got}

@@ -1,8 +1,8 @@
 -- The state as C hands it in and takes it back: 89 words, the clock and then for each of the eight buffers its type, eight slots, delay and error flag.
-use Rattle.std.specs.Prelude.{ℕ, ◌+◌, ◌*◌, Bool, false, ◌&&◌, List, [], ◌∷◌, ◌++◌, leb, get_or, drop, replicate}
+use Rattle.std.specs.Prelude.{if◌then◌else◌, ℕ, ◌+◌, ◌*◌, Bool, false, ◌&&◌, List, [], ◌∷◌, ◌++◌, leb, get_or, drop, replicate}
 use Rattle.meaning.specs.declared.Buffer.{Buffer}
 use Rattle.meaning.specs.declared.State.{State}
-use Rattle.meaning.specs.Base.{if◌then◌else◌, every}
+use Rattle.meaning.specs.Base.{every}
 use Rattle.layout.specs.Rows.{rows_in}
 use Rattle.layout.specs.StateWords.{state_in}
 use Rattle.layout_state.specs.Words.{flag_word}

@@ -1,7 +1,8 @@
 // The library for C: open, run, trace and refresh, and the runs without a table, over plain words (include/jirvuntsag.h).
 // Each takes whatever it is handed, and none has a `requires`.
-ghost use Rattle.std.specs.Prelude.{◌≡◌, true, false, ◌∷◌, ◌≤◌, length, get_or, drop};
-ghost use Rattle.meaning.specs.Base.{if◌then◌else◌};
+#![tactic(auto)]
+
+ghost use Rattle.std.specs.Prelude.{if◌then◌else◌, ◌≡◌, true, false, ◌∷◌, ◌≤◌, length, get_or, drop};
 ghost use Rattle.step_note.specs.Events.{inscribed};
 ghost use Rattle.jirvuntsag.specs.Words.{words_of, narrows, flags_fit, fits, unfit_state, given_by};
 ghost use Rattle.jirvuntsag.specs.Told.{told, length_in, open_in, run_in, refresh_in, events_in};
@@ -13,7 +14,7 @@ use layout::{BUFFER_WORDS, STATE_WORDS};
 use meaning::{Buffer, State};
 
 // A state as it was handed in, and whether each of its words was small enough for its field.
-#[derive(Drop)]
+#[derive(Clone, Copy)]
 struct Handed {
     fitting: bool,
     state: State,
@@ -139,8 +140,7 @@ fn lay_back(fitting: bool, state: State, words: &mut [u32])
 }
 
 // The words that the table of an image needs: nine for each rule, 0 for an image that is refused, which the number tells from one without rules.
-#[unsafe(no_mangle)]
-pub extern "C" fn jirvuntsag_table_len(image: &[u8]) -> u64
+pub fn jirvuntsag_table_len(image: &[u8]) -> u64
     ensures { result ≡ length_in image.now }
 {
     let done = calls::table_length(image);
@@ -148,8 +148,7 @@ pub extern "C" fn jirvuntsag_table_len(image: &[u8]) -> u64
 }
 
 // Opens an image: writes the opening state (all zero if it is refused), and the fresh table if it is accepted.
-#[unsafe(no_mangle)]
-pub extern "C" fn jirvuntsag_open(image: &[u8], table: &mut [u16], state: &mut [u32; 89]) -> u64
+pub fn jirvuntsag_open(image: &[u8], table: &mut [u16], state: &mut [u32; 89]) -> u64
     ensures { told result state.new table.new ≡ open_in image.now table.old }
 {
     let done = calls::open(image, table);
@@ -159,8 +158,7 @@ pub extern "C" fn jirvuntsag_open(image: &[u8], table: &mut [u16], state: &mut [
 }
 
 // Runs at most `steps` steps: writes the state and the table after them.
-#[unsafe(no_mangle)]
-pub extern "C" fn jirvuntsag_run(
+pub fn jirvuntsag_run(
     image: &[u8],
     state: &mut [u32; 89],
     table: &mut [u16],
@@ -177,8 +175,7 @@ pub extern "C" fn jirvuntsag_run(
 }
 
 // Runs as `jirvuntsag_run` does, and notes each step in three lent words, as long as there is room: the clock after it, 0 and the rule that fired or 1 and the ms waited.
-#[unsafe(no_mangle)]
-pub extern "C" fn jirvuntsag_trace(
+pub fn jirvuntsag_trace(
     image: &[u8],
     state: &mut [u32; 89],
     table: &mut [u16],
@@ -197,8 +194,7 @@ pub extern "C" fn jirvuntsag_trace(
 }
 
 // Runs as `jirvuntsag_trace` does, with what `lent` says is lent (1: a store): what is learned joins the store; where it is not lent its words are neither read nor written.
-#[unsafe(no_mangle)]
-pub extern "C" fn jirvuntsag_run_lent(
+pub fn jirvuntsag_run_lent(
     image: &[u8],
     state: &mut [u32; 89],
     table: &mut [u16],
@@ -220,8 +216,7 @@ pub extern "C" fn jirvuntsag_run_lent(
 }
 
 // Makes the entries of the rules that test or query a marked buffer afresh.
-#[unsafe(no_mangle)]
-pub extern "C" fn jirvuntsag_refresh(
+pub fn jirvuntsag_refresh(
     image: &[u8],
     state: &[u32; 89],
     mark: u16,
@@ -236,8 +231,7 @@ pub extern "C" fn jirvuntsag_refresh(
 }
 
 // Runs at most `steps` steps with nothing kept, every rule matched afresh at each: writes the state after them.
-#[unsafe(no_mangle)]
-pub extern "C" fn jirvuntsag_run_fresh(image: &[u8], state: &mut [u32; 89], steps: u16) -> u64
+pub fn jirvuntsag_run_fresh(image: &[u8], state: &mut [u32; 89], steps: u16) -> u64
     ensures { fresh_told result state.new ≡ fresh_in image.now state.old steps }
 {
     let before = given(state);
@@ -249,8 +243,7 @@ pub extern "C" fn jirvuntsag_run_fresh(image: &[u8], state: &mut [u32; 89], step
 }
 
 // Runs as `jirvuntsag_run_fresh` does, and notes each step in three lent words, as `jirvuntsag_trace` does.
-#[unsafe(no_mangle)]
-pub extern "C" fn jirvuntsag_trace_fresh(
+pub fn jirvuntsag_trace_fresh(
     image: &[u8],
     state: &mut [u32; 89],
     steps: u16,
@@ -268,8 +261,7 @@ pub extern "C" fn jirvuntsag_trace_fresh(
 }
 
 // Runs as `jirvuntsag_trace_fresh` does, with what `lent` says is lent (1: a store), as `jirvuntsag_run_lent` does.
-#[unsafe(no_mangle)]
-pub extern "C" fn jirvuntsag_run_fresh_lent(
+pub fn jirvuntsag_run_fresh_lent(
     image: &[u8],
     state: &mut [u32; 89],
     steps: u16,

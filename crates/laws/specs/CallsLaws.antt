@@ -1,12 +1,12 @@
 -- Laws of the calls: what `open` gives is well formed; at most 2,304 words in a table; a run makes no more steps than asked;
 -- the position that each gives.
-use Rattle.std.specs.Prelude.{◌≡◌, refl, Bool, true, false, not, List, ◌∷◌, ◌++◌, map, ℕ, suc, ◌+◌, ◌-◌, ◌*◌, ◌^◌, ◌≤◌, leb, eqb, length, drop, replicate}
+use Rattle.std.specs.Prelude.{if◌then◌else◌, ◌≡◌, refl, Bool, true, false, not, List, ◌∷◌, ◌++◌, map, ℕ, suc, ◌+◌, ◌-◌, ◌*◌, ◌^◌, ◌≤◌, leb, eqb, length, drop, replicate}
 use Rattle.std.proofs.Common.{◌∙◌, arith, lt-ltb, drop_at}
 use Rattle.std.proofs.Math.Option.{Option, none}
 use Rattle.std.proofs.lemmas.List.{length-map}
 use Rattle.meaning.specs.Numbers.{finer, wrong_table, ill_formed, bad_store}
 use Rattle.meaning.specs.declared.State.{State}
-use Rattle.meaning.specs.Base.{if◌then◌else◌, every}
+use Rattle.meaning.specs.Base.{every}
 use Rattle.meaning.specs.Model.{Model}
 use Rattle.meaning.specs.State.{nil_after, opens, well_buffer, is_unused, well_formed}
 use Rattle.meaning.specs.Read.{read_got, Read, read_refused}

@@ -1,6 +1,6 @@
 -- What holds of each field, and is kept by reading one thing after the other, holds of the reading of all fields: the walk over the readers of the
 -- image, made once. It goes by two readings at a time, each with numbers of its own; where one reading is meant the two are the same.
-use Rattle.std.specs.Prelude.{◌≡◌, Bool, true, false, not, ◌||◌, eqb}
+use Rattle.std.specs.Prelude.{if◌then◌else◌, ◌≡◌, Bool, true, false, not, ◌||◌, eqb}
 use mathlib.Core.List.{List, [], ◌∷◌}
 use Prim.Native.Nat.{ℕ, zero, suc, ◌+◌, ◌≤◌, ◌<◌}
 use Rattle.std.proofs.Common.{arith}
@@ -11,7 +11,6 @@ use Rattle.meaning.specs.State.{slot_count}
 use Rattle.meaning.specs.Read.{Read, read_got, Reader, follow, and_then, give, Judgement, must, ◌also◌, field, times, rising}
 use Rattle.meaning.specs.Image.{between, a_type, a_buffer, a_mask, a_term, anything, Header, header, slot_counts, chunk, fact, slots_in, terms, masked}
 use Rattle.meaning.specs.Image.{Head, has_queries, least_tests, head, test, tests, least_queries, query, queried, queries, is_tested, tested_type, deed, action, actions, body, rule}
-use Rattle.meaning.specs.Base.{if◌then◌else◌}
 use Rattle.meaning.specs.Image.{ending, Beginning, beginning, contents, model}
 use Rattle.laws.specs.ReadLaws.{follow-follow}
 

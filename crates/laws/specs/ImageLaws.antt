@@ -1,10 +1,10 @@
 -- Laws of the image's parts: counts within their bounds, the terms of a mask, chunks, heads of rules, and a decoded image taken apart.
-use Rattle.std.specs.Prelude.{◌≡◌, refl, Bool, ◌&&◌, List, ◌∷◌, ℕ, zero, suc, ◌≤◌, ◌<◌, ◌-◌, ltb, leb, eqb, length, drop, replicate}
+use Rattle.std.specs.Prelude.{if◌then◌else◌, ◌≡◌, refl, Bool, ◌&&◌, List, ◌∷◌, ℕ, zero, suc, ◌≤◌, ◌<◌, ◌-◌, ltb, leb, eqb, length, drop, replicate}
 use Rattle.std.proofs.Common.{ap, arith, leb-true, eqb-true, le-leb, drop_at}
 use Rattle.std.proofs.Math.Bool.{true, false}
 use Rattle.std.specs.Int.Count.{ones}
 use Rattle.meaning.specs.Numbers.{finer, bad_number, too_long}
-use Rattle.meaning.specs.Base.{if◌then◌else◌, every, up_from}
+use Rattle.meaning.specs.Base.{every, up_from}
 use Rattle.meaning.specs.Read.{read_refused, read_got, must, field, times}
 use Rattle.meaning.specs.Image.{between, slots_in, chunk, a_type, anything, eight, decode, decode_by, Header, header, fact, Head, least_tests, head, rule, ending, beginning, contents, model}
 use Rattle.meaning.specs.Model.{Model, Chunk}

@@ -1,5 +1,5 @@
 -- What a step leaves of a buffer that its mark does not name: it has only waited, and is visible exactly if it was. So no test tells it from what it was.
-use Rattle.std.specs.Prelude.{◌≡◌, refl, Bool, true, ◌&&◌, ◌||◌, not, List, [], ◌∷◌, map, ℕ, zero, suc, ◌+◌, ◌-◌, ◌≤◌, ◌<◌, leb, ℤ, length, get_or}
+use Rattle.std.specs.Prelude.{if◌then◌else◌, ◌≡◌, refl, Bool, true, ◌&&◌, ◌||◌, not, List, [], ◌∷◌, map, ℕ, zero, suc, ◌+◌, ◌-◌, ◌≤◌, ◌<◌, leb, ℤ, length, get_or}
 use Rattle.std.proofs.Math.Path.{sym, ap}
 use Rattle.std.proofs.Common.{◌∙◌, inl, inr, zero-add, add-zero, arith, eqb-true}
 use Rattle.std.proofs.Math.Bool.{false}
@@ -7,7 +7,7 @@ use Rattle.std.proofs.Math.Option.{Option, none, some}
 use Rattle.std.proofs.Math.ListN.{get_or-eq_default}
 use Rattle.meaning.specs.declared.Buffer.{Buffer}
 use Rattle.meaning.specs.declared.State.{State}
-use Rattle.meaning.specs.Base.{if◌then◌else◌, any_of, up_from, same, bit}
+use Rattle.meaning.specs.Base.{any_of, up_from, same, bit}
 use Rattle.meaning.specs.Numbers.{not_fresh, clock_full}
 use Rattle.meaning.specs.Model.{Model, Rule, Action, Deed, Fact}
 use Rattle.meaning.specs.State.{nothing, buffer_of, visible}

@@ -1,8 +1,8 @@
 -- Laws of a match: place by place; and "an entry depends only on the buffers that its rule tests" or queries, of a pending buffer only on its being pending.
-use Rattle.std.specs.Prelude.{◌≡◌, refl, Bool, true, false, ◌&&◌, ◌||◌, not, List, [], ◌∷◌, ◌++◌, map, ◌⊎◌, ℕ, ◌*◌, eqb, length, replicate}
+use Rattle.std.specs.Prelude.{if◌then◌else◌, ◌≡◌, refl, Bool, true, false, ◌&&◌, ◌||◌, not, List, [], ◌∷◌, ◌++◌, map, ◌⊎◌, ℕ, ◌*◌, eqb, length, replicate}
 use Rattle.std.proofs.Common.{sym, ap, ap₂, ◌∙◌, append_assoc, inl, inr, arith, eq-eqb, length-append}
 use Rattle.std.proofs.Math.Bool.{or-false, and-false, and-true}
-use Rattle.meaning.specs.Base.{if◌then◌else◌, every, any_of, up_from}
+use Rattle.meaning.specs.Base.{every, any_of, up_from}
 use Rattle.meaning.specs.Model.{Term, symbol, variable, Rule, Test, Query, Ask, busy, free, error}
 use Rattle.meaning.specs.Image.{is_variable}
 use Rattle.meaning.specs.Match.{Place, value_in, term_in, takes, agrees, agreed, places, shows, answers, queries_hold, matches, entry_of, fresh_table}

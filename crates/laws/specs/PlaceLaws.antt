@@ -1,7 +1,7 @@
 -- Where reading stands and where it stops: within the image, and never further back than it began.
-use Rattle.std.specs.Prelude.{◌≡◌, refl, Bool, true, false, ◌&&◌, List, ℕ, ◌+◌, ◌*◌, ◌≤◌, ltb, eqb, length}
+use Rattle.std.specs.Prelude.{if◌then◌else◌, ◌≡◌, refl, Bool, true, false, ◌&&◌, List, ℕ, ◌+◌, ◌*◌, ◌≤◌, ltb, eqb, length}
 use Rattle.std.proofs.Common.{sym, ◌∙◌, arith, ltb-false}
-use Rattle.meaning.specs.Base.{if◌then◌else◌, every, up_from}
+use Rattle.meaning.specs.Base.{every, up_from}
 use Rattle.meaning.specs.Numbers.{RuleNumbers, too_long, bad_end}
 use Rattle.meaning.specs.Model.{Model, Sizes, Rule, Action, Query, Test}
 use Rattle.meaning.specs.Bits.{field_at}

@@ -1,11 +1,11 @@
 -- Laws of reading: the three answers of a field, a reading taken apart, n things one after the other.
-use Rattle.std.specs.Prelude.{◌≡◌, refl, Bool, true, false, ◌⊎◌, ltb}
+use Rattle.std.specs.Prelude.{if◌then◌else◌, ◌≡◌, refl, Bool, true, false, ◌⊎◌, ltb}
 use Rattle.std.proofs.Common.{sym, inl, inr, arith, ltb-true, ltb-false, lt-ltb, le-ltb}
 use Rattle.std.proofs.Math.Path.{ap}
 use mathlib.Core.List.{List, [], ◌∷◌}
 use Prim.Native.Nat.{ℕ, zero, suc, ◌+◌, ◌*◌, ◌≤◌, ◌<◌}
 use Rattle.std.proofs.Math.ListN.{length}
-use Rattle.meaning.specs.Base.{if◌then◌else◌, every}
+use Rattle.meaning.specs.Base.{every}
 use Rattle.meaning.specs.Numbers.{not_there}
 use Rattle.meaning.specs.Bits.{field_at}
 use Rattle.meaning.specs.Read.{Read, read_refused, read_got, Reader, follow, judged, field, times}

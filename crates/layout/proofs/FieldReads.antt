@@ -1,4 +1,5 @@
 -- What a field's reader gives, by what the code fetched; the rules of single fields, by the code's tests.
+use Rattle.std.specs.Prelude.{if◌then◌else◌}
 use Prim.Native.Nat.{ℕ, zero, suc, ◌+◌, ◌*◌, ◌≤◌, ◌<◌}
 use mathlib.Core.Path.{◌≡◌, refl, sym, ap, ◌∙◌}
 use mathlib.Core.Bool.{Bool, true, false, ◌&&◌}
@@ -8,7 +9,6 @@ use lib.ListN.{length}
 use lib.Dec.{leb, ltb}
 use borrow.Author.Tests.{leb-true, leb-false, lt-leb, le-leb, le-ltb, lt-ltb}
 use Rattle.meaning.specs.Numbers.{bad_number, bad_variable}
-use Rattle.meaning.specs.Base.{if◌then◌else◌}
 use Rattle.meaning.specs.Bits.{field_at}
 use Rattle.meaning.specs.Read.{read_refused, read_got, field, must}
 use Rattle.meaning.specs.Image.{anything, between, a_term}

@@ -1,6 +1,5 @@
 -- A plan and a tape, and the model that they mean. Every plan and every tape mean some model, so that whoever reads them needs no fact that they are valid.
-use Rattle.std.specs.Prelude.{ℕ, ◌+◌, ◌*◌, ◌≤◌, ◌≡◌, Bool, List, map, length, take, drop}
-use Rattle.meaning.specs.Base.{if◌then◌else◌}
+use Rattle.std.specs.Prelude.{if◌then◌else◌, ℕ, ◌+◌, ◌*◌, ◌≤◌, ◌≡◌, Bool, List, map, length, take, drop}
 use Rattle.meaning.specs.Model.{Model, Chunk, Fact, Rule}
 use Rattle.meaning.specs.Learning.{chunk_of}
 use Rattle.meaning.specs.Calls.{open_state}

@@ -1,7 +1,7 @@
 -- What stands in words. Every list of words is read as something (a buffer is below 8, a variable too),
 -- so that whoever reads words needs no fact that they are valid.
-use Rattle.std.specs.Prelude.{ℕ, zero, suc, ◌+◌, ◌*◌, ◌/◌, ◌%◌, ◌≤◌, ◌<◌, List, [], ◌∷◌, map, ltb, eqb, length, get_or}
-use Rattle.meaning.specs.Base.{if◌then◌else◌, up_from}
+use Rattle.std.specs.Prelude.{if◌then◌else◌, ℕ, zero, suc, ◌+◌, ◌*◌, ◌/◌, ◌%◌, ◌≤◌, ◌<◌, List, [], ◌∷◌, map, ltb, eqb, length, get_or}
+use Rattle.meaning.specs.Base.{up_from}
 use Rattle.meaning.specs.Model.{Term, symbol, variable, Named, Test, Query, Deed, deed_modify, deed_request, deed_clear, Action, Fact, Rule, Sizes}
 use Rattle.meaning.specs.Image.{slots_in, utility_of, ask_of}
 use Rattle.laws.specs.RefreshLaws.{MaskOf}

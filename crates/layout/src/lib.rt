@@ -4,6 +4,8 @@
 // An action: buffer, deed, mask, eight terms at their slots; the deed is 0 to modify, a type to request, 64 to clear.
 // A query is one word: its buffer, and eight times its kind.
 // What stands at a slot that the mask does not name, or after the deed of a clear, says nothing.
+#![tactic(auto)]
+
 ghost use Rattle.std.specs.Prelude.{◌≡◌, ◌+◌, ◌≤◌, length};
 ghost use Rattle.std.proofs.lemmas.List.Edits.{sets};
 ghost use Rattle.layout.specs.Plans.{places_for, plan_of};
@@ -55,7 +57,7 @@ pub const PLACE_WORDS: usize = 9;
 
 // The version of an image, its model's counts and failure latency; how many facts there are places for, and whether the places past the image's facts are a store's;
 // and where its sections begin on a tape: chains, heads, rows, order, and the end.
-#[derive(Drop)]
+#[derive(Clone, Copy)]
 pub struct Plan {
     pub version: u16,
     pub buffers: u16,
@@ -117,14 +119,14 @@ pub fn plan_for(
 }
 
 // Where the next thing starts; or the number of a refusal, and where the refused field starts.
-#[derive(Drop)]
+#[derive(Clone, Copy)]
 pub enum Walk {
     Next(usize),
     Bad(u8, usize),
 }
 
 // The plan for an image by its header, or a refusal.
-#[derive(Drop)]
+#[derive(Clone, Copy)]
 pub struct PlanRead {
     pub walk: Walk,
     pub plan: Plan,

@@ -1,7 +1,7 @@
 -- A buffer and a stretch of words, and whether the state in words is well formed.
-use Rattle.std.specs.Prelude.{ℕ, ◌+◌, ◌-◌, ◌*◌, ◌≤◌, ◌<◌, ◌≡◌, refl, Bool, ◌&&◌, List, map, eqb, get_or, drop}
+use Rattle.std.specs.Prelude.{if◌then◌else◌, ℕ, ◌+◌, ◌-◌, ◌*◌, ◌≤◌, ◌<◌, ◌≡◌, refl, Bool, ◌&&◌, List, map, eqb, get_or, drop}
 use Rattle.meaning.specs.declared.Buffer.{Buffer}
-use Rattle.meaning.specs.Base.{if◌then◌else◌, every, up_from}
+use Rattle.meaning.specs.Base.{every, up_from}
 use Rattle.meaning.specs.Model.{Model}
 use Rattle.meaning.specs.State.{well_buffer, is_unused, well_formed}
 use Rattle.layout.specs.Rows.{rows_in}

@@ -1,4 +1,6 @@
 // A state by value laid into 88 words and read back, and whether the state in words is well formed.
+#![tactic(auto)]
+
 ghost use Rattle.std.specs.Prelude.{◌≡◌, ◌+◌, ◌*◌, ◌≤◌, leb, length, get_or, take};
 ghost use Rattle.meaning.specs.Base.{every};
 ghost use Rattle.meaning.specs.State.{is_nil, flag_fits, well_buffer, is_unused};

@@ -1,6 +1,8 @@
 // The sets of rules that a run keeps, in words of 64 bits: who is awake, the testers of each buffer, which test or query it, and the beds in which rules sleep.
 // A rule that fails at a constant sleeps in a bed for that word of the state and that value,
 // and is awake again once that word's buffer is marked, and visible, and the word has a value of the same bed.
+#![tactic(auto)]
+
 ghost use Rattle.std.specs.Prelude.{◌≡◌, true, false, ℕ, ◌+◌, ◌*◌, ◌/◌, ◌≤◌, ◌<◌, length};
 ghost use Rattle.match_sets.specs.Sets.{has};
 ghost use Rattle.match_beds.specs.Beds.{bed_of, Roomy, Testing};

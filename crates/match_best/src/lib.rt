@@ -1,9 +1,11 @@
 // The best rule so far, in the order in which rules are preferred: utilities by a number without a sign.
+#![tactic(auto)]
+
 ghost use Rattle.std.specs.Prelude.{◌≡◌};
 ghost use Rattle.match_best.specs.Keys.{key_of};
 
 // The number of the rule that is chosen.
-#[derive(Drop)]
+#[derive(Clone, Copy)]
 pub enum Chosen {
     Rule(usize),
     NoRule,

@@ -1,4 +1,5 @@
 -- The entries of a table, rule by rule: one that is replaced, and a table that is refreshed.
+use Rattle.std.specs.Prelude.{if◌then◌else◌}
 use Prim.Native.Nat.{ℕ, zero, suc, ◌+◌, ◌-◌, ◌*◌, ◌≤◌, ◌<◌, min}
 use mathlib.Core.Path.{◌≡◌, refl, sym, ap, ap₂, ◌∙◌}
 use mathlib.Core.List.{List, [], ◌∷◌, ◌++◌}
@@ -8,7 +9,6 @@ use lib.ListN.{length, get_or, take, drop, length-append, length-take, length-dr
 use lib.ListN.{take-append-drop}
 use lib.Seq.{ext_get_or, get_or-take, get_or-drop, get_or-append-add, length-take-le, take_at, drop_at, drop-drop}
 use Rattle.meaning.specs.declared.State.{State}
-use Rattle.meaning.specs.Base.{if◌then◌else◌}
 use Rattle.meaning.specs.Model.{Rule}
 use Rattle.meaning.specs.Match.{entry_of}
 use Rattle.meaning.specs.Refresh.{tests_marked, refresh}

@@ -1,4 +1,5 @@
 -- The refresh of a run: who still sleeps after waking does not match, and who is awake and tests or queries a marked buffer is matched again.
+use Rattle.std.specs.Prelude.{if◌then◌else◌}
 use Prim.Native.Nat.{ℕ, zero, suc, ◌+◌, ◌-◌, ◌*◌, ◌/◌, ◌%◌, ◌^◌, ◌≤◌, ◌<◌}
 use mathlib.Core.Path.{◌≡◌, refl, sym, ap, ◌∙◌}
 use mathlib.Core.Logic.{◌⊎◌, inl, inr, ⊎_elim}
@@ -11,7 +12,7 @@ use lib.Dec.{eqb}
 use lib.ListN.{length, get_or, set}
 use lib.Seq.{get_or-set_same, get_or-set_other}
 use borrow.Author.Tests.{eqb-true, eq-eqb}
-use Rattle.meaning.specs.Base.{bit, if◌then◌else◌, any_of}
+use Rattle.meaning.specs.Base.{bit, any_of}
 use Rattle.meaning.specs.Model.{Rule}
 use Rattle.meaning.specs.Image.{is_tested}
 use Rattle.meaning.specs.Match.{entry_of}

@@ -1,4 +1,5 @@
 -- Visits, one after the other: what they leave of the entries, of the matching rules and of the sleeping ones.
+use Rattle.std.specs.Prelude.{if◌then◌else◌}
 use Prim.Native.Nat.{ℕ, ◌+◌, ◌-◌, ◌*◌, ◌≤◌, ◌<◌}
 use mathlib.Core.Path.{◌≡◌, refl, sym, ap, ◌∙◌}
 use mathlib.Core.Logic.{◌⊎◌, inl, inr, ⊎_elim}
@@ -9,7 +10,7 @@ use native.Mathlib.Decide.{ℕ_discrete}
 use lib.Dec.{eqb}
 use lib.ListN.{length, get_or}
 use borrow.Author.Tests.{eq-eqb, eqb-true}
-use Rattle.meaning.specs.Base.{bit, if◌then◌else◌}
+use Rattle.meaning.specs.Base.{bit}
 use Rattle.meaning.specs.Match.{entry_of}
 use Rattle.laws.specs.BaseLaws.{no_true, by-lt}
 use Rattle.laws.specs.MatchLaws.{entry_length}

@@ -1,5 +1,7 @@
 // The refresh of a run: a rule that fails at a constant sleeps in a bed for that word of the state and that value, and is looked at again
 // only after a step has marked that word's buffer, which is visible, and the word has a value of the same bed.
+#![tactic(auto)]
+
 ghost use Rattle.std.specs.Prelude.{◌≡◌, true, List, ℕ, ◌+◌, ◌*◌, ◌/◌, ◌≤◌, ◌<◌, length};
 ghost use Rattle.meaning.specs.Refresh.{refresh};
 ghost use Rattle.layout.specs.Rows.{rules_in};

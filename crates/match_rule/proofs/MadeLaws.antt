@@ -1,4 +1,5 @@
 -- The nine words that a match leaves, and what they say.
+use Rattle.std.specs.Prelude.{if◌then◌else◌}
 use Prim.Native.Nat.{ℕ, ◌*◌}
 use mathlib.Core.Path.{◌≡◌, refl, ap, ◌∙◌}
 use mathlib.Core.Bool.{Bool, false}
@@ -8,7 +9,6 @@ use native.Mathlib.Omega.{arith}
 use lib.ListN.{length, get_or, set, drop}
 use types.Run.{OneOf}
 use denote.Enum.Declared.{tag_of}
-use Rattle.meaning.specs.Base.{if◌then◌else◌}
 use Rattle.layout.specs.Rows.{tests_in, queries_at, rule_in}
 use Rattle.layout.specs.StateWords.{state_in}
 use Rattle.match_rule.specs.contracts.Tried as Declared

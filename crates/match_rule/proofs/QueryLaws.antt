@@ -1,4 +1,5 @@
 -- Laws of queries: one against the words of its buffer, a loop over those of a rule, and the word that tells that one does not hold.
+use Rattle.std.specs.Prelude.{if◌then◌else◌}
 use Prim.Native.Nat.{ℕ, zero, suc, ◌+◌, ◌-◌, ◌*◌, ◌/◌, ◌%◌, ◌≤◌, ◌<◌}
 use mathlib.Core.Path.{◌≡◌, refl, sym, ap, ◌∙◌}
 use mathlib.Core.Bool.{Bool, true, false, ◌&&◌, not, and-false}
@@ -9,7 +10,7 @@ use lib.Dec.{eqb}
 use lib.ListN.{get_or, replicate}
 use borrow.Author.Tests.{eq-eqb, ne_eqb}
 use Rattle.meaning.specs.declared.State.{State}
-use Rattle.meaning.specs.Base.{if◌then◌else◌, every}
+use Rattle.meaning.specs.Base.{every}
 use Rattle.meaning.specs.Model.{Rule, Query, Ask, busy, free, error}
 use Rattle.meaning.specs.State.{nothing, buffer_of}
 use Rattle.meaning.specs.Image.{ask_of}

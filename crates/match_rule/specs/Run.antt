@@ -1,8 +1,7 @@
 -- The match as the code goes: test by test, slot by slot, with the variables bound so far; and then the queries.
-use Rattle.std.specs.Prelude.{ℕ, List, [], ◌∷◌, get_or, set, replicate, eqb}
+use Rattle.std.specs.Prelude.{if◌then◌else◌, ℕ, List, [], ◌∷◌, get_or, set, replicate, eqb}
 use Rattle.meaning.specs.declared.Buffer.{Buffer}
 use Rattle.meaning.specs.declared.State.{State}
-use Rattle.meaning.specs.Base.{if◌then◌else◌}
 use Rattle.meaning.specs.Model.{Term, symbol, variable, Named, Test, Query}
 use Rattle.meaning.specs.State.{nothing}
 use Rattle.meaning.specs.Match.{queries_hold}

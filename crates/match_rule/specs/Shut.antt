@@ -1,6 +1,5 @@
 -- Why a rule does not match: a word of the state that has not the value without which it cannot.
-use Rattle.std.specs.Prelude.{ℕ, ◌+◌, ◌*◌, ◌/◌, ◌%◌, ◌<◌, ◌≡◌, Bool, true, false, List, ltb, eqb, get_or, replicate}
-use Rattle.meaning.specs.Base.{if◌then◌else◌}
+use Rattle.std.specs.Prelude.{if◌then◌else◌, ℕ, ◌+◌, ◌*◌, ◌/◌, ◌%◌, ◌<◌, ◌≡◌, Bool, true, false, List, ltb, eqb, get_or, replicate}
 use Rattle.meaning.specs.Model.{Rule, Ask, busy, free, error}
 use Rattle.meaning.specs.Match.{entry_of}
 use Rattle.layout.specs.StateWords.{state_in}

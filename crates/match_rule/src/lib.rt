@@ -1,6 +1,8 @@
 // The match of one rule: from its rows and queries in words, with the state in words too and the variables lent, so that nothing is copied.
-ghost use Rattle.std.specs.Prelude.{◌≡◌, ℕ, ◌+◌, ◌*◌, ◌/◌, ◌%◌, ◌≤◌, length, get_or, replicate};
-ghost use Rattle.meaning.specs.Base.{if◌then◌else◌, same};
+#![tactic(auto)]
+
+ghost use Rattle.std.specs.Prelude.{if◌then◌else◌, ◌≡◌, ℕ, ◌+◌, ◌*◌, ◌/◌, ◌%◌, ◌≤◌, length, get_or, replicate};
+ghost use Rattle.meaning.specs.Base.{same};
 ghost use Rattle.meaning.specs.Model.{Rule};
 ghost use Rattle.meaning.specs.Image.{ask_of};
 ghost use Rattle.meaning.specs.Match.{queries_hold, entry_of};
@@ -14,7 +16,7 @@ use layout::{ASKED_AT, QUERIES_AT};
 
 // What trying to match a rule gives: it matches; a word of the state, by its number, has another value than the one wanted;
 // or a variable has two values, or none, or a buffer that must be busy is not.
-#[derive(Drop)]
+#[derive(Clone, Copy)]
 pub enum Tried {
     Hit,
     Differs(u16, u16),

@@ -1,4 +1,6 @@
 // Sets of numbers in words of 64 bits: a bit set, a bit cleared, the lowest bit of a word, and what is left without it.
+#![tactic(auto)]
+
 ghost use Rattle.std.specs.Prelude.{◌≡◌, true, false, ◌||◌, ◌&&◌, not, ℕ, ◌+◌, ◌/◌, ◌%◌, ◌≤◌, ◌<◌, eqb, length};
 ghost use Rattle.meaning.specs.Base.{bit};
 ghost use Rattle.match_sets.specs.Sets.{has, member, Dropped};

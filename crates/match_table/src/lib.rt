@@ -1,4 +1,6 @@
 // The table of matches: all entries made afresh, and the refresh of those that a mark touches.
+#![tactic(auto)]
+
 ghost use Rattle.std.specs.Prelude.{◌≡◌, ℕ, ◌+◌, ◌*◌, ◌≤◌, ◌<◌, length};
 ghost use Rattle.meaning.specs.Match.{entry_of, fresh_table};
 ghost use Rattle.meaning.specs.Refresh.{refresh, refresh_count};

@@ -1,8 +1,8 @@
 -- Change request 2026-06, on both sides of the line: what a query finds, what sets and clears a flag, which states and which images of version 2 are refused. One table under a single statement.
-use Rattle.std.specs.Prelude.{◌≡◌, refl, Bool, true, false, List, [], ◌∷◌, ◌++◌, map, ℕ, ◌+◌, ◌-◌, ◌*◌, ◌/◌, ◌%◌, ◌^◌, get_or, replicate, take, pos}
+use Rattle.std.specs.Prelude.{if◌then◌else◌, ◌≡◌, refl, Bool, true, false, List, [], ◌∷◌, ◌++◌, map, ℕ, ◌+◌, ◌-◌, ◌*◌, ◌/◌, ◌%◌, ◌^◌, get_or, replicate, take, pos}
 use Rattle.meaning.specs.declared.Buffer.{Buffer}
 use Rattle.meaning.specs.declared.State.{State}
-use Rattle.meaning.specs.Base.{if◌then◌else◌, up_from}
+use Rattle.meaning.specs.Base.{up_from}
 use Rattle.meaning.specs.Model.{Model, Rule, Test, Query, Ask, busy, free, error, Action, Deed, deed_modify, deed_request, deed_clear, Term, symbol}
 use Rattle.meaning.specs.State.{nil_after, buffer_of, well_formed}
 use Rattle.meaning.specs.Read.{Read, read_refused, read_got}

@@ -1,7 +1,7 @@
 -- Request 2026-03, "say where an image is bad": model A with one field, or two neighbours, set to another value, the number and the position. One table under a single statement.
-use Rattle.std.specs.Prelude.{◌≡◌, refl, false, ◌&&◌, List, [], ◌∷◌, ◌++◌, map, ℕ, zero, suc, ◌+◌, ◌-◌, ◌*◌, ◌/◌, ◌%◌, ◌^◌, ltb, leb, length, replicate, take}
+use Rattle.std.specs.Prelude.{if◌then◌else◌, ◌≡◌, refl, false, ◌&&◌, List, [], ◌∷◌, ◌++◌, map, ℕ, zero, suc, ◌+◌, ◌-◌, ◌*◌, ◌/◌, ◌%◌, ◌^◌, ltb, leb, length, replicate, take}
 use Rattle.meaning.specs.declared.State.{State}
-use Rattle.meaning.specs.Base.{if◌then◌else◌, up_from}
+use Rattle.meaning.specs.Base.{up_from}
 use Rattle.meaning.specs.Numbers.{coarse}
 use Rattle.meaning.specs.State.{zero_state}
 use Rattle.meaning.specs.Model.{Model}

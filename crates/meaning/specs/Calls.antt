@@ -1,8 +1,7 @@
 -- "Calls and their numbers": open, run and refresh, for all that they could be handed.
-use Rattle.std.specs.Prelude.{Bool, not, List, [], ◌++◌, map, ℕ, ◌-◌, ◌*◌, ◌^◌, leb, eqb, length, replicate}
+use Rattle.std.specs.Prelude.{if◌then◌else◌, Bool, not, List, [], ◌++◌, map, ℕ, ◌-◌, ◌*◌, ◌^◌, leb, eqb, length, replicate}
 use Rattle.std.proofs.Math.Option.{Option, none}
 use Rattle.meaning.specs.declared.State.{State}
-use Rattle.meaning.specs.Base.{if◌then◌else◌}
 use Rattle.meaning.specs.Numbers.{all_done, wrong_table, ill_formed, bad_mark, bad_store}
 use Rattle.meaning.specs.Model.{Model}
 use Rattle.meaning.specs.State.{nil_after, opens, zero_state, well_formed}

@@ -1,10 +1,9 @@
 -- Document 01, "On both sides of the line": the examples P1 to P12, as one table under a single statement.
 -- The table's two columns are what the definitions give and what document 01 says.
-use Rattle.std.specs.Prelude.{◌≡◌, refl, List, [], ◌∷◌, ◌++◌, map, ℕ, get_or, replicate, take, drop, ℤ, pos, nat_abs}
+use Rattle.std.specs.Prelude.{if◌then◌else◌, ◌≡◌, refl, List, [], ◌∷◌, ◌++◌, map, ℕ, get_or, replicate, take, drop, ℤ, pos, nat_abs}
 use Rattle.std.specs.Int.Signed.{non_neg}
 use Rattle.meaning.specs.declared.Buffer.{Buffer}
 use Rattle.meaning.specs.declared.State.{State}
-use Rattle.meaning.specs.Base.{if◌then◌else◌}
 use Rattle.meaning.specs.Model.{Model, Rule, Test, Action, Deed, deed_modify, deed_request, deed_clear, Named, Term, variable, Chunk, Fact}
 use Rattle.meaning.specs.State.{well_formed, buffer_of}
 use Rattle.meaning.specs.Bits.{field_at}

@@ -1,9 +1,8 @@
 -- "A step": fire.
-use Rattle.std.specs.Prelude.{false, List, [], ◌∷◌, ℕ, ◌+◌, ◌-◌, eqb, set}
+use Rattle.std.specs.Prelude.{if◌then◌else◌, false, List, [], ◌∷◌, ℕ, ◌+◌, ◌-◌, eqb, set}
 use Rattle.std.proofs.Math.Option.{Option, none, some}
 use Rattle.meaning.specs.declared.Buffer.{Buffer}
 use Rattle.meaning.specs.declared.State.{State}
-use Rattle.meaning.specs.Base.{if◌then◌else◌}
 use Rattle.meaning.specs.Model.{Rule, Action, Deed, deed_modify, deed_request, deed_clear, Named, Fact}
 use Rattle.meaning.specs.State.{nil_after}
 use Rattle.meaning.specs.Retrieval.{value_of, retrieve, retrieved}

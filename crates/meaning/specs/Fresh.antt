@@ -1,8 +1,8 @@
 -- The run without a table (request 2026-02): "matches every rule afresh at each step". Nothing goes from step to step but the state, and a store that is lent.
-use Rattle.std.specs.Prelude.{not, List, [], ◌∷◌, ℕ, zero, suc, ◌+◌, leb, length, get_or, drop, ℤ, pos}
+use Rattle.std.specs.Prelude.{if◌then◌else◌, not, List, [], ◌∷◌, ℕ, zero, suc, ◌+◌, leb, length, get_or, drop, ℤ, pos}
 use Rattle.std.proofs.Math.Option.{Option, none, some}
 use Rattle.meaning.specs.declared.State.{State}
-use Rattle.meaning.specs.Base.{if◌then◌else◌, keep}
+use Rattle.meaning.specs.Base.{keep}
 use Rattle.meaning.specs.Highest.{highest}
 use Rattle.meaning.specs.Numbers.{all_done, ill_formed, clock_full, halted, store_full, bad_store}
 use Rattle.meaning.specs.Model.{Model, Rule, Chunk, Fact}

@@ -1,7 +1,6 @@
 -- The highest of a list, the first among equals: rules by utility, facts by activation.
-use Rattle.std.specs.Prelude.{Bool, List, [], ◌∷◌}
+use Rattle.std.specs.Prelude.{if◌then◌else◌, Bool, List, [], ◌∷◌}
 use Rattle.std.proofs.Math.Option.{Option, none, some}
-use Rattle.meaning.specs.Base.{if◌then◌else◌}
 
 module _ {A : Type 0} where
   -- the better of what was best so far and one element more: the later one only if it is higher

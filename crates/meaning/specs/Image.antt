@@ -1,7 +1,7 @@
 -- "The image, field by field", in reading order.
-use Rattle.std.specs.Prelude.{Bool, true, false, ◌&&◌, ◌||◌, not, List, [], ◌∷◌, ◌++◌, ℕ, zero, suc, ◌+◌, ◌-◌, ◌*◌, ◌%◌, ◌^◌, ltb, leb, eqb, length, replicate, ℤ, pos}
+use Rattle.std.specs.Prelude.{if◌then◌else◌, Bool, true, false, ◌&&◌, ◌||◌, not, List, [], ◌∷◌, ◌++◌, ℕ, zero, suc, ◌+◌, ◌-◌, ◌*◌, ◌%◌, ◌^◌, ltb, leb, eqb, length, replicate, ℤ, pos}
 use Rattle.std.proofs.Math.IntN.{sub_ℕ}
-use Rattle.meaning.specs.Base.{if◌then◌else◌, every, any_of, keep, up_from, bit}
+use Rattle.meaning.specs.Base.{every, any_of, keep, up_from, bit}
 use Rattle.meaning.specs.Numbers.{RuleNumbers, finer, too_long, bad_end}
 use Rattle.meaning.specs.Model.{Model, Sizes, Rule, Action, Deed, deed_modify, deed_request, deed_clear, Query, Ask, busy, free, error, Test, Named, Term, symbol, variable, Chunk, Fact}
 use Rattle.meaning.specs.State.{slot_count}

@@ -1,9 +1,9 @@
 -- "A cleared chunk is remembered" (request 2026-05): the memory that a step reads, and what joins the store in it.
-use Rattle.std.specs.Prelude.{Bool, true, false, ◌&&◌, not, List, [], ◌∷◌, ◌++◌, map, ℕ, ◌+◌, eqb, ltb, length, get_or}
+use Rattle.std.specs.Prelude.{if◌then◌else◌, Bool, true, false, ◌&&◌, not, List, [], ◌∷◌, ◌++◌, map, ℕ, ◌+◌, eqb, ltb, length, get_or}
 use Rattle.std.proofs.Math.Option.{Option, none, some}
 use Rattle.meaning.specs.declared.Buffer.{Buffer}
 use Rattle.meaning.specs.declared.State.{State}
-use Rattle.meaning.specs.Base.{if◌then◌else◌, any_of, admit, same}
+use Rattle.meaning.specs.Base.{any_of, admit, same}
 use Rattle.meaning.specs.Numbers.{store_full}
 use Rattle.meaning.specs.Model.{Model, Rule, Action, Deed, deed_modify, deed_request, deed_clear, Chunk, Fact}
 use Rattle.meaning.specs.State.{visible, is_nil}

@@ -1,8 +1,8 @@
 -- "A match": the entries of the table.
-use Rattle.std.specs.Prelude.{Bool, true, ◌&&◌, not, List, [], ◌∷◌, ◌++◌, map, ℕ, eqb, get_or, replicate}
+use Rattle.std.specs.Prelude.{if◌then◌else◌, Bool, true, ◌&&◌, not, List, [], ◌∷◌, ◌++◌, map, ℕ, eqb, get_or, replicate}
 use Rattle.meaning.specs.declared.Buffer.{Buffer}
 use Rattle.meaning.specs.declared.State.{State}
-use Rattle.meaning.specs.Base.{if◌then◌else◌, every, up_from}
+use Rattle.meaning.specs.Base.{every, up_from}
 use Rattle.meaning.specs.Model.{Rule, Test, Query, Ask, busy, free, error, Named, Term, symbol, variable}
 use Rattle.meaning.specs.State.{buffer_of, visible}
 use Rattle.meaning.specs.Image.{is_variable}

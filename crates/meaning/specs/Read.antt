@@ -1,6 +1,5 @@
 -- Reading in order, one field after the other, until one is refused. A reader takes the image's bytes and a position in bits.
-use Rattle.std.specs.Prelude.{Bool, List, [], ◌∷◌, ℕ, zero, suc, ◌+◌, ◌*◌, ltb, length}
-use Rattle.meaning.specs.Base.{if◌then◌else◌}
+use Rattle.std.specs.Prelude.{if◌then◌else◌, Bool, List, [], ◌∷◌, ℕ, zero, suc, ◌+◌, ◌*◌, ltb, length}
 use Rattle.meaning.specs.Numbers.{not_there}
 use Rattle.meaning.specs.Bits.{field_at}
 

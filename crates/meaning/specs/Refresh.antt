@@ -1,7 +1,7 @@
 -- "After each step the table is refreshed with that mark."
-use Rattle.std.specs.Prelude.{Bool, ◌||◌, List, [], ◌∷◌, ◌++◌, ℕ, length, take, drop}
+use Rattle.std.specs.Prelude.{if◌then◌else◌, Bool, ◌||◌, List, [], ◌∷◌, ◌++◌, ℕ, length, take, drop}
 use Rattle.meaning.specs.declared.State.{State}
-use Rattle.meaning.specs.Base.{if◌then◌else◌, any_of, keep, bit}
+use Rattle.meaning.specs.Base.{any_of, keep, bit}
 use Rattle.meaning.specs.Model.{Rule}
 use Rattle.meaning.specs.Match.{entry_of}
 

@@ -1,8 +1,8 @@
 -- "A step": fire, wait or halt.
-use Rattle.std.specs.Prelude.{Bool, List, [], ℕ, zero, suc, leb, ℤ}
+use Rattle.std.specs.Prelude.{if◌then◌else◌, Bool, List, [], ℕ, zero, suc, leb, ℤ}
 use Rattle.std.proofs.Math.Option.{Option, none, some}
 use Rattle.meaning.specs.declared.State.{State}
-use Rattle.meaning.specs.Base.{if◌then◌else◌, same}
+use Rattle.meaning.specs.Base.{same}
 use Rattle.meaning.specs.Numbers.{not_fresh, clock_full, halted}
 use Rattle.meaning.specs.Model.{Model, Fact}
 use Rattle.meaning.specs.Match.{entry_of}

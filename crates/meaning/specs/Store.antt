@@ -1,7 +1,7 @@
 -- The store's words (request 2026-05): "the count, then nine words a place (type, eight slots)".
-use Rattle.std.specs.Prelude.{Bool, true, ◌&&◌, List, [], ◌∷◌, ◌++◌, map, ℕ, ◌+◌, ◌*◌, eqb, ltb, leb, length, get_or, take, drop}
+use Rattle.std.specs.Prelude.{if◌then◌else◌, Bool, true, ◌&&◌, List, [], ◌∷◌, ◌++◌, map, ℕ, ◌+◌, ◌*◌, eqb, ltb, leb, length, get_or, take, drop}
 use Rattle.std.proofs.Math.Option.{Option, none, some}
-use Rattle.meaning.specs.Base.{if◌then◌else◌, every, up_from, bit}
+use Rattle.meaning.specs.Base.{every, up_from, bit}
 use Rattle.meaning.specs.Model.{Chunk}
 use Rattle.meaning.specs.State.{well_buffer, opens}
 

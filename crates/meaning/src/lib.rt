@@ -1,4 +1,6 @@
 // The state that every call takes and gives back, by value (document 01, "Words and sizes").
+#![tactic(auto)]
+
 ghost use Rattle.std.specs.Prelude.{◌≡◌};
 ghost use Rattle.meaning.specs.State.{nil_after, zero_state};
 
@@ -6,7 +8,7 @@ pub mod numbers;
 
 // One buffer: the type of its chunk, eight slot values, the ms until it is visible, and whether the last action on it was a request that found no fact.
 // (`isa` is ACT-R's own word for a chunk's type; Rattle keeps the word `type` for itself.)
-#[derive(Drop)]
+#[derive(Clone, Copy)]
 pub struct Buffer {
     pub isa: u16,
     pub slots: [u16; 8],
@@ -15,7 +17,7 @@ pub struct Buffer {
 }
 
 // Eight buffers and the clock in ms.
-#[derive(Drop)]
+#[derive(Clone, Copy)]
 pub struct State {
     pub buffers: [Buffer; 8],
     pub clock: u32,

@@ -1,13 +1,13 @@
 -- Document 01 as it stood before request 2026-06: its reading of an image, its match, its states, its step and its runs, the one without a table (request 2026-02) too, both with
 -- a store (2026-05). What the request leaves alone is cited. And the words in which Versions compares them with what is there now: a state without its error flags, and a run
 -- but for flags.
-use Rattle.std.specs.Prelude.{◌≡◌, Bool, true, false, ◌&&◌, ℕ, zero, suc, ◌+◌, ◌-◌, ltb, leb, eqb, length, get_or, take, drop, replicate, ℤ, pos}
+use Rattle.std.specs.Prelude.{if◌then◌else◌, ◌≡◌, Bool, true, false, ◌&&◌, ℕ, zero, suc, ◌+◌, ◌-◌, ltb, leb, eqb, length, get_or, take, drop, replicate, ℤ, pos}
 use mathlib.Core.List.{List, [], ◌∷◌, ◌++◌, map, Memᴰ}
 use Rattle.std.proofs.Math.Option.{Option, none, some}
 use Rattle.std.proofs.Math.Pow.{are_bytes}
 use Rattle.meaning.specs.declared.Buffer.{Buffer}
 use Rattle.meaning.specs.declared.State.{State}
-use Rattle.meaning.specs.Base.{if◌then◌else◌, every, any_of, keep, up_from, same, bit}
+use Rattle.meaning.specs.Base.{every, any_of, keep, up_from, same, bit}
 use Rattle.meaning.specs.Highest.{highest}
 use Rattle.meaning.specs.Numbers.{RuleNumbers, finer, all_done, too_long, not_fresh, halted}
 use Rattle.meaning.specs.Model.{Model, Sizes, Rule, Deed, deed_modify, deed_request, deed_clear, Fact}

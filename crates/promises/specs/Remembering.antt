@@ -1,12 +1,12 @@
 -- Request 2026-05: "a cleared chunk is remembered". What a step learns, what a run and a call leave of a lent store, and what is found of it. (The numbers 14 and 15 among
 -- all others are in Numbers and Fresh, demand 2 with a store in Semantics and Fresh, demand 3 in Keeping: a chain of calls may lend any words to any run.)
-use Rattle.std.specs.Prelude.{◌≡◌, ◌↔◌, ◌⊎◌, Bool, List, ◌++◌, map, ℕ, ◌≤◌, length}
+use Rattle.std.specs.Prelude.{if◌then◌else◌, ◌≡◌, ◌↔◌, ◌⊎◌, Bool, List, ◌++◌, map, ℕ, ◌≤◌, length}
 use Rattle.std.proofs.Math.Path.{refl}
 use Rattle.std.proofs.Common.{sym, ap, subst, ◌∙◌, append-nil}
 use Rattle.std.proofs.Math.Bool.{true, false}
 use Rattle.std.proofs.Math.Option.{Option, none, some}
 use Rattle.meaning.specs.declared.State.{State}
-use Rattle.meaning.specs.Base.{if◌then◌else◌, bit}
+use Rattle.meaning.specs.Base.{bit}
 use Rattle.meaning.specs.Numbers.{store_full}
 use Rattle.meaning.specs.Model.{Model, Rule, deed_clear, Named, Chunk, Fact}
 use Rattle.meaning.specs.State.{well_formed}

@@ -1,4 +1,6 @@
 // A rule's actions, read from the packed image and laid out in rows of eleven words: buffer, deed, mask, eight terms at their slots.
+#![tactic(auto)]
+
 ghost use Rattle.std.specs.Prelude.{◌≡◌, ◌+◌, ◌*◌, ◌≤◌, ◌<◌, length, take};
 ghost use Rattle.meaning.specs.Numbers.{finer};
 ghost use Rattle.meaning.specs.Image.{action, actions};
@@ -9,7 +11,7 @@ use layout::{ACTIONS_AT, ROW_WORDS, Walk};
 use meaning::numbers::BAD_BUFFER;
 
 // Which buffers an action may still name: from `least` on, below the count.
-#[derive(Drop)]
+#[derive(Clone, Copy)]
 pub struct Allowed {
     pub least: u16,
     pub buffers: u16,

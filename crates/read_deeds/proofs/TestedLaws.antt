@@ -1,11 +1,11 @@
 -- The type that tests name for a buffer: test by test, and what an answer says of it.
+use Rattle.std.specs.Prelude.{if◌then◌else◌}
 use Prim.Native.Nat.{ℕ, ◌+◌, ◌-◌, ◌≤◌, ◌<◌}
 use mathlib.Core.Path.{◌≡◌, refl}
 use mathlib.Core.Bool.{Bool, true, false}
 use mathlib.Core.List.{List}
 use native.Mathlib.Omega.{arith}
 use borrow.Author.Tests.{eq-eqb, ne_eqb}
-use Rattle.meaning.specs.Base.{if◌then◌else◌}
 use Rattle.meaning.specs.Model.{Test}
 use Rattle.meaning.specs.Image.{is_tested, tested_type}
 use Rattle.layout.specs.Rows.{rows_in}

@@ -1,6 +1,5 @@
 -- What the code's answers about an action say: the type that the tests name for a buffer, and the deed.
-use Rattle.std.specs.Prelude.{ℕ, List, get_or}
-use Rattle.meaning.specs.Base.{if◌then◌else◌}
+use Rattle.std.specs.Prelude.{if◌then◌else◌, ℕ, List, get_or}
 use Rattle.meaning.specs.Model.{Test, Deed, Action, Sizes}
 use Rattle.meaning.specs.Read.{Read, Reader, and_then, field}
 use Rattle.meaning.specs.Numbers.{finer}

@@ -1,4 +1,6 @@
 // What an action does: its kind, and what the kind asks. A modification goes by the type that the rule tests its buffer for.
+#![tactic(auto)]
+
 ghost use Rattle.std.specs.Prelude.{◌≡◌, List, ℕ, ◌+◌, ◌*◌, ◌≤◌, ◌<◌, length, get_or, take};
 ghost use Rattle.meaning.specs.Model.{Test};
 ghost use Rattle.meaning.specs.Numbers.{finer};
@@ -12,7 +14,7 @@ use meaning::numbers::{BAD_BUFFER, BAD_NUMBER, NOT_THERE};
 use read_fields::Field;
 
 // What the tests of a rule say of a buffer: the type that the first test of it names, or that there is none.
-#[derive(Drop)]
+#[derive(Clone, Copy)]
 pub enum Tested {
     Isa(u16),
     Untested,

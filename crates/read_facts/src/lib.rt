@@ -1,4 +1,6 @@
 // Chunks and facts, read from the packed image; a fact is laid out in a row of eleven words.
+#![tactic(auto)]
+
 ghost use Rattle.std.specs.Prelude.{◌≡◌, ◌*◌, ◌≤◌, ◌<◌, length};
 ghost use Rattle.meaning.specs.Read.{times, field};
 ghost use Rattle.meaning.specs.Numbers.{finer};

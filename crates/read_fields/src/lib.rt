@@ -1,11 +1,13 @@
 // Packed fields: 1 to 16 bits, most significant bit first, at any bit position of an image.
+#![tactic(auto)]
+
 ghost use Rattle.std.specs.Prelude.{◌≡◌, ◌+◌, ◌*◌, ◌^◌, ◌≤◌, ◌<◌, length, get_or};
 ghost use Rattle.meaning.specs.Bits.{field_at};
 ghost use Rattle.laws.specs.BitsLaws.{window};
 ghost use Rattle.read_fields.specs.Field.{FetchMet};
 
 // A field, or that it is not wholly there.
-#[derive(Drop)]
+#[derive(Clone, Copy)]
 pub enum Field {
     Value(u16),
     Short,

@@ -1,4 +1,5 @@
 -- An image part by part: its beginning, its facts, its rules, its end.
+use Rattle.std.specs.Prelude.{if◌then◌else◌}
 use Prim.Native.Nat.{ℕ, ◌+◌, ◌-◌, ◌*◌, ◌≤◌, ◌<◌}
 use mathlib.Core.Path.{◌≡◌, refl, sym, ap, ap₂, ◌∙◌}
 use mathlib.Core.Bool.{Bool, true, false}
@@ -11,7 +12,6 @@ use lib.Dec.{ltb}
 use lib.ListN.{length, get_or, take, replicate, length-map, length-take, get_or-eq_default}
 use lib.Seq.{take_at, get_or-take}
 use Rattle.meaning.specs.declared.State.{State}
-use Rattle.meaning.specs.Base.{if◌then◌else◌}
 use Rattle.meaning.specs.Bits.{field_at}
 use Rattle.meaning.specs.Model.{Model, Sizes, Chunk, Fact, Rule}
 use Rattle.meaning.specs.State.{nil_after, opens}

@@ -1,6 +1,5 @@
 -- What the reading of an image promises.
-use Rattle.std.specs.Prelude.{ℕ, ◌+◌, ◌*◌, ◌≤◌, ◌≡◌, Bool, List, ltb, length, take, drop}
-use Rattle.meaning.specs.Base.{if◌then◌else◌}
+use Rattle.std.specs.Prelude.{if◌then◌else◌, ℕ, ◌+◌, ◌*◌, ◌≤◌, ◌≡◌, Bool, List, ltb, length, take, drop}
 use Rattle.meaning.specs.Numbers.{finer, too_long}
 use Rattle.meaning.specs.Model.{Model}
 use Rattle.meaning.specs.Read.{Read, read_refused, read_got}

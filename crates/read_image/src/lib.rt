@@ -1,4 +1,6 @@
 // A whole image: accepted, and laid out on a tape; or refused by number and place. Each field is judged when it is read, in reading order.
+#![tactic(auto)]
+
 ghost use Rattle.std.specs.Prelude.{◌≡◌, ◌*◌, ◌≤◌, ◌<◌, length, take};
 ghost use Rattle.meaning.specs.Read.{read_got};
 ghost use Rattle.meaning.specs.Numbers.{finer};

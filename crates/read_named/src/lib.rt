@@ -1,5 +1,7 @@
 // What a rule's words name: the variables that stand in its tests, and the buffers that it tests or queries.
 // Each set of numbers below eight is a mask, in which number b has weight 2 to the power b.
+#![tactic(auto)]
+
 ghost use Rattle.std.specs.Prelude.{◌≡◌, ◌||◌, ◌+◌, ◌*◌, ◌≤◌, length, get_or};
 ghost use Rattle.meaning.specs.Base.{every, up_from, bit};
 ghost use Rattle.meaning.specs.Image.{is_variable, stands_in, is_tested};

@@ -1,4 +1,6 @@
 // The beginning of an image: the header, the slot counts of the types, and the state that it opens with.
+#![tactic(auto)]
+
 ghost use Rattle.std.specs.Prelude.{◌≡◌, false, ◌∷◌, ◌+◌, ◌*◌, ◌≤◌, ◌<◌, length, take};
 ghost use Rattle.meaning.specs.Read.{times};
 ghost use Rattle.meaning.specs.Numbers.{finer};
@@ -14,14 +16,14 @@ use meaning::numbers::BAD_NUMBER;
 use meaning::{Buffer, State};
 
 // The slot count of each type, by its number; or a refusal.
-#[derive(Drop)]
+#[derive(Clone, Copy)]
 pub struct TypesRead {
     pub walk: Walk,
     pub types: [u16; 64],
 }
 
 // The opening state, or a refusal.
-#[derive(Drop)]
+#[derive(Clone, Copy)]
 pub struct OpeningRead {
     pub walk: Walk,
     pub state: State,

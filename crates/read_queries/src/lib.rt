@@ -1,4 +1,6 @@
 // A rule's queries, read from the packed image and laid out in the rule's words: how many there are, and then a word for each, its buffer and eight times its kind.
+#![tactic(auto)]
+
 ghost use Rattle.std.specs.Prelude.{◌≡◌, ◌*◌, ◌≤◌, length, take};
 ghost use Rattle.meaning.specs.Read.{rising};
 ghost use Rattle.meaning.specs.Numbers.{finer};

@@ -1,4 +1,6 @@
 // Fields whose value must lie in a range: counts, buffers and types.
+#![tactic(auto)]
+
 ghost use Rattle.std.specs.Prelude.{◌≡◌, ◌&&◌, ◌+◌, ◌*◌, ◌≤◌, ◌<◌, leb, ltb, length};
 ghost use Rattle.meaning.specs.Numbers.{bad_number};
 ghost use Rattle.meaning.specs.Read.{field, must};
@@ -11,7 +13,7 @@ use meaning::numbers::{BAD_NUMBER, NOT_THERE};
 use read_fields::Field;
 
 // The value of a field that keeps its rule, and where the next field starts; or a refusal.
-#[derive(Drop)]
+#[derive(Clone, Copy)]
 pub struct Number {
     pub walk: Walk,
     pub value: u16,

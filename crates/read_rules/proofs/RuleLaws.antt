@@ -1,11 +1,12 @@
 -- A rule, part by part, by what the code read.
+use Rattle.std.specs.Prelude.{if◌then◌else◌}
 use Prim.Native.Nat.{ℕ, ◌+◌, ◌≤◌}
 use mathlib.Core.Path.{◌≡◌, refl, sym, ap, ◌∙◌}
 use mathlib.Core.Bool.{true, false}
 use mathlib.Core.List.{List}
 use native.Mathlib.Omega.{arith}
 use lib.ListN.{get_or, take}
-use Rattle.meaning.specs.Base.{if◌then◌else◌, every, up_from}
+use Rattle.meaning.specs.Base.{every, up_from}
 use Rattle.meaning.specs.Model.{Sizes, Test, Query, Action}
 use Rattle.meaning.specs.Read.{read_refused, read_got}
 use Rattle.meaning.specs.Numbers.{finer, bad_variable}

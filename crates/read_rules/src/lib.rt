@@ -1,5 +1,7 @@
 // Rules, read from the packed image: each one's head into four words (tests, actions, utility, mask of the buffers that it tests or queries),
 // its tests, queries and actions into 185 words of their own (eight rows, how many queries and a word for each, eight rows); the heads stand first, one after the other.
+#![tactic(auto)]
+
 ghost use Rattle.std.specs.Prelude.{◌≡◌, ◌+◌, ◌*◌, ◌≤◌, ◌<◌, length, take, drop};
 ghost use Rattle.meaning.specs.Read.{times};
 ghost use Rattle.meaning.specs.Numbers.{finer};
@@ -14,7 +16,7 @@ use layout::{HEAD_WORDS, RULE_WORDS, Walk};
 use meaning::numbers::{BAD_NUMBER, BAD_VARIABLE};
 
 // The first four fields of a rule, or a refusal.
-#[derive(Drop)]
+#[derive(Clone, Copy)]
 pub struct HeadRead {
     pub walk: Walk,
     pub utility: u16,
@@ -24,7 +26,7 @@ pub struct HeadRead {
 }
 
 // A rule's four words, or a refusal.
-#[derive(Drop)]
+#[derive(Clone, Copy)]
 pub struct RuleRead {
     pub walk: Walk,
     pub words: [u16; 4],

@@ -1,4 +1,5 @@
 -- The loop over the terms: what was read stands at its slots, and what is left is read from here.
+use Rattle.std.specs.Prelude.{if◌then◌else◌}
 use Prim.Native.Nat.{ℕ, zero, suc, ◌+◌, ◌*◌, ◌-◌, ◌%◌, ◌^◌, ◌≤◌, ◌<◌}
 use mathlib.Core.Path.{◌≡◌, refl, sym, ap, ap₂, ◌∙◌}
 use mathlib.Core.Bool.{Bool, true, false, not}
@@ -9,7 +10,7 @@ use lib.Seq.{get_or-set_same, get_or-set_other}
 use lib.Dec.{eqb, ltb}
 use borrow.Author.Tests.{ltb-false}
 use Rattle.meaning.specs.Numbers.{finer, bad_mask, bad_variable}
-use Rattle.meaning.specs.Base.{if◌then◌else◌, keep, admit, up_from}
+use Rattle.meaning.specs.Base.{keep, admit, up_from}
 use Rattle.meaning.specs.Model.{Named, Term, symbol, variable}
 use Rattle.meaning.specs.Read.{Read, read_refused, read_got, follow, field, must}
 use Rattle.meaning.specs.Image.{names, slots_in, terms, term_of, a_term, a_mask, masked}

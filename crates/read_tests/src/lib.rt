@@ -1,4 +1,6 @@
 // A rule's tests: read from the packed image, and laid out in rows of eleven words (buffer, type, mask, eight terms at their slots).
+#![tactic(auto)]
+
 ghost use Rattle.std.specs.Prelude.{◌≡◌, ◌+◌, ◌*◌, ◌≤◌, ◌<◌, length, take};
 ghost use Rattle.meaning.specs.Numbers.{finer};
 ghost use Rattle.meaning.specs.Image.{test, tests};

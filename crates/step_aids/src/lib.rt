@@ -1,4 +1,6 @@
 // What a run with a table lays on the tape besides the model: the chains of the facts, and the order of the rules.
+#![tactic(auto)]
+
 ghost use Rattle.layout.specs.Plans.{Planned};
 ghost use Rattle.step_aids.specs.Aids.{OrderLaid, AidsLaid};
 

@@ -1,4 +1,6 @@
 // The chains of the facts, laid on the tape between the facts and the heads of the rules.
+#![tactic(auto)]
+
 ghost use Rattle.layout.specs.Plans.{Planned};
 ghost use Rattle.step_chains.specs.Laid.{ChainsLaid};
 

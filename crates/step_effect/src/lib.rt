@@ -1,4 +1,6 @@
 // What one action makes of its buffer, in place on the buffer's eleven words.
+#![tactic(auto)]
+
 ghost use Rattle.std.specs.Prelude.{◌+◌, ◌*◌, ◌≤◌, ◌<◌, length, get_or};
 ghost use Rattle.meaning.specs.Retrieval.{retrieve, retrieved};
 ghost use Rattle.layout.specs.Rows.{masked_in};

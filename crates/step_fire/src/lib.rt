@@ -1,6 +1,8 @@
 // Firing: what a rule's actions make of a state, in place on its 88 words.
 // Every delay loses 50 ms, then each action makes its buffer anew from its type and slots, the rule's nine words and the facts alone:
 // so none sees what was made of another, nor what was left of its own delay.
+#![tactic(auto)]
+
 ghost use Rattle.std.specs.Prelude.{◌≡◌, true, ℕ, ◌+◌, ◌*◌, ◌≤◌, ◌<◌, length};
 ghost use Rattle.std.proofs.Math.Option.{some};
 ghost use Rattle.meaning.specs.Model.{Rule};

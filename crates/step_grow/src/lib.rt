@@ -1,4 +1,6 @@
 // A memory that grows: facts added after the known ones, each in the row after the last and at the end of its chain.
+#![tactic(auto)]
+
 ghost use Rattle.std.specs.Prelude.{[], ◌∷◌, ◌+◌, ◌*◌, ◌≤◌, ◌<◌, length, drop};
 ghost use Rattle.layout.specs.Rows.{fact_in, facts_in};
 ghost use Rattle.layout.specs.Plans.{Planned};

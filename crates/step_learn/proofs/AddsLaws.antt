@@ -1,4 +1,5 @@
 -- What a step adds, by the tape and by the store: the same chunks, and the same answer to whether they have places.
+use Rattle.std.specs.Prelude.{if◌then◌else◌}
 use Prim.Native.Nat.{ℕ, zero, suc, ◌+◌, ◌*◌, ◌≤◌, ◌<◌}
 use mathlib.Core.Path.{◌≡◌, refl, sym, ap, ◌∙◌}
 use mathlib.Core.Bool.{Bool, true, false}
@@ -9,7 +10,6 @@ use borrow.Author.Tests.{lt-ltb, le-ltb}
 use lib.Dec.{ltb}
 use lib.ListN.{length, get_or, length-append, length-map}
 use Rattle.meaning.specs.declared.State.{State}
-use Rattle.meaning.specs.Base.{if◌then◌else◌}
 use Rattle.meaning.specs.Model.{Model, Chunk, Action, Rule}
 use Rattle.meaning.specs.Step.{Event, event_fired}
 use Rattle.meaning.specs.Learning.{learned, knowing, chunks_of, cleared, joining, actions_of, adds, store_after, overfull}

@@ -1,4 +1,5 @@
 -- The buffers that are cleared: the mask that tells them, and the chunks that those below a place give.
+use Rattle.std.specs.Prelude.{if◌then◌else◌}
 use Prim.Native.Nat.{ℕ, zero, suc, ◌+◌, ◌-◌, ◌*◌, ◌%◌, ◌^◌, ◌≤◌, ◌<◌}
 use mathlib.Core.Path.{◌≡◌, refl, sym, ap, ◌∙◌}
 use mathlib.Core.Bool.{Bool, true, false, ◌&&◌, ◌||◌, not, or-false, or-true}
@@ -12,7 +13,7 @@ use lib.Dec.{eqb, leb}
 use lib.ListN.{length, get_or}
 use lib.Pow.{pow_mono}
 use Rattle.meaning.specs.declared.Buffer.{Buffer}
-use Rattle.meaning.specs.Base.{if◌then◌else◌, bit, admit}
+use Rattle.meaning.specs.Base.{bit, admit}
 use Rattle.meaning.specs.Model.{Named, Deed, deed_modify, deed_request, Action, Chunk}
 use Rattle.meaning.specs.Fire.{deed_on}
 use Rattle.meaning.specs.Learning.{is_clear, chunk_of, cleared}

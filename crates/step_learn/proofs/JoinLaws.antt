@@ -1,4 +1,5 @@
 -- What joins: chunks after others, and a search for one among rows of facts, along a chain or one by one.
+use Rattle.std.specs.Prelude.{if◌then◌else◌}
 use Prim.Native.Nat.{ℕ, zero, suc, ◌+◌, ◌-◌, ◌*◌, ◌%◌, ◌≤◌, ◌<◌}
 use mathlib.Core.Path.{◌≡◌, refl, sym, ap, ◌∙◌}
 use mathlib.Core.Bool.{Bool, true, false, ◌||◌}
@@ -7,7 +8,7 @@ use native.Mathlib.Omega.{arith}
 use lib.ListN.{get_or, drop}
 use lib.Seq.{get_or-drop}
 use Rattle.meaning.specs.declared.Buffer.{Buffer}
-use Rattle.meaning.specs.Base.{if◌then◌else◌, any_of}
+use Rattle.meaning.specs.Base.{any_of}
 use Rattle.meaning.specs.Model.{Chunk, Fact}
 use Rattle.meaning.specs.Learning.{learned, chunks_of, chunk_of, equal, joining}
 use Rattle.layout.specs.declared.Plan.{Plan}

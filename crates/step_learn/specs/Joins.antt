@@ -1,7 +1,6 @@
 -- What the firing of a rule would add to the store, read off a tape and a state in words; and the same as rows of facts.
-use Rattle.std.specs.Prelude.{ℕ, ◌+◌, ◌≤◌, ◌≡◌, Bool, List, [], map, ltb, length}
+use Rattle.std.specs.Prelude.{if◌then◌else◌, ℕ, ◌+◌, ◌≤◌, ◌≡◌, Bool, List, [], map, ltb, length}
 use Rattle.meaning.specs.declared.State.{State}
-use Rattle.meaning.specs.Base.{if◌then◌else◌}
 use Rattle.meaning.specs.Model.{Chunk}
 use Rattle.meaning.specs.Step.{Event}
 use Rattle.meaning.specs.Learning.{learned, chunks_of, cleared, joining, adds}

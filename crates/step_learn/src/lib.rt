@@ -1,6 +1,8 @@
 // What the firing of a rule would add to the store: the chunks of the buffers that it clears, but those that are known.
-ghost use Rattle.std.specs.Prelude.{◌≡◌, [], ◌∷◌, ◌++◌, map, ℕ, ◌+◌, ◌*◌, ◌≤◌, ◌<◌, eqb, length};
-ghost use Rattle.meaning.specs.Base.{if◌then◌else◌, any_of, bit};
+#![tactic(auto)]
+
+ghost use Rattle.std.specs.Prelude.{if◌then◌else◌, ◌≡◌, [], ◌∷◌, ◌++◌, map, ℕ, ◌+◌, ◌*◌, ◌≤◌, ◌<◌, eqb, length};
+ghost use Rattle.meaning.specs.Base.{any_of, bit};
 ghost use Rattle.meaning.specs.Learning.{learned, chunks_of, chunk_of, equal, joining};
 ghost use Rattle.layout.specs.Rows.{fact_in, facts_in, actions_in};
 ghost use Rattle.layout.specs.StateWords.{buffer_in};

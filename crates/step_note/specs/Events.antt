@@ -1,7 +1,6 @@
 -- The events of a run in words, and what is promised of a run that notes them.
-use Rattle.std.specs.Prelude.{ℕ, ◌+◌, ◌*◌, ◌≡◌, List, [], ◌∷◌, leb, eqb, length}
+use Rattle.std.specs.Prelude.{if◌then◌else◌, ℕ, ◌+◌, ◌*◌, ◌≡◌, List, [], ◌∷◌, leb, eqb, length}
 use Rattle.std.proofs.lemmas.List.Edits.{sets}
-use Rattle.meaning.specs.Base.{if◌then◌else◌}
 use Rattle.meaning.specs.Step.{Event, event_fired, event_waited}
 use Rattle.meaning.specs.Run.{Timed, Run}
 

@@ -1,4 +1,6 @@
 // Noting the steps of a run: three lent words for each, as long as there is room.
+#![tactic(auto)]
+
 ghost use Rattle.std.specs.Prelude.{◌≡◌, ◌∷◌, []};
 ghost use Rattle.step_note.specs.Events.{noted};
 

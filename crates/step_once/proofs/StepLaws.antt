@@ -1,4 +1,5 @@
 -- A step by its cases: what each answer of the code needs to be the step that the definitions give.
+use Rattle.std.specs.Prelude.{if◌then◌else◌}
 use Prim.Native.Nat.{ℕ, zero, suc, ◌+◌, ◌-◌, ◌*◌, ◌≤◌, ◌<◌}
 use mathlib.Core.Path.{◌≡◌, refl, sym, ap, ◌∙◌}
 use mathlib.Core.Bool.{Bool, true, false}
@@ -8,7 +9,7 @@ use borrow.Author.Tests.{le-leb, lt-leb, le-ltb}
 use lib.Dec.{ltb, leb}
 use lib.ListN.{length, take, drop}
 use Rattle.meaning.specs.declared.State.{State}
-use Rattle.meaning.specs.Base.{if◌then◌else◌, same}
+use Rattle.meaning.specs.Base.{same}
 use Rattle.meaning.specs.Numbers as numbers
 use Rattle.meaning.specs.Model.{Chunk, Fact}
 use Rattle.meaning.specs.Match.{entry_of}

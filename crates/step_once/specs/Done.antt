@@ -1,7 +1,6 @@
 -- What the code's answer stands for, and what a step promises of it.
-use Rattle.std.specs.Prelude.{ℕ, ◌+◌, ◌≤◌, ◌<◌, ◌≡◌, List}
+use Rattle.std.specs.Prelude.{if◌then◌else◌, ℕ, ◌+◌, ◌≤◌, ◌<◌, ◌≡◌, List}
 use Rattle.meaning.specs.declared.State.{State}
-use Rattle.meaning.specs.Base.{if◌then◌else◌}
 use Rattle.meaning.specs.Numbers.{store_full}
 use Rattle.meaning.specs.Step as meaning
 use Rattle.layout.specs.declared.Plan.{Plan}

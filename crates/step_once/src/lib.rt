@@ -1,4 +1,6 @@
 // One step, in place on a state's 88 words: the chosen rule fires, or time passes, or no step is made.
+#![tactic(auto)]
+
 ghost use Rattle.std.specs.Prelude.{◌≡◌, ℕ, ◌+◌, ◌*◌, ◌≤◌, ◌<◌, length, get_or};
 ghost use Rattle.meaning.specs.Base.{same};
 ghost use Rattle.meaning.specs.Model.{Rule};
@@ -20,7 +22,7 @@ use match_best::Chosen;
 use meaning::numbers::{CLOCK_FULL, HALTED, NOT_FRESH, STORE_FULL};
 
 // The number that says why no step was made; the rule that fired, the mark and how many chunks join the store; the ms waited and the mark.
-#[derive(Drop)]
+#[derive(Clone, Copy)]
 pub enum StepDone {
     Stopped(u8),
     Fired(u16, u16, usize),

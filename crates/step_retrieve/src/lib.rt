@@ -1,6 +1,7 @@
 // The retrieval of a fact: among the facts that fit a request, the highest activation, and of equals the lowest number.
-ghost use Rattle.std.specs.Prelude.{◌≡◌, ℕ, ◌+◌, ◌*◌, ◌≤◌, ◌<◌, length, get_or};
-ghost use Rattle.meaning.specs.Base.{if◌then◌else◌};
+#![tactic(auto)]
+
+ghost use Rattle.std.specs.Prelude.{if◌then◌else◌, ◌≡◌, ℕ, ◌+◌, ◌*◌, ◌≤◌, ◌<◌, length, get_or};
 ghost use Rattle.meaning.specs.Retrieval.{value_of, fits, retrieve};
 ghost use Rattle.layout.specs.Rows.{word_term, masked_in, fact_in, facts_in};
 ghost use Rattle.step_retrieve.specs.Found.{fact_of, Below};
@@ -9,7 +10,7 @@ ghost use Rattle.step_retrieve.specs.Chains.{Chained};
 use layout::ROW_WORDS;
 
 // The number of the fact that is found.
-#[derive(Drop)]
+#[derive(Clone, Copy)]
 pub enum Found {
     Fact(usize),
     Nothing,

@@ -1,11 +1,11 @@
 -- What a step that was told adds; and what stays of what a run keeps while a memory grows.
+use Rattle.std.specs.Prelude.{if◌then◌else◌}
 use Prim.Native.Nat.{ℕ, ◌+◌, ◌≤◌, ◌<◌}
 use mathlib.Core.Path.{◌≡◌, refl, sym, ap, ◌∙◌}
 use mathlib.Core.Bool.{true, false}
 use mathlib.Core.List.{List, [], map}
 use native.Mathlib.Omega.{arith}
 use lib.ListN.{drop}
-use Rattle.meaning.specs.Base.{if◌then◌else◌}
 use Rattle.meaning.specs.Model.{Chunk, Fact}
 use Rattle.meaning.specs.Learning.{learned}
 use Rattle.layout.specs.declared.Plan.{Plan}

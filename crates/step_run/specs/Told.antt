@@ -1,6 +1,5 @@
 -- A step's answer in numbers.
-use Rattle.std.specs.Prelude.{ℕ, ◌+◌, ◌≤◌, ◌≡◌, List, map, eqb}
-use Rattle.meaning.specs.Base.{if◌then◌else◌}
+use Rattle.std.specs.Prelude.{if◌then◌else◌, ℕ, ◌+◌, ◌≤◌, ◌≡◌, List, map, eqb}
 use Rattle.meaning.specs.Step.{Step, step_stopped, step_made, largest}
 use Rattle.meaning.specs.Learning.{learned}
 use Rattle.layout.specs.declared.Plan.{Plan}

@@ -1,4 +1,6 @@
 // A run: step after step, the table refreshed after each, until all are made or one is refused.
+#![tactic(auto)]
+
 ghost use Rattle.std.specs.Prelude.{◌≡◌, ℕ, ◌+◌, ◌*◌, ◌≤◌, ◌<◌, length, List};
 ghost use Rattle.std.proofs.Math.Option.{Option};
 ghost use Rattle.meaning.specs.Model.{Model, Chunk};
@@ -17,7 +19,7 @@ use step_once::StepDone;
 
 // What a step did, in numbers: kind 0 a firing, 1 a wait, 2 no step; the rule, the ms, or why no step was made; the mark; the ms that passed;
 // how many chunks join the store.
-#[derive(Drop)]
+#[derive(Clone, Copy)]
 pub struct Told {
     pub kind: u16,
     pub value: u16,
@@ -27,7 +29,7 @@ pub struct Told {
 }
 
 // How a run went: the number, the clock after it, the steps made, and the plan that knows of what was learned.
-#[derive(Drop)]
+#[derive(Clone, Copy)]
 pub struct Went {
     pub number: u8,
     pub clock: u32,

@@ -1,11 +1,12 @@
 -- The mark as a loop over the eight buffers makes it: what is marked so far, and the weight times what is left, is the whole.
+use Rattle.std.specs.Prelude.{if◌then◌else◌}
 use Prim.Native.Nat.{ℕ, zero, suc, ◌+◌, ◌-◌, ◌*◌, ◌^◌, ◌≤◌, ◌<◌}
 use mathlib.Core.Path.{◌≡◌}
 use mathlib.Core.Bool.{Bool, true, false}
 use mathlib.Core.List.{map}
 use native.Mathlib.Nat.{mul-zero, mul-one, mul-add, mul_assoc, pow-suc}
 use native.Mathlib.Omega.{arith}
-use Rattle.meaning.specs.Base.{if◌then◌else◌, up_from, weigh}
+use Rattle.meaning.specs.Base.{up_from, weigh}
 
 weigh-lt : (f : ℕ → Bool) (i n : ℕ) → weigh (map f (up_from i n)) < 2 ^ n
 weigh-lt f i zero = omega arith

@@ -1,4 +1,6 @@
 // A wait: how long, and what it makes of a state, in place on the state's 88 words.
+#![tactic(auto)]
+
 ghost use Rattle.std.specs.Prelude.{◌≡◌, [], ℕ, ◌+◌, ◌≤◌, ◌<◌, length};
 ghost use Rattle.meaning.specs.Fire.{later};
 ghost use Rattle.meaning.specs.Wait.{sooner, soonest, wait};

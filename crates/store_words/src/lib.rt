@@ -1,4 +1,6 @@
 // A store that is lent in words: judged, its facts laid on a tape after the image's, and what was learned written back.
+#![tactic(auto)]
+
 ghost use Rattle.std.specs.Prelude.{◌≡◌, ◌+◌, ◌*◌, ◌≤◌, length, get_or, take};
 ghost use Rattle.std.proofs.Math.Option.{some};
 ghost use Rattle.std.proofs.lemmas.List.Edits.{sets};
@@ -11,7 +13,7 @@ ghost use Rattle.store_words.specs.Loads.{LoadMet, learned_on};
 use layout::{FACTS_AT, PLACE_WORDS, Plan, ROW_WORDS, STORE_PLACES, STORE_WORDS};
 
 // Whether the store fits the image; and the plan that knows its facts.
-#[derive(Drop)]
+#[derive(Clone, Copy)]
 pub struct Loaded {
     pub fits: bool,
     pub plan: Plan,

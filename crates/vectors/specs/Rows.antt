@@ -1,8 +1,7 @@
 -- A case as a row: what the definitions give for a call, and what is said, each as words in the order of the answer's line.
-use Rattle.std.specs.Prelude.{List, [], ◌∷◌, ◌++◌, ℕ, zero, suc, ◌/◌, ◌%◌, ◌^◌, eqb, get_or, take, drop, replicate}
+use Rattle.std.specs.Prelude.{if◌then◌else◌, List, [], ◌∷◌, ◌++◌, ℕ, zero, suc, ◌/◌, ◌%◌, ◌^◌, eqb, get_or, take, drop, replicate}
 use Rattle.meaning.specs.declared.Buffer.{Buffer}
 use Rattle.meaning.specs.declared.State.{State}
-use Rattle.meaning.specs.Base.{if◌then◌else◌}
 use Rattle.meaning.specs.Step.{event_fired, event_waited}
 use Rattle.meaning.specs.Calls.{Opened, open_of, Ran, WithStore, run_lent, Refreshed, refresh_of}
 use Rattle.meaning.specs.Fresh.{FreshRan, fresh_lent}

@@ -1,9 +1,9 @@
 -- `actr_lines::put_kind` meets its contract on both arms.
+use Rattle.std.specs.Prelude.{if◌then◌else◌}
 use mathlib.Core.Path.{sym, ap}
 use native.Mathlib.Omega.{arith}
 use borrow.Author.Tests.{eq-eqb, ne_eqb}
 use mathlib.Core.Bool.{Bool}
-use Rattle.meaning.specs.Base.{if◌then◌else◌}
 use Rattle.actr_lines.specs.Text.{fired, waited}
 use Rattle.actr_lines.proofs.WrittenLaws.{written_as}
 use borrow.Author.Rules.{rules}

@@ -1,4 +1,5 @@
 -- `match_rule::match_tests` meets its contract: what is left of the rule, with the variables so far, gives what the whole gives.
+use Rattle.std.specs.Prelude.{if◌then◌else◌}
 use Rattle.match_rule.proofs.ShutLaws.{because-pending, because-type, because-slot}
 use Rattle.match_rule.specs.Shut.{is_hit}
 use Rattle.match_rule.specs.declared.Tried.{Tried}
@@ -11,7 +12,6 @@ use borrow.Author.Rules.{rules}
 use borrow.Author.Tests.{not-true, not-false}
 use native.Mathlib.Omega.{arith}
 use lib.ListN.{length, get_or}
-use Rattle.meaning.specs.Base.{if◌then◌else◌}
 use Rattle.meaning.specs.State.{nothing}
 use Rattle.layout.specs.Rows.{tests_in}
 use Rattle.read_terms.proofs.MaskWalk.{Walk, walk_start, walk-next, walk-on, walk-off, walk_end}

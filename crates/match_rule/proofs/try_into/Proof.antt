@@ -1,10 +1,10 @@
 -- `match_rule::try_into` meets its contract: the match of the tests and queries in words, carried over to the declarative match.
+use Rattle.std.specs.Prelude.{if◌then◌else◌}
 use Rattle.match_rule.proofs.MadeLaws.{hit-words, not-hit, made}
 use Rattle.match_rule.specs.Shut.{is_hit}
 use Rattle.match_rule.specs.Words.{vars_in}
 use Rattle.match_rule.specs.Run.{Vars, stop, on, entry_words}
 use Rattle.match_rule.specs.declared.Tried.{Tried}
-use Rattle.meaning.specs.Base.{if◌then◌else◌}
 use Prim.Native.Nat.{ℕ}
 use mathlib.Core.List.{List}
 use lib.ListN.{length-set}

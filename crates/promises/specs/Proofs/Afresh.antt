@@ -1,5 +1,5 @@
 -- The run without a table is the kept run with the fresh one: choice, step, run and call; and so its numbers and its transitions.
-use Rattle.std.specs.Prelude.{◌≡◌, ◌↔◌, ◌⊎◌, Bool, true, false, not, List, [], ◌∷◌, leb, ℤ, drop}
+use Rattle.std.specs.Prelude.{if◌then◌else◌, ◌≡◌, ◌↔◌, ◌⊎◌, Bool, true, false, not, List, [], ◌∷◌, leb, ℤ, drop}
 use Rattle.std.proofs.Math.Path.{refl, sym}
 use Rattle.std.proofs.Common.{ap, ap₂, subst, ◌∙◌, inl, inr, ⊎_elim, arith, take_at, drop_at}
 use Rattle.std.proofs.Math.Option.{Option, none, some}
@@ -7,7 +7,7 @@ use Prim.Native.Nat.{ℕ, zero, suc, ◌+◌, ◌*◌, ◌≤◌, ◌<◌}
 use borrow.Author.Tests.{eq-eqb}
 use Rattle.std.proofs.Math.ListN.{length}
 use Rattle.meaning.specs.declared.State.{State}
-use Rattle.meaning.specs.Base.{if◌then◌else◌, keep}
+use Rattle.meaning.specs.Base.{keep}
 use Rattle.meaning.specs.Highest.{highest}
 use Rattle.meaning.specs.Numbers.{clock_full, ill_formed, store_full, bad_store}
 use Rattle.meaning.specs.Model.{Model, Rule, Chunk, Fact}

@@ -1,5 +1,5 @@
 -- What the rules and facts of a decoded image keep to: slots within the type, each once, symbols of twelve bits, variables that stood in a test.
-use Rattle.std.specs.Prelude.{◌≡◌, ◌⊎◌, Bool, false, ◌&&◌, ◌||◌, not, leb, eqb, length}
+use Rattle.std.specs.Prelude.{if◌then◌else◌, ◌≡◌, ◌⊎◌, Bool, false, ◌&&◌, ◌||◌, not, leb, eqb, length}
 use Rattle.std.proofs.Math.Path.{refl}
 use Rattle.std.proofs.Common.{sym, inl, inr, arith}
 use Rattle.std.proofs.Math.Bool.{true}
@@ -8,7 +8,7 @@ use Rattle.std.proofs.Math.Option.{Option, none, some}
 use Prim.Native.Nat.{ℕ, zero, suc, ◌+◌, ◌-◌, ◌%◌, ◌^◌, ◌≤◌, ◌<◌}
 use borrow.Author.Tests.{ltb-true, ltb-false, lt-ltb, le-leb, eqb-true, eq-eqb}
 use Rattle.std.proofs.Math.Dec.{ltb}
-use Rattle.meaning.specs.Base.{if◌then◌else◌, every, up_from}
+use Rattle.meaning.specs.Base.{every, up_from}
 use Rattle.meaning.specs.Numbers.{finer, bad_variable, bad_buffer, bad_mask, bad_number}
 use Rattle.meaning.specs.Model.{Model, Sizes, Rule, Test, Action, Deed, deed_modify, deed_request, deed_clear, Named, Term, symbol, variable, Chunk, Fact}
 use Rattle.meaning.specs.State.{slot_count, well_buffer, opens}

@@ -1,9 +1,8 @@
 -- A step with a store is the step of a model that knows what is in it, if there is room for what it learns.
-use Rattle.std.specs.Prelude.{◌≡◌, refl, true, false, List, ℕ}
+use Rattle.std.specs.Prelude.{if◌then◌else◌, ◌≡◌, refl, true, false, List, ℕ}
 use Rattle.std.proofs.Common.{sym}
 use Rattle.std.proofs.Math.Option.{Option, none, some}
 use Rattle.meaning.specs.declared.State.{State}
-use Rattle.meaning.specs.Base.{if◌then◌else◌}
 use Rattle.meaning.specs.Numbers.{store_full}
 use Rattle.meaning.specs.Model.{Model, Chunk}
 use Rattle.meaning.specs.Match.{fresh_table}

@@ -1,11 +1,11 @@
 -- What joins a store is cleared from a buffer: what holds of all buffers' chunks holds of it.
-use Rattle.std.specs.Prelude.{◌≡◌, Bool, ◌&&◌, ℕ, ◌+◌}
+use Rattle.std.specs.Prelude.{if◌then◌else◌, ◌≡◌, Bool, ◌&&◌, ℕ, ◌+◌}
 use Rattle.std.proofs.Math.Path.{refl}
 use Rattle.std.proofs.Math.Bool.{true, false, not}
 use mathlib.Core.List.{List, [], ◌∷◌, ◌++◌}
 use Rattle.meaning.specs.declared.Buffer.{Buffer}
 use Rattle.meaning.specs.declared.State.{State}
-use Rattle.meaning.specs.Base.{if◌then◌else◌, every, any_of, admit}
+use Rattle.meaning.specs.Base.{every, any_of, admit}
 use Rattle.meaning.specs.Model.{Model, Action, Chunk}
 use Rattle.meaning.specs.State.{visible, is_nil}
 use Rattle.meaning.specs.Fire.{deed_on}

@@ -2,7 +2,7 @@
 use Rattle.std.proofs.Math.Path.{◌≡◌, refl, ap}
 use Rattle.std.proofs.Common.{sym, subst, ◌∙◌, zero-add, arith, eqb-true, eq-eqb, ne_eqb}
 use Rattle.std.proofs.Math.Logic.{⊎_elim}
-use Rattle.std.specs.Prelude.{Bool, ◌||◌, not, eqb, ℤ}
+use Rattle.std.specs.Prelude.{if◌then◌else◌, Bool, ◌||◌, not, eqb, ℤ}
 use Rattle.std.proofs.Math.Bool.{true, false}
 use mathlib.Core.List.Memᴰ
 use mathlib.Core.List.{List, [], ◌∷◌, map, Memᴰ}
@@ -11,7 +11,7 @@ use Prim.Native.Nat.{ℕ, zero, suc, ◌+◌, ◌≤◌, ◌<◌}
 use Rattle.std.proofs.lemmas.Bool.{eqb-false}
 use Rattle.std.proofs.Math.ListN.{length, length-map, get_or-eq_default}
 use Rattle.meaning.specs.declared.State.{State}
-use Rattle.meaning.specs.Base.{if◌then◌else◌, up_from, bit}
+use Rattle.meaning.specs.Base.{up_from, bit}
 use Rattle.meaning.specs.Model.{Model, Rule, Action, Fact}
 use Rattle.meaning.specs.State.{buffer_of, visible}
 use Rattle.meaning.specs.Fire.{deed_on}

@@ -1,8 +1,8 @@
 -- A mark names every buffer that a step changed for some test or query; so the refresh of a fresh table is fresh.
-use Rattle.std.specs.Prelude.{◌≡◌, refl, Bool, true, false, List, [], ◌∷◌, ◌++◌, ℕ, ℤ, length}
+use Rattle.std.specs.Prelude.{if◌then◌else◌, ◌≡◌, refl, Bool, true, false, List, [], ◌∷◌, ◌++◌, ℕ, ℤ, length}
 use Rattle.std.proofs.Common.{ap₂, subst, ⊎_elim, take_at, drop_at}
 use Rattle.meaning.specs.declared.State.{State}
-use Rattle.meaning.specs.Base.{if◌then◌else◌, any_of, bit}
+use Rattle.meaning.specs.Base.{any_of, bit}
 use Rattle.meaning.specs.Model.{Model, Rule, Fact}
 use Rattle.meaning.specs.State.{buffer_of}
 use Rattle.meaning.specs.Match.{entry_of, fresh_table}

@@ -1,10 +1,10 @@
 -- How the reading of an image goes and where it stops, whatever follows the bits that it has read: said of a field, kept by reading one thing after the other, and so
 -- of all fields of an image.
-use Rattle.std.specs.Prelude.{◌≡◌, ◌⊎◌, Bool, true, false, ℕ, zero, suc, ◌+◌, ◌*◌, ◌≤◌, ◌<◌, length}
+use Rattle.std.specs.Prelude.{if◌then◌else◌, ◌≡◌, ◌⊎◌, Bool, true, false, ℕ, zero, suc, ◌+◌, ◌*◌, ◌≤◌, ◌<◌, length}
 use Rattle.std.proofs.Math.Path.{refl}
 use Rattle.std.proofs.Common.{sym, ap, ap₂, ◌∙◌, inl, inr, ⊎_elim, arith}
 use mathlib.Core.List.{List}
-use Rattle.meaning.specs.Base.{if◌then◌else◌, every, up_from}
+use Rattle.meaning.specs.Base.{every, up_from}
 use Rattle.meaning.specs.Numbers.{finer, not_there, bad_number, bad_end, bad_mask, bad_variable, bad_buffer}
 use Rattle.meaning.specs.Model.{Model, Sizes, Rule, Action, Query, Test, Fact}
 use Rattle.meaning.specs.Bits.{field_at}

@@ -1,5 +1,5 @@
 -- The chosen rule is the one that the table's first words pick; with the fresh table that is the selected one.
-use Rattle.std.specs.Prelude.{◌≡◌, refl, true, false, not, ℕ, suc, ◌+◌, ◌≤◌, eqb, ℤ, pos, negsuc, get_or, take, drop, replicate}
+use Rattle.std.specs.Prelude.{if◌then◌else◌, ◌≡◌, refl, true, false, not, ℕ, suc, ◌+◌, ◌≤◌, eqb, ℤ, pos, negsuc, get_or, take, drop, replicate}
 use Rattle.std.proofs.Common.{sym, ap, ◌∙◌, ⊎_elim, add-zero, zero-add, arith, ltb-true, ltb-false, le-ltb, eqb-true, eq-eqb}
 use mathlib.Core.List.Memᴰ
 use mathlib.Core.List.{List, [], ◌∷◌, map, Memᴰ}
@@ -7,7 +7,7 @@ use Rattle.std.proofs.Math.Option.{Option, none, some}
 use Rattle.std.proofs.lemmas.Bool.{not-true}
 use Rattle.std.specs.Int.Signed.{lt_z}
 use Rattle.meaning.specs.declared.State.{State}
-use Rattle.meaning.specs.Base.{if◌then◌else◌, up_from}
+use Rattle.meaning.specs.Base.{up_from}
 use Rattle.meaning.specs.Model.{Model, Rule}
 use Rattle.meaning.specs.Match.{places, value_in, matches, entry_of, fresh_table}
 use Rattle.meaning.specs.Choice.{Candidate, candidates, utilities, counts, lower, choose}

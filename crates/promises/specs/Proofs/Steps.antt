@@ -1,10 +1,10 @@
 -- A step taken apart: which rule fired or how long was waited, and when there is none.
-use Rattle.std.specs.Prelude.{◌≡◌, true, false, List, [], ◌∷◌, ℕ, zero, suc, ◌≤◌, ◌<◌, eqb, leb, ℤ}
+use Rattle.std.specs.Prelude.{if◌then◌else◌, ◌≡◌, true, false, List, [], ◌∷◌, ℕ, zero, suc, ◌≤◌, ◌<◌, eqb, leb, ℤ}
 use Rattle.std.proofs.Math.Path.{refl}
 use Rattle.std.proofs.Common.{sym, ap, ◌∙◌, arith, eqb-true, eq-eqb, leb-true, leb-false, le-leb}
 use Rattle.std.proofs.Math.Option.{Option, none, some}
 use Rattle.meaning.specs.declared.State.{State}
-use Rattle.meaning.specs.Base.{if◌then◌else◌, same}
+use Rattle.meaning.specs.Base.{same}
 use Rattle.meaning.specs.Numbers.{not_fresh, clock_full, halted}
 use Rattle.meaning.specs.Model.{Model, Fact}
 use Rattle.meaning.specs.Match.{entry_of}

@@ -1,13 +1,13 @@
 -- Why a step is not made, for any table.
 use Rattle.std.proofs.Math.Path.{◌≡◌, refl, sym, ap}
 use Rattle.std.proofs.Common.{◌∙◌}
-use Rattle.std.specs.Prelude.{◌↔◌, ℕ, zero, suc, ◌+◌, ◌<◌, length}
+use Rattle.std.specs.Prelude.{if◌then◌else◌, ◌↔◌, ℕ, zero, suc, ◌+◌, ◌<◌, length}
 use Rattle.std.proofs.Math.Bool.{true, false}
 use mathlib.Core.List.{List, []}
 use Rattle.std.proofs.Math.Option.{Option, none, some}
 use native.Mathlib.Omega.{arith}
 use Rattle.meaning.specs.declared.State.{State}
-use Rattle.meaning.specs.Base.{if◌then◌else◌, same}
+use Rattle.meaning.specs.Base.{same}
 use Rattle.meaning.specs.Numbers.{not_fresh, clock_full}
 use Rattle.meaning.specs.Model.{Model}
 use Rattle.meaning.specs.State.{buffer_of}

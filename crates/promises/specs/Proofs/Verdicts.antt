@@ -1,7 +1,7 @@
 -- By 01's numbers and by the finer ones an image is judged alike: said of a field, kept by reading one thing after the other, and so of an image.
-use Rattle.std.specs.Prelude.{◌≡◌, refl, Bool, true, false, List, ℕ, suc, ◌+◌, ◌*◌, ltb, length}
+use Rattle.std.specs.Prelude.{if◌then◌else◌, ◌≡◌, refl, Bool, true, false, List, ℕ, suc, ◌+◌, ◌*◌, ltb, length}
 use Rattle.std.proofs.Common.{arith}
-use Rattle.meaning.specs.Base.{if◌then◌else◌, every, up_from}
+use Rattle.meaning.specs.Base.{every, up_from}
 use Rattle.meaning.specs.Numbers.{coarse, finer, too_long, not_there}
 use Rattle.meaning.specs.Model.{Model, Sizes, Rule, Action, Query, Test}
 use Rattle.meaning.specs.Bits.{field_at}

@@ -1,5 +1,5 @@
 -- A list of bits in an image, and the image that is made of one: "Fields are packed most significant bit first, without gaps", "Zero bits up to the byte's end."
-use Rattle.std.specs.Prelude.{◌≡◌, Bool, true, false, List, ◌++◌, map, eqb}
+use Rattle.std.specs.Prelude.{if◌then◌else◌, ◌≡◌, Bool, true, false, List, ◌++◌, map, eqb}
 use Rattle.std.proofs.Math.Path.{refl, ap}
 use Rattle.std.proofs.Common.{sym, ◌∙◌, arith, length-append, get_or-append-add}
 use Prim.Native.Nat.{ℕ, zero, suc, ◌+◌, ◌-◌, ◌*◌, ◌/◌, ◌%◌, ◌^◌, ◌≤◌, ◌<◌}
@@ -7,7 +7,7 @@ use borrow.Author.Tests.{lt-ltb, eq-eqb}
 use Rattle.std.proofs.Math.ListN.{length, get_or, get_or-append, get_or-eq_default}
 use Rattle.std.proofs.lemmas.List.{length-map}
 use Rattle.std.proofs.Math.Pow.{are_bytes}
-use Rattle.meaning.specs.Base.{if◌then◌else◌, up_from}
+use Rattle.meaning.specs.Base.{up_from}
 use Rattle.meaning.specs.Bits.{bit_at, field_at}
 use Rattle.meaning.specs.Read.{read_got}
 use Rattle.meaning.specs.Image.{padding, ending}

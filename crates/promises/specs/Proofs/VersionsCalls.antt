@@ -1,12 +1,11 @@
 -- The calls on an image without queries, handed two states that are the same but for flags; and on two images that decode to one model.
-use Rattle.std.specs.Prelude.{◌≡◌, Bool, List, [], ℕ, ◌*◌, eqb}
+use Rattle.std.specs.Prelude.{if◌then◌else◌, ◌≡◌, Bool, List, [], ℕ, ◌*◌, eqb}
 use Rattle.std.proofs.Math.Path.{refl, ap}
 use Rattle.std.proofs.Common.{sym, ◌∙◌}
 use Rattle.std.proofs.Math.Bool.{true, false, not}
 use Rattle.std.proofs.Math.Option.{Option, none}
 use Rattle.std.proofs.Math.ListN.{length}
 use Rattle.meaning.specs.declared.State.{State}
-use Rattle.meaning.specs.Base.{if◌then◌else◌}
 use Rattle.meaning.specs.Numbers.{ill_formed, bad_store, wrong_table}
 use Rattle.meaning.specs.Model.{Model}
 use Rattle.meaning.specs.State.{well_formed}

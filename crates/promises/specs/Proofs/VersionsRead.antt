@@ -1,10 +1,10 @@
 -- An image whose version is not 2 is read as document 01 read it before request 2026-06, and refused as it was; one whose version is 2 was refused.
-use Rattle.std.specs.Prelude.{◌≡◌, Bool, true, false, ◌&&◌, ℕ, zero, suc, ◌+◌, ◌-◌, ◌/◌, ◌%◌, ◌^◌, ◌≤◌, ◌<◌, ltb, leb, eqb, length, get_or}
+use Rattle.std.specs.Prelude.{if◌then◌else◌, ◌≡◌, Bool, true, false, ◌&&◌, ℕ, zero, suc, ◌+◌, ◌-◌, ◌/◌, ◌%◌, ◌^◌, ◌≤◌, ◌<◌, ltb, leb, eqb, length, get_or}
 use Rattle.std.proofs.Math.Path.{refl}
 use Rattle.std.proofs.Common.{sym, ap, ◌∙◌, arith, ltb-false, le-ltb, leb-true, le-leb, eqb-true, ne_eqb, shr-shr}
 use mathlib.Core.List.{List, [], ◌∷◌, Memᴰ}
 use Rattle.std.proofs.lemmas.Bool.{lt-leb}
-use Rattle.meaning.specs.Base.{if◌then◌else◌, every, up_from}
+use Rattle.meaning.specs.Base.{every, up_from}
 use Rattle.meaning.specs.Numbers.{RuleNumbers, finer, bad_number, bad_variable, too_long}
 use Rattle.meaning.specs.Model.{Model, Sizes, Rule}
 use Rattle.meaning.specs.Bits.{field_at}

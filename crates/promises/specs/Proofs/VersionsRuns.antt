@@ -1,5 +1,5 @@
 -- In a model without queries a run is the run of 01 but for flags: the same number, events, table and store. So the runs from two states that are the same but for flags are.
-use Rattle.std.specs.Prelude.{◌≡◌, Bool, true, false, leb, get_or, take, drop, ℤ, pos}
+use Rattle.std.specs.Prelude.{if◌then◌else◌, ◌≡◌, Bool, true, false, leb, get_or, take, drop, ℤ, pos}
 use Rattle.std.proofs.Math.Path.{refl, ap}
 use Rattle.std.proofs.Common.{sym, ap₂, ◌∙◌, ⊎_elim}
 use mathlib.Core.List.Memᴰ
@@ -7,7 +7,7 @@ use mathlib.Core.List.{List, [], ◌∷◌, Memᴰ}
 use Rattle.std.proofs.Math.Option.{Option, none, some}
 use Prim.Native.Nat.{ℕ, zero, suc, ◌+◌}
 use Rattle.meaning.specs.declared.State.{State}
-use Rattle.meaning.specs.Base.{if◌then◌else◌, keep, same}
+use Rattle.meaning.specs.Base.{keep, same}
 use Rattle.meaning.specs.Highest.{highest}
 use Rattle.meaning.specs.Numbers.{not_fresh, clock_full, store_full}
 use Rattle.meaning.specs.Model.{Model, Rule, Action, Chunk, Fact}

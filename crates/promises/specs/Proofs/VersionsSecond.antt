@@ -1,9 +1,8 @@
 -- An accepted image of version 1 written as one of version 2: the bits of its fields with another version, and a query count of 0 after the tests of each rule.
-use Rattle.std.specs.Prelude.{◌≡◌, refl, Bool, true, false, List, [], ◌∷◌, ◌++◌, ℕ, ◌+◌, ◌*◌, ◌≤◌, ◌<◌, ltb, get_or}
+use Rattle.std.specs.Prelude.{if◌then◌else◌, ◌≡◌, refl, Bool, true, false, List, [], ◌∷◌, ◌++◌, ℕ, ◌+◌, ◌*◌, ◌≤◌, ◌<◌, ltb, get_or}
 use Rattle.std.proofs.Common.{sym, ap, ap₂, ◌∙◌, arith, ltb-true, le-ltb, ne_eqb, length-append}
 use Rattle.std.proofs.Math.ListN.{length}
 use Rattle.std.proofs.Math.Pow.{are_bytes}
-use Rattle.meaning.specs.Base.{if◌then◌else◌}
 use Rattle.meaning.specs.Numbers.{finer, bad_number, bad_end, too_long}
 use Rattle.meaning.specs.Model.{Model, Sizes, Rule, Chunk, Fact}
 use Rattle.meaning.specs.Read.{read_refused, read_got, Reader, and_then, give, must, field, times}

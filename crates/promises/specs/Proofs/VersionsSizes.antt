@@ -1,10 +1,10 @@
 -- How many bits an image of a model has: each version has its own number of them, whatever the image. So an image of version 2 has four more for each rule than one of version 1.
-use Rattle.std.specs.Prelude.{◌≡◌, refl, Bool, true, false, List, [], ◌∷◌, ltb, leb, length}
+use Rattle.std.specs.Prelude.{if◌then◌else◌, ◌≡◌, refl, Bool, true, false, List, [], ◌∷◌, ltb, leb, length}
 use Rattle.std.proofs.Common.{sym, ap, ◌∙◌, mul-zero, mul-suc, add_comm, ltb-false}
 use mathlib.Core.List.Memᴰ
 use Prim.Native.Nat.{ℕ, zero, suc, ◌+◌, ◌-◌, ◌*◌, ◌≤◌}
 use native.Mathlib.Omega.{arith}
-use Rattle.meaning.specs.Base.{if◌then◌else◌, every, up_from}
+use Rattle.meaning.specs.Base.{every, up_from}
 use Rattle.meaning.specs.Numbers.{finer, bad_number, bad_mask, bad_variable, bad_buffer, too_long}
 use Rattle.meaning.specs.Model.{Model, Sizes, Rule, Action, Deed, deed_modify, deed_request, deed_clear, Query, Test, Named, Chunk, Fact}
 use Rattle.meaning.specs.State.{slot_count}

@@ -1,5 +1,5 @@
 -- A step keeps a state well formed, and so does every call.
-use Rattle.std.specs.Prelude.{◌≡◌, Bool, ◌&&◌, ◌||◌, not, ℕ, zero, suc, ◌+◌, ◌-◌, ◌≤◌, ◌<◌, ltb, leb, length, get_or, drop, replicate, set}
+use Rattle.std.specs.Prelude.{if◌then◌else◌, ◌≡◌, Bool, ◌&&◌, ◌||◌, not, ℕ, zero, suc, ◌+◌, ◌-◌, ◌≤◌, ◌<◌, ltb, leb, length, get_or, drop, replicate, set}
 use Rattle.std.proofs.Math.Path.{refl}
 use Rattle.std.proofs.Common.{sym, ap, ◌∙◌, zero-add, arith, drop-set-lt}
 use Rattle.std.proofs.Math.Bool.{true, false}
@@ -9,7 +9,7 @@ use borrow.Author.Tests.{ltb-true, eqb-true, eq-eqb}
 use Rattle.std.proofs.Math.Dec.{eqb}
 use Rattle.meaning.specs.declared.Buffer.{Buffer}
 use Rattle.meaning.specs.declared.State.{State}
-use Rattle.meaning.specs.Base.{if◌then◌else◌, every, keep, up_from}
+use Rattle.meaning.specs.Base.{every, keep, up_from}
 use Rattle.meaning.specs.Model.{Model, Rule, Test, Action, Deed, deed_modify, deed_request, deed_clear, Named, Term, symbol, variable, Fact}
 use Rattle.meaning.specs.State.{nothing, buffer_of, visible, slot_count, is_nil, flag_fits, well_buffer, is_unused, well_formed, opens}
 use Rattle.meaning.specs.Image.{is_variable, is_tested, tested_type}

@@ -1,10 +1,9 @@
 -- A run without a table and a kept run that are alike over states are so over what their calls give back, and over the words that C holds.
-use Rattle.std.specs.Prelude.{◌≡◌, true, false, ◌&&◌, List, [], ℕ, ◌*◌, length}
+use Rattle.std.specs.Prelude.{if◌then◌else◌, ◌≡◌, true, false, ◌&&◌, List, [], ℕ, ◌*◌, length}
 use Rattle.std.proofs.Math.Path.{refl, sym, ap}
 use Rattle.std.proofs.Common.{ap₂, ◌∙◌}
 use Rattle.std.proofs.Math.Option.{Option, none}
 use Rattle.meaning.specs.declared.State.{State}
-use Rattle.meaning.specs.Base.{if◌then◌else◌}
 use Rattle.meaning.specs.Numbers.{ill_formed, bad_store}
 use Rattle.meaning.specs.Model.{Model}
 use Rattle.meaning.specs.State.{well_formed}

@@ -1,12 +1,12 @@
 -- What is read off each answer for C, and that its position is that of a refused image, else 0.
-use Rattle.std.specs.Prelude.{◌≡◌, Bool, not, List, [], ◌∷◌, ℕ, suc, ◌*◌, ◌^◌, ◌≤◌, ◌<◌, leb, eqb}
+use Rattle.std.specs.Prelude.{if◌then◌else◌, ◌≡◌, Bool, not, List, [], ◌∷◌, ℕ, suc, ◌*◌, ◌^◌, ◌≤◌, ◌<◌, leb, eqb}
 use Rattle.std.proofs.Math.Path.{refl}
 use Rattle.std.proofs.Common.{inl, inr, arith}
 use Rattle.std.proofs.Math.Bool.{true, false}
 use Rattle.std.proofs.Math.Option.{Option, none}
 use Rattle.std.proofs.Math.ListN.{length}
 use Rattle.meaning.specs.declared.State.{State}
-use Rattle.meaning.specs.Base.{if◌then◌else◌, admit, keep}
+use Rattle.meaning.specs.Base.{admit, keep}
 use Rattle.meaning.specs.Numbers.{wrong_table}
 use Rattle.meaning.specs.Model.{Model, Rule}
 use Rattle.meaning.specs.State.{well_formed}
