@@ -97,11 +97,7 @@ pub fn jirvuntsag_bench_field_singly(image: &[u8], at: usize, width: usize) -> u
 }
 
 // Opens an image as `jirvuntsag_open` does, under a name of its own, to be timed by either fetch (tools/bench-archive).
-pub fn jirvuntsag_bench_open(
-    image: &[u8],
-    table: &mut [u16],
-    state: &mut [u32; 89],
-) -> u64
+pub fn jirvuntsag_bench_open(image: &[u8], table: &mut [u16], state: &mut [u32; 89]) -> u64
     ensures { told result state.new table.new ≡ open_in image.now table.old }
 {
     jirvuntsag::jirvuntsag_open(image, table, state)

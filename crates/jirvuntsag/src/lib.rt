@@ -158,12 +158,7 @@ pub fn jirvuntsag_open(image: &[u8], table: &mut [u16], state: &mut [u32; 89]) -
 }
 
 // Runs at most `steps` steps: writes the state and the table after them.
-pub fn jirvuntsag_run(
-    image: &[u8],
-    state: &mut [u32; 89],
-    table: &mut [u16],
-    steps: u16,
-) -> u64
+pub fn jirvuntsag_run(image: &[u8], state: &mut [u32; 89], table: &mut [u16], steps: u16) -> u64
     ensures { told result state.new table.new ≡ run_in image.now state.old table.old steps }
 {
     let before = given(state);
@@ -216,12 +211,7 @@ pub fn jirvuntsag_run_lent(
 }
 
 // Makes the entries of the rules that test or query a marked buffer afresh.
-pub fn jirvuntsag_refresh(
-    image: &[u8],
-    state: &[u32; 89],
-    mark: u16,
-    table: &mut [u16],
-) -> u64
+pub fn jirvuntsag_refresh(image: &[u8], state: &[u32; 89], mark: u16, table: &mut [u16]) -> u64
     ensures { told result state.now table.new ≡ refresh_in image.now state.now mark table.old }
 {
     let before = given(state);
