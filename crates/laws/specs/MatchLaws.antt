@@ -49,7 +49,7 @@ unfolding agreed_from
 agreed-from before [] = refl
 agreed-from before (p ∷ ps) =
     let e : before ++ (p ∷ ps) ≡ before ++ (p ∷ []) ++ ps = sym (append_assoc before (p ∷ []) ps) in
-    rw e (ap₂ (λ (x y : Bool). x && y) (ap (λ (x : ℕ). takes p.term p.value && eqb p.value x) (term-last before p ps p.term refl)) (agreed-from (before ++ (p ∷ [])) ps))
+    ap (λ (zs : List Place). every (agrees zs) (p ∷ ps)) e ∙ ap₂ (λ (x y : Bool). x && y) (ap (λ (x : ℕ). takes p.term p.value && eqb p.value x) (term-last before p ps p.term refl)) (agreed-from (before ++ (p ∷ [])) ps)
 
 pub agreed-walk : (ps : List Place) → agreed ps ≡ agreed_from [] ps
 agreed-walk ps = agreed-from [] ps

@@ -4,14 +4,10 @@ use Prim.Native.Nat.{ℕ, ◌*◌}
 use mathlib.Core.Path.{◌≡◌, refl, ap, ◌∙◌}
 use mathlib.Core.Bool.{Bool, false}
 use mathlib.Core.List.{List, [], ◌∷◌}
-use mathlib.Core.Logic.{⊎_elim}
 use native.Mathlib.Omega.{arith}
 use lib.ListN.{length, get_or, set, drop}
-use types.Run.{OneOf}
-use denote.Enum.Declared.{tag_of}
 use Rattle.layout.specs.Rows.{tests_in, queries_at, rule_in}
 use Rattle.layout.specs.StateWords.{state_in}
-use Rattle.match_rule.specs.contracts.Tried as Declared
 use Rattle.match_rule.specs.declared.Tried.{Tried}
 use Rattle.match_rule.specs.declared.Tried.TheVariants.{Hit, Differs, Varies}
 use Rattle.match_rule.specs.Run.{Vars, Run, stop, on, then_on, rule_run, entry_words}
@@ -24,8 +20,8 @@ pub rule-stands : (heads words : List ℕ) (k : ℕ) → StandsAt (rule_in heads
 rule-stands heads words k = record { tests = refl; queries = refl }
 
 -- one of the other two variants
-pub not-hit : (t : Tried) → OneOf (1 ∷ 2 ∷ []) (tag_of Declared.the_type t) → is_hit t ≡ false
-not-hit Hit h = absurd (⊎_elim (λ (e : ◌≡◌ {A = ℕ} 0 1). omega arith) (λ (e : ◌≡◌ {A = ℕ} 0 2). omega arith) h)
+pub not-hit : (t : Tried) → (t ≡ Hit → ⊥) → is_hit t ≡ false
+not-hit Hit h = absurd (h refl)
 not-hit (Differs p v) h = refl
 not-hit Varies h = refl
 

@@ -6,17 +6,3 @@ pub mod Before
 pub mod Published
 pub mod Sentences
 pub mod Places
-pub mod Numbers
-pub mod Refreshing
-pub mod Marking
-pub mod Keeping
-pub mod Clearing
-pub mod Semantics
-pub mod Filling
-pub mod Fresh
-pub mod Placing
-pub mod Remembering
-pub mod Asking
-pub mod Versions
-pub mod Demands
-pub mod Proofs

@@ -15,7 +15,7 @@ use Rattle.jirvuntsag.specs.Told.{answer, Told, told, open_in, run_in, refresh_i
 use Rattle.jirvuntsag.specs.Lent.{told_with, run_lent_in}
 use Rattle.promises.specs.Words.{Machine, Reached}
 use Rattle.promises.specs.Sentences.{Beforehand, Taken}
-use Rattle.promises.specs.Keeping.{reached-fresh, reached-well}
+use Rattle.promises.proofs.Keeping.{reached-fresh, reached-well}
 use Rattle.promises_c.specs.Handing.{number_in, Leaves, Held}
 use Rattle.promises_c.specs.Proofs.Back as back
 use Rattle.promises_c.specs.Proofs.Calling as calling

@@ -26,10 +26,10 @@ use Rattle.jirvuntsag.specs.Fresh.{FreshTold, fresh_told, told_fresh, fresh_in, 
 use Rattle.jirvuntsag.specs.Lent.{told_with, run_lent_in, fresh_lent_in, fresh_lent_events_in}
 use Rattle.laws.specs.MatchLaws.{fresh-length}
 use Rattle.promises.specs.Words.{Reached, alone, AsKept, ran_lent, fresh_ran_lent}
-use Rattle.promises.specs.Numbers.{accepted-taken}
-use Rattle.promises.specs.Keeping.{reached-fresh}
-use Rattle.promises.specs.Proofs.Numbers.{taken-accepted, refused-accepted}
-use Rattle.promises.specs.Proofs.Afresh.{call-as-kept, reached-as-kept, kept-refuses, fresh-refuses}
+use Rattle.promises.proofs.Numbers.{accepted-taken}
+use Rattle.promises.proofs.Keeping.{reached-fresh}
+use Rattle.promises.proofs.Proofs.Numbers.{taken-accepted, refused-accepted}
+use Rattle.promises.proofs.Proofs.Afresh.{call-as-kept, reached-as-kept, kept-refuses, fresh-refuses}
 use Rattle.promises_c.specs.Handing.{Held, SameDone, SameTold, SameLent}
 use Rattle.promises_c.specs.Proofs.Back.{fit-back}
 use Rattle.promises_c.specs.Proofs.Calling.{same_place, told_by, events_by, by_fits, run-told, run-noted, lent-told, lent-noted, fit-store, unfit-store}

@@ -21,13 +21,13 @@ use Rattle.jirvuntsag.specs.Lent.{fresh_lent_in, fresh_lent_events_in}
 use Rattle.promises.specs.Words.{Machine, alone, fresh_ran_lent}
 use Rattle.promises.specs.Published.{Follows}
 use Rattle.promises.specs.Sentences.{Beforehand}
-use Rattle.promises.specs.Fresh.{fresh-never, fresh-published, fresh-lent-refused}
-use Rattle.promises.specs.Proofs.Numbers.{refused-unread, unread-range}
-use Rattle.promises.specs.Proofs.Outcomes.{freshly}
-use Rattle.promises.specs.Proofs.Chains.{run-keeps}
-use Rattle.promises.specs.Proofs.Machines.{Sound, StoreFit, fit, known-sound, lent-fit}
-use Rattle.promises.specs.Proofs.Afresh.{run-as-kept, answers-as-kept, both-refuse, left-refused, call-refused, lent_never}
-use Rattle.promises.specs.Proofs.Lending.{Accepts, Freed, put-off, moves, freed}
+use Rattle.promises.proofs.Fresh.{fresh-never, fresh-published, fresh-lent-refused}
+use Rattle.promises.proofs.Proofs.Numbers.{refused-unread, unread-range}
+use Rattle.promises.proofs.Proofs.Outcomes.{freshly}
+use Rattle.promises.proofs.Proofs.Chains.{run-keeps}
+use Rattle.promises.proofs.Proofs.Machines.{Sound, StoreFit, fit, known-sound, lent-fit}
+use Rattle.promises.proofs.Proofs.Afresh.{run-as-kept, answers-as-kept, both-refuse, left-refused, call-refused, lent_never}
+use Rattle.promises.proofs.Proofs.Lending.{Accepts, Freed, put-off, moves, freed}
 use Rattle.promises_c.specs.Handing.{number_in, count_in, Reads, fresh_ran_in, FreshLeaves, lay_events}
 use Rattle.promises_c.specs.Proofs.Back.{state-back, fit-back, state-fits}
 use Rattle.promises_c.specs.Proofs.Calling.{number_of, none_of, answer-reads, unfit-reads, by_fits, most-by}

@@ -24,11 +24,11 @@ use Rattle.laws.specs.CallsLaws.{traced-most}
 use Rattle.promises.specs.Words.{Machine, Reached, alone, ran_lent}
 use Rattle.promises.specs.Words as words
 use Rattle.promises.specs.Published.{RanOn}
-use Rattle.promises.specs.Semantics.{reached-run, reached-lent}
+use Rattle.promises.proofs.Semantics.{reached-run, reached-lent}
 use Rattle.promises.specs.Sentences.{Beforehand, Taken}
-use Rattle.promises.specs.Numbers.{accepted-taken, open-refused, lent-refused, refresh-refused}
-use Rattle.promises.specs.Keeping.{reached-fresh, reached-machine}
-use Rattle.promises.specs.Proofs.Numbers.{taken-accepted, open-small, refresh-small, run-refused, left-refused, lent-small}
+use Rattle.promises.proofs.Numbers.{accepted-taken, open-refused, lent-refused, refresh-refused}
+use Rattle.promises.proofs.Keeping.{reached-fresh, reached-machine}
+use Rattle.promises.proofs.Proofs.Numbers.{taken-accepted, open-small, refresh-small, run-refused, left-refused, lent-small}
 use Rattle.promises_c.specs.Handing.{number_in, count_in, Reads, ran_in, SameBuffer, Leaves, Held, opened, ran, refreshed, changed, lay_events}
 use Rattle.promises_c.specs.Proofs.Back.{state-back, same-buffer, fit-back, all_words, words-fit, state-fits}
 

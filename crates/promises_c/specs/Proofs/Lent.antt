@@ -23,11 +23,11 @@ use Rattle.laws.specs.MatchLaws.{fresh-length}
 use Rattle.promises.specs.Words.{OnlyGrows, Grows}
 use Rattle.promises.specs.Published.{RanOn, Follows}
 use Rattle.promises.specs.Sentences.{Taken}
-use Rattle.promises.specs.Numbers.{accepted-taken}
-use Rattle.promises.specs.Keeping.{reached-fresh, reached-well, reached-machine}
-use Rattle.promises.specs.Fresh.{fresh-lent-published}
-use Rattle.promises.specs.Remembering as remembering
-use Rattle.promises.specs.Proofs.Remembered.{words-stay}
+use Rattle.promises.proofs.Numbers.{accepted-taken}
+use Rattle.promises.proofs.Keeping.{reached-fresh, reached-well, reached-machine}
+use Rattle.promises.proofs.Fresh.{fresh-lent-published}
+use Rattle.promises.proofs.Remembering as remembering
+use Rattle.promises.proofs.Proofs.Remembered.{words-stay}
 use Rattle.promises_c.specs.Handing.{ran_in, fresh_ran_in, Held, ran}
 use Rattle.promises_c.specs.Proofs.Back.{state-fits}
 use Rattle.promises_c.specs.Proofs.Calling.{by_fits, told_by, events_by, run-told, run-noted, lent-told, lent-noted, fit-store, unfit-store, Stands, held-stands}

@@ -21,10 +21,10 @@ use Rattle.jirvuntsag.specs.Fresh.{fresh_in}
 use Rattle.jirvuntsag.specs.Lent.{run_lent_in, fresh_lent_in}
 use Rattle.laws.specs.ImageLaws.{few-rules}
 use Rattle.promises.specs.Places.{Located, nowhere}
-use Rattle.promises.specs.Placing.{position-told, open-position, run-position, run-lent-position, refresh-position, fresh-position, fresh-lent-position}
-use Rattle.promises.specs.Numbers as numbers
-use Rattle.promises.specs.Proofs.Reading.{no_place}
-use Rattle.promises.specs.Proofs.Numbers.{refused-unread, unread-range, open-small, refresh-small}
+use Rattle.promises.proofs.Placing.{position-told, open-position, run-position, run-lent-position, refresh-position, fresh-position, fresh-lent-position}
+use Rattle.promises.proofs.Numbers as numbers
+use Rattle.promises.proofs.Proofs.Reading.{no_place}
+use Rattle.promises.proofs.Proofs.Numbers.{refused-unread, unread-range, open-small, refresh-small}
 use Rattle.promises_c.specs.Handing.{number_in, position_in, Reads}
 use Rattle.promises_c.specs.Proofs.Calling.{answer-reads, unfit-small, unfit-reads, told_by, run-told, lent-told, unfit-run, unfit-refresh, run-reads, lent_reads, fit-refresh, by_fits}
 use Rattle.promises_c.specs.Proofs.Alone.{unfit-number, fit-reads, large-reads, lent-large}

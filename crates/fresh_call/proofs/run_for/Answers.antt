@@ -1,0 +1,63 @@
+-- `fresh_call::run_for` meets its contract: state and store are judged, and then the model that stands on the tape runs.
+use Prim.Native.Nat.{ℕ, ◌≤◌, ◌*◌}
+use mathlib.Core.Path.{◌≡◌, ◌∙◌}
+use mathlib.Core.Bool.{true}
+use mathlib.Core.List.{List}
+use lib.ListN.{length, drop}
+use Rattle.meaning.specs.Model.{Model}
+use Rattle.meaning.specs.Read.{read_got}
+use Rattle.meaning.specs.State.{well_formed}
+use Rattle.meaning.specs.Store.{store_fits, store_of}
+use Rattle.layout.specs.Rows.{fact_in}
+use Rattle.layout.specs.Plans.{model_on}
+use Rattle.layout.proofs.RowLaws.{rows-length}
+use Rattle.fresh_run.specs.Went.{WentMet}
+use Rattle.call_store.specs.Lending.{lent_if}
+use Rattle.call_store.proofs.LendLaws.{backing, given_back}
+use Rattle.call_store.proofs.AdmitLaws.{taken-by, refused-by}
+use Rattle.fresh_call.proofs.CallLaws.{lent_same, left-known, fresh-unfit, fresh-went}
+use borrow.Author.Rules.{rules}
+use Rattle.fresh_call.proofs.run_for.Goals as goal
+use Rattle.fresh_call.proofs.run_for.Goals.{After-admit-admitted, After-set_out-went, Else-admitted-ne-ALL_DONE, Start}
+
+abbrev words : (c : After-admit-admitted) → List ℕ
+words c = c.admit-admitted.new.words
+
+abbrev model : (c : Start) → Model
+model c = model_on c.args.plan c.args.tape.now
+
+-- as many facts as the plan says
+own : (c : Start) → length (model c).facts ≡ c.args.plan.facts
+unfolding model_on
+own c = rows-length (λ k. fact_in (drop 152 c.args.tape.now) (11 * k)) 0 c.args.plan.facts
+
+-- the state is well formed, and the store fits
+fits : (c : Else-admitted-ne-ALL_DONE) → (well_formed (model (goal.at.Else-admitted-ne-ALL_DONE c).Start) c.args.asked.state ≡ true) × (store_fits (model (goal.at.Else-admitted-ne-ALL_DONE c).Start).types (lent_if c.args.plan.learns c.args.store.now) ≡ true)
+fits c = taken-by _ _ _ c.admit-admitted.ensures.judged c.if-admitted-ne-ALL_DONE.false
+
+-- the run that was made
+went : (c : After-set_out-went) → let a = c.args in WentMet c.set_out-went.result (model (goal.at.After-set_out-went c).Start) (store_of (lent_if a.plan.learns a.store.now)) (words (goal.at.After-set_out-went c).After-admit-admitted) c.set_out-went.new.state a.asked.state.clock a.asked.steps a.events.now c.set_out-went.new.events c.set_out-went.new.tape
+went c =
+    c.set_out-went.ensures.went_met (model (goal.at.After-set_out-went c).Start) _ (c.admit-admitted.ensures.knows c.if-admitted-ne-ALL_DONE.false)
+
+pub returns-then-admitted-ne-ALL_DONE : goal.returns-then-admitted-ne-ALL_DONE
+returns-then-admitted-ne-ALL_DONE c =
+    let a = c.args in
+    let unfit = refused-by (model (goal.at.returns-then-admitted-ne-ALL_DONE c).Start) a.asked.state _ c.admit-admitted.ensures.judged c.if-admitted-ne-ALL_DONE.true in
+    let met = fresh-unfit a.asked.state a.asked.steps (model (goal.at.returns-then-admitted-ne-ALL_DONE c).Start) (words (goal.at.returns-then-admitted-ne-ALL_DONE c).After-admit-admitted) c.admit-admitted.ensures.stands a.plan.learns a.store.now _ unfit c.no_run.result
+    c.no_run.ensures a.events.now in
+    lent_same _ (read_got (model (goal.at.returns-then-admitted-ne-ALL_DONE c).Start) 0) a.asked.state a.asked.steps a.events.now _ a.store.now _ a.plan.learns a.asked.lent c.requires.2 met
+
+pub give_back-requires : goal.give_back-requires
+give_back-requires c =
+    let a = c.args in
+    (c.set_out-went.ensures.planned, backing a.plan c.set_out-went.result.plan _ a.store.now (model (goal.at.give_back-requires c).Start) c.set_out-went.ensures.planned (own (goal.at.give_back-requires c).Start) (fits (goal.at.give_back-requires c).Else-admitted-ne-ALL_DONE).1 _ (left-known _ (model (goal.at.give_back-requires c).Start) _ _ _ _ _ _ _ _ (went (goal.at.give_back-requires c).After-set_out-went)))
+
+pub returns : goal.returns
+returns c =
+    let a = c.args in
+    let met = went (goal.at.returns c).After-set_out-went in
+    let left = given_back a.plan c.set_out-went.result.plan _ a.store.now (model (goal.at.returns c).Start) c.set_out-went.ensures.planned (own (goal.at.returns c).Start) (fits (goal.at.returns c).Else-admitted-ne-ALL_DONE).1 _ (left-known _ (model (goal.at.returns c).Start) _ _ _ _ _ _ _ _ met) in
+    let ran = fresh-went a.asked.state a.asked.steps (model (goal.at.returns c).Start) (words (goal.at.returns c).After-admit-admitted) c.admit-admitted.ensures.stands a.plan.learns a.store.now (fits (goal.at.returns c).Else-admitted-ne-ALL_DONE).0 (fits (goal.at.returns c).Else-admitted-ne-ALL_DONE).1 c.set_out-went.result
+    c.read_state-after.result c.set_out-went.new.state a.events.now _ _ _ c.read_state-after.ensures met (c.give_back.ensures ∙ left) in
+    lent_same _ (read_got (model (goal.at.returns c).Start) 0) a.asked.state a.asked.steps a.events.now _ a.store.now _ a.plan.learns a.asked.lent c.requires.2 ran

@@ -1,0 +1,14 @@
+pub mod Numbers
+pub mod Refreshing
+pub mod Marking
+pub mod Keeping
+pub mod Clearing
+pub mod Semantics
+pub mod Filling
+pub mod Fresh
+pub mod Placing
+pub mod Remembering
+pub mod Asking
+pub mod Versions
+pub mod Demands
+pub mod Proofs

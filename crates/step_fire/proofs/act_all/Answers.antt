@@ -1,0 +1,33 @@
+-- `step_fire::act_all` meets its contract: the buffers that are left in the mask are as they were, the others what their deeds make of them.
+use borrow.Author.Rules.{rules}
+use mathlib.Core.Path.{◌≡◌}
+use mathlib.Core.Bool.{true}
+use native.Mathlib.Omega.{arith}
+use Rattle.meaning.specs.Mark.{acted_on}
+use Rattle.layout.specs.Rows.{actions_in}
+use Rattle.layout.specs.Plans.{facts_on, rows_on}
+use Rattle.laws.specs.PartLaws.{to_end}
+use Rattle.layout.proofs.PlanLaws.{sections}
+use Rattle.step_fire.proofs.ActLaws.{acted-low}
+use Rattle.step_fire.proofs.FireLaws.{Acting, acting-start, acting-turn, acting-end}
+use Rattle.step_fire.proofs.act_all.Goals as goal
+use Rattle.step_fire.proofs.act_all.Goals.{After-lowest-k}
+
+on : (c : After-lowest-k) → let a = c.args in acted_on (actions_in (rows_on a.plan a.tape.now) a.o a.m) c.lowest-k.result ≡ true
+on c = (c.loop-rest.invariant.left c.lowest-k.result c.lowest-k.ensures.1).0
+
+pub perform-requires : goal.perform-requires
+perform-requires c =
+    let a = c.args in
+    let small = acted-low (rows_on a.plan a.tape.now) a.o 0 a.m c.lowest-k.result (on (goal.at.perform-requires c).After-lowest-k) in
+    (omega (arith, c.loop-rest.invariant.size, c.requires.0), small, simp to_end at c.action_on-q.ensures.1, c.requires.2, c.requires.3, c.requires.4)
+
+pub loop-rest-preserved : goal.loop-rest-preserved
+loop-rest-preserved c =
+    let a = c.args in
+    acting-turn _ _ _ c.loop-rest.invariant (rows_on a.plan a.tape.now) c.action_on-q.result c.lowest-k.ensures.1
+    (λ j. c.drop_lowest-rest.ensures.0 c.lowest-k.result j c.lowest-k.ensures.1 c.lowest-k.ensures.2)
+    (simp to_end at c.action_on-q.ensures.0) c.perform.auto.state c.perform.ensures
+
+pub returns : goal.returns
+returns c = acting-end _ _ _ c.loop-rest.invariant c.loop-rest-test.false

@@ -1,0 +1,15 @@
+use Prim.Native.Nat.{◌+◌, ◌-◌}
+use mathlib.Core.Path.{◌≡◌, sym}
+use native.Mathlib.Omega.{arith}
+use lib.ListN.{get_or, drop}
+use lib.Seq.{get_or-drop}
+use borrow.Author.Rules.{rules}
+use Rattle.step_grow.specs.Grown.{Link}
+use Rattle.step_grow.proofs.LinkLaws.{link_start, link-leap, link-next}
+use Rattle.step_grow.proofs.last_link.Given as goal
+
+abbrev pub invariant-loop-next : goal.invariant-loop-next
+invariant-loop-next l = Link (drop 152 l.tape) l.n l.h l.at × (l.next ≡ get_or (drop l.chains l.tape) l.at 0)
+
+abbrev pub decreases-loop-next : goal.decreases-loop-next
+decreases-loop-next l = l.n - l.next

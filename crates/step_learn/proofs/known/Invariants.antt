@@ -1,0 +1,17 @@
+use borrow.Author.Rules.{rules}
+use Prim.Native.Nat.{◌-◌, ◌+◌, ◌*◌, ◌%◌, ◌<◌}
+use mathlib.Core.Path.{◌≡◌, sym, ◌∙◌}
+use mathlib.Core.Bool.{Bool}
+use native.Mathlib.Omega.{arith}
+use lib.ListN.{get_or, drop}
+use Rattle.layout.proofs.PlanLaws.{sections}
+use Rattle.step_retrieve.specs.Chains.{chain_of, Leap}
+use Rattle.step_learn.proofs.ChunkLaws.{same_chunk}
+use Rattle.step_learn.proofs.JoinLaws.{among_from, among-start, among-end, among-here, among-skip, among-leap, chunk-drop, chain-starts, chain-goes-on}
+use Rattle.step_learn.proofs.known.Given as goal
+
+abbrev pub invariant-loop-k : goal.invariant-loop-k
+invariant-loop-k l = (l.k < l.n → chain_of (drop 152 l.tape) l.k ≡ l.h) × (among_from l.state l.b (drop 152 l.tape) l.n l.k ≡ among_from l.state l.b (drop 152 l.tape) l.n 0)
+
+abbrev pub decreases-loop-k : goal.decreases-loop-k
+decreases-loop-k l = l.n - l.k

@@ -1,0 +1,39 @@
+-- `step_once::step` meets its contract: it is the firing of the rule that is chosen, or the wait where none is.
+use mathlib.Core.Path.{◌≡◌}
+use borrow.Author.Rules.{rules}
+use native.Mathlib.Omega.{arith}
+use Rattle.meaning.specs.Choice.{choose, utilities}
+use Rattle.layout.specs.Plans.{heads_on, rows_on, order_on, rules_on}
+use Rattle.laws.specs.PartLaws.{to_end}
+use Rattle.layout.proofs.PlanLaws.{sections}
+use Rattle.match_choice.specs.Chosen.{candidate_of}
+use Rattle.match_best.specs.Chosen.{Below}
+use lib.Seq.{get_or-drop}
+use Prim.Native.Nat.{◌+◌}
+use Rattle.match_order.specs.Order.{Words16}
+use Rattle.match_order.proofs.PickLaws.{place-below}
+use Rattle.step_once.proofs.StepLaws.{rule-below, step-fires, step_waits, joins-none}
+use Rattle.step_once.proofs.step.Goals as goal
+use Rattle.step_once.proofs.step.Goals.{After-pick, After-pick-arg-1}
+
+heads-small : (c : After-pick-arg-1) → Words16 (heads_on c.args.plan c.args.tape.now)
+heads-small c i = let a = c.args in rw get_or-drop (omega (arith, c.type_inv.tape (a.plan.heads + i)))
+
+chosen : (c : After-pick) → let a = c.args in let rules = rules_on a.plan a.tape.now in (choose rules (utilities rules) a.table.now ≡ candidate_of (heads_on a.plan a.tape.now) (rows_on a.plan a.tape.now) a.table.now c.pick.result) × Below c.pick.result a.plan.rules
+chosen c =
+    let a = c.args in
+    simp to_end at (c.pick.ensures (heads_on a.plan a.tape.now) (rows_on a.plan a.tape.now) a.table.now) (heads-small (goal.at.After-pick c).After-pick-arg-1) c.requires.4 c.requires.5.1
+
+pub fire_step-requires : goal.fire_step-requires
+fire_step-requires c =
+    (c.requires.0, rule-below c.in-Rule.is (chosen (goal.at.fire_step-requires c).After-pick).1, c.requires.1, c.requires.2, c.requires.3, c.requires.6, c.requires.7)
+
+pub returns-in-Rule-clause-step_met : goal.returns-in-Rule-clause-step_met
+returns-in-Rule-clause-step_met c =
+    let a = c.args in
+    step-fires a.plan a.tape.now a.table.now (chosen (goal.at.returns-in-Rule-clause-step_met c).After-pick).0 _ c.in-Rule.is c.fire_step.ensures.step_met
+
+pub returns-in-NoRule-clause-step_met : goal.returns-in-NoRule-clause-step_met
+returns-in-NoRule-clause-step_met c =
+    let a = c.args in
+    step_waits a.plan a.tape.now a.table.now (chosen (goal.at.returns-in-NoRule-clause-step_met c).After-pick).0 c.requires.0.facts_placed c.in-NoRule.is c.wait_step.ensures.step_met
