@@ -37,6 +37,7 @@ pub mod Numbers
 pub mod Machines
 pub mod AfreshChoice
 pub mod AfreshRun
+pub mod AfreshRefuses
 pub mod Afresh
 pub mod Locations
 pub mod Lending

@@ -1,6 +1,4 @@
--- What is promised: Demands, a statement for each demand. The words of the statements are in Words, Sentences, Places and Published; the statements in Numbers and
--- Placing (demand 1), Semantics and Filling (demand 2), Refreshing, Marking, Keeping and Clearing (demand 3), Fresh (the run without a table), Remembering (a lent
--- store), Asking (queries and error flags) and Versions (the two versions of images, beside document 01 as it stood, in Before); their proofs stand apart, in Proofs.
+-- The words of what is promised: Words, Sentences, Places and Published; and document 01 as it stood before queries, in Before.
 pub mod Words
 pub mod Before
 pub mod Published

@@ -1,9 +1,2 @@
--- What is promised of the calls for C, and of the run without a table in Rattle too: the words of the statements in Handing, the statements in Holding, Placing,
--- Noting, Alike and Remembering; their proofs stand apart, in Proofs.
+-- The words of what is promised of the calls for C, and of the run without a table in Rattle too.
 pub mod Handing
-pub mod Holding
-pub mod Placing
-pub mod Noting
-pub mod Alike
-pub mod Remembering
-pub mod Proofs

@@ -1,44 +1,28 @@
--- What rests on AfreshChoice.
-use Rattle.std.specs.Prelude.{if◌then◌else◌, ◌≡◌, ◌↔◌, ◌⊎◌, Bool, true, false, not, List, [], ◌∷◌, leb, ℤ, drop}
-use Rattle.std.proofs.Math.Path.{refl, sym}
-use Rattle.std.proofs.Common.{ap, ap₂, subst, ◌∙◌, inl, inr, ⊎_elim, arith, take_at, drop_at}
+-- A step without a table is the kept step with the fresh one, with a store or none; and so is a run.
+use Rattle.std.specs.Prelude.{if◌then◌else◌, ◌≡◌, ◌↔◌, true, false, List, ◌∷◌, ℤ}
+use Rattle.std.proofs.Math.Path.{refl}
+use Rattle.std.proofs.Common.{ap, arith}
 use Rattle.std.proofs.Math.Option.{Option, none, some}
-use Prim.Native.Nat.{ℕ, zero, suc, ◌+◌, ◌*◌, ◌≤◌, ◌<◌}
-use borrow.Author.Tests.{eq-eqb}
-use Rattle.std.proofs.Math.ListN.{length}
+use Prim.Native.Nat.{ℕ, zero, suc}
 use Rattle.meaning.specs.declared.State.{State}
-use Rattle.meaning.specs.Base.{keep}
-use Rattle.meaning.specs.Highest.{highest}
-use Rattle.meaning.specs.Numbers.{clock_full, ill_formed, store_full, bad_store}
-use Rattle.meaning.specs.Model.{Model, Rule, Chunk, Fact}
-use Rattle.meaning.specs.State.{well_formed}
-use Rattle.meaning.specs.Read.{Read, read_refused, read_got}
-use Rattle.meaning.specs.Image.{decode}
-use Rattle.meaning.specs.Match.{entry_of, fresh_table}
-use Rattle.meaning.specs.Choice.{Candidate, candidates, counts, lower, choose, utilities}
+use Rattle.meaning.specs.Numbers.{store_full}
+use Rattle.meaning.specs.Model.{Model, Chunk, Fact}
+use Rattle.meaning.specs.Match.{fresh_table}
+use Rattle.meaning.specs.Choice.{Candidate, choose, utilities}
 use Rattle.meaning.specs.Fire.{fire}
-use Rattle.meaning.specs.Wait.{soonest, wait}
+use Rattle.meaning.specs.Wait.{soonest}
 use Rattle.meaning.specs.Mark.{mark_of}
-use Rattle.meaning.specs.Step.{Event, event_fired, event_waited, Step, step_stopped, step_made, largest, unless_past, wait_step, step_by, step}
-use Rattle.meaning.specs.Run.{Going, going, Timed, Run, ends, before, run_from}
+use Rattle.meaning.specs.Step.{Event, event_fired, Step, step_stopped, step_made, step_by, step}
+use Rattle.meaning.specs.Run.{Going, Timed, Run, ends, before, run_from}
 use Rattle.meaning.specs.Learning.{knowing, store_after, overfull, if_room, step_with}
-use Rattle.meaning.specs.Store.{store_fits, store_of}
-use Rattle.meaning.specs.Calls.{accepted, place_of, open_of, trace_lent, ran_by}
-use Rattle.meaning.specs.Fresh.{matched, choose_fresh, Move, stays, moves, moves_to, wait_fresh, move_by, move, Moving, moving, if_room_fresh, move_with, fresh_from}
-use Rattle.meaning.specs.Fresh.{fresh_by, fresh_trace_lent, FreshRan, fresh_ran_by}
-use Rattle.laws.specs.BaseLaws.{no_true}
-use Rattle.laws.specs.MatchLaws.{entry_length, fresh-length}
-use Rattle.promises.specs.Words.{Reached, opened, ran, refreshed, changed, alone, AsKept, ran_lent, fresh_ran_lent, answer_of}
-use Rattle.promises.specs.Published.{Transition, HasRoom, Transitions, no_step, one-step, Crowds, Ended, done, full, over, crowded, Follows}
-use Rattle.promises.specs.Sentences.{Beforehand, GivenBare, refused, read, AfterFresh, unsound, unfitting, moved}
-use Rattle.promises.proofs.Proofs.Decoded.{RulesGood, good-known, decoded}
-use Rattle.promises.proofs.Proofs.Knowing.{Unmade, as-known, crowding, made-with, stopped-with}
+use Rattle.meaning.specs.Calls.{ran_by}
+use Rattle.meaning.specs.Fresh.{Move, stays, moves, move_by, move, Moving, moving, if_room_fresh, move_with, fresh_from}
+use Rattle.meaning.specs.Fresh.{fresh_ran_by}
+use Rattle.promises.specs.Words.{AsKept, answer_of}
 use Rattle.promises.proofs.Proofs.Steps.{fire-fresh}
 use Rattle.promises.proofs.Proofs.Selection.{chosen-own}
-use Rattle.promises.proofs.Proofs.Storing.{onward, stores-once, room-had, room-missed}
-use Rattle.promises.proofs.Proofs.Runs.{chain-fresh}
-use Rattle.promises.proofs.Proofs.Outcomes.{transition-made, passes-full, final-halt, freshly, known_step, known_step_lem, made-run, run-goes, transitions-once}
-use Rattle.promises.proofs.Proofs.Numbers.{refused-unread, unread-range, exactly-bare}
+use Rattle.promises.proofs.Proofs.Storing.{onward}
+use Rattle.promises.proofs.Proofs.Outcomes.{freshly, made-run}
 pub use Rattle.promises.proofs.Proofs.AfreshChoice.{matched-fresh, choice-fresh, Same, both-stop, both-move, same-past, same-wait}
 
 module _ (m : Model) (memory : List Fact) (us : List ℤ) (s : State) where

@@ -1,28 +1,25 @@
--- What rests on AskedAnswer.
-use Rattle.std.specs.Prelude.{◌≡◌, Bool, false, List, ℕ, ◌+◌, ◌-◌, ◌≤◌, ◌<◌, ℤ, length, drop}
+-- Which queries change is marked: busy, free and failed; why a flag is set after a step; and a set flag is beside nil.
+use Rattle.std.specs.Prelude.{◌≡◌, List, ℕ, ◌+◌, ◌-◌, ◌≤◌, ◌<◌, ℤ, length, drop}
 use Rattle.std.proofs.Math.Path.{refl, ap}
 use Rattle.std.proofs.Common.{sym, ◌∙◌, ne_eqb, get_or-drop}
 use Rattle.std.proofs.Math.Bool.{true}
 use Rattle.std.proofs.Math.Option.{Option, none, some}
 use native.Mathlib.Omega.{arith}
 use Rattle.std.proofs.Math.ListN.{get_or}
-use Rattle.meaning.specs.declared.Buffer.{Buffer}
 use Rattle.meaning.specs.declared.State.{State}
 use Rattle.meaning.specs.Base.{every, bit}
-use Rattle.meaning.specs.Model.{Model, Rule, Ask, free, Deed, deed_modify, deed_request, deed_clear, Named, Fact}
+use Rattle.meaning.specs.Model.{Model, Rule, free, Deed, deed_modify, deed_request, deed_clear, Named, Fact}
 use Rattle.meaning.specs.State.{nothing, buffer_of, is_nil, well_buffer, is_unused, well_formed}
-use Rattle.meaning.specs.Match.{answers, entry_of}
+use Rattle.meaning.specs.Match.{entry_of}
 use Rattle.meaning.specs.Retrieval.{retrieve, retrieved}
 use Rattle.meaning.specs.Fire.{done, after, deed_on}
 use Rattle.meaning.specs.Step.{Event, event_fired, event_waited, step_made, step}
 use Rattle.laws.specs.BaseLaws.{no_true, and_right, by-lt}
-use Rattle.laws.specs.MatchLaws.{answers-alike}
 use Rattle.promises.specs.Words.{At}
 use Rattle.promises.specs.Published.{Flagged, unfound, unacted, unaltered}
 use Rattle.promises.proofs.Proofs.Matching.{finds-answers}
 use Rattle.promises.proofs.Proofs.Firing.{fired-matching, fired-after, waited-after}
 use Rattle.promises.proofs.Proofs.WellFormed.{buffer-parts, unused-parts, all-get_or, well-buffer}
-use Rattle.promises.proofs.Proofs.Marks.{made-leaves, made-marks}
 use Rattle.promises.proofs.Proofs.Retrieving.{nothing-here, here-nothing}
 pub use Rattle.promises.proofs.Proofs.AskedAnswer.{answer-marked, flag-marked}
 use Rattle.promises.proofs.Proofs.AskedAnswer.{flag_of}

@@ -1,7 +1,7 @@
 -- The nine words of an entry, under any binding of the rule's variables.
-use Rattle.std.specs.Prelude.{◌≡◌, true, false, List, [], ◌∷◌, ◌++◌, map, ℕ, ◌+◌, ◌<◌, ltb, get_or, replicate}
+use Rattle.std.specs.Prelude.{◌≡◌, true, false, List, [], ◌∷◌, ◌++◌, map, ℕ, ◌+◌, ltb, get_or, replicate}
 use Rattle.std.proofs.Math.Path.{refl}
-use Rattle.std.proofs.Common.{sym, ◌∙◌, arith, lt-ltb}
+use Rattle.std.proofs.Common.{◌∙◌, arith, lt-ltb}
 use Rattle.std.proofs.lemmas.List.{get_or-replicate}
 use Rattle.meaning.specs.declared.Buffer.{Buffer}
 use Rattle.meaning.specs.declared.State.{State}
@@ -13,7 +13,7 @@ use Rattle.meaning.specs.Match.{Place, place, places, value_in, matches, entry_o
 use Rattle.laws.specs.BaseLaws.{or_left, or_right}
 use Rattle.laws.specs.MatchLaws.{entry_length}
 use Rattle.promises.specs.Words.{At, entry_at}
-use Rattle.promises.specs.Published.{Matches, Entered}
+use Rattle.promises.specs.Published.{Entered}
 use Rattle.promises.proofs.Proofs.Decoded.{and-true}
 use Rattle.promises.proofs.Proofs.Matching.{is-match, matches-bind, entry_value, value-binds}
 use Rattle.promises.proofs.Proofs.Selection.{fresh-entry-at}

@@ -1,19 +1,12 @@
--- What rests on JoiningAdds.
-use Rattle.std.specs.Prelude.{if◌then◌else◌, ◌≡◌, refl, ◌⊎◌, Bool, true, false, ◌&&◌, ◌||◌, not, List, [], ◌∷◌, ◌++◌, map, ℕ, zero, suc, ◌+◌, ◌≤◌, ◌<◌, eqb, length, get_or}
-use Rattle.std.proofs.Common.{sym, ap, ap₂, subst, ◌∙◌, inl, inr, ⊎_elim, append_assoc, append-nil, arith, eqb-true, eq-eqb, ltb-false, length-append}
-use Rattle.std.proofs.Math.Option.{Option, none, some}
-use Rattle.meaning.specs.declared.Buffer.{Buffer}
+-- What a store comes to along a run: what was there stays before what joins, and nothing that stands is lost.
+use Rattle.std.specs.Prelude.{◌≡◌, refl, false, List, [], ◌∷◌, ◌++◌, map, ℕ, ◌+◌, ◌≤◌, length}
+use Rattle.std.proofs.Common.{sym, ap, subst, ◌∙◌, append_assoc, append-nil, arith, ltb-false, length-append}
+use Rattle.std.proofs.Math.Option.{Option, some}
 use Rattle.meaning.specs.declared.State.{State}
-use Rattle.meaning.specs.Base.{every, any_of, admit, same}
-use Rattle.meaning.specs.Model.{Model, Rule, Action, Deed, deed_modify, deed_request, deed_clear, Chunk, Fact}
-use Rattle.meaning.specs.State.{nothing, buffer_of, visible, is_nil}
-use Rattle.meaning.specs.Fire.{deed_on}
-use Rattle.meaning.specs.Step.{Event, event_fired, event_waited}
-use Rattle.meaning.specs.Learning.{learned, knowing, chunks_of, chunk_of, is_clear, cleared, equal, joining, actions_of, adds, store_after, overfull}
-use Rattle.laws.specs.BaseLaws.{no_true, and_left, and_right}
-use Rattle.promises.specs.Words.{At, first, next, ClearedBy, Learned, Growth, Stands}
-use Rattle.promises.proofs.Proofs.Decoded.{and-true}
-use Rattle.promises.proofs.Proofs.Steps.{same_true, same_refl}
+use Rattle.meaning.specs.Model.{Model, Chunk, Fact}
+use Rattle.meaning.specs.Step.{Event, event_fired}
+use Rattle.meaning.specs.Learning.{learned, knowing, chunks_of, adds, store_after, overfull}
+use Rattle.promises.specs.Words.{At, ClearedBy, Learned, Growth, Stands}
 pub use Rattle.promises.proofs.Proofs.JoiningAdds.{at_left, at_right, Split, before, after, at_split, Head, is-first, is-next, at_head, at_in, no-at, at_one, In, at_every, at_map, equal-true, equal-refl, joining-new, joining-once, joining-all, joining-from, chunks-stand, stand-chunks, adds-new, adds-once, adds-from, adds-in, adds-rising}
 use Rattle.promises.proofs.Proofs.JoiningAdds.{none-at}
 

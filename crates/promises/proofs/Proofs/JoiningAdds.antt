@@ -1,19 +1,18 @@
--- What rests on JoiningClears.
-use Rattle.std.specs.Prelude.{if◌then◌else◌, ◌≡◌, refl, ◌⊎◌, Bool, true, false, ◌&&◌, ◌||◌, not, List, [], ◌∷◌, ◌++◌, map, ℕ, zero, suc, ◌+◌, ◌≤◌, ◌<◌, eqb, length, get_or}
-use Rattle.std.proofs.Common.{sym, ap, ap₂, subst, ◌∙◌, inl, inr, ⊎_elim, append_assoc, append-nil, arith, eqb-true, eq-eqb, ltb-false, length-append}
-use Rattle.std.proofs.Math.Option.{Option, none, some}
+-- What a step adds to a store: the chunks that its rule empties, each once, by rising buffer number.
+use Rattle.std.specs.Prelude.{◌≡◌, refl, ◌⊎◌, Bool, true, false, ◌&&◌, not, List, [], ◌∷◌, ◌++◌, ℕ, zero, suc, ◌+◌, ◌<◌, length, get_or}
+use Rattle.std.proofs.Common.{sym, ap, ap₂, subst, ◌∙◌, inl, inr, ⊎_elim, arith, eqb-true, eq-eqb}
+use Rattle.std.proofs.Math.Option.{some}
 use Rattle.meaning.specs.declared.Buffer.{Buffer}
 use Rattle.meaning.specs.declared.State.{State}
-use Rattle.meaning.specs.Base.{every, any_of, admit, same}
-use Rattle.meaning.specs.Model.{Model, Rule, Action, Deed, deed_modify, deed_request, deed_clear, Chunk, Fact}
+use Rattle.meaning.specs.Base.{any_of, admit}
+use Rattle.meaning.specs.Model.{Model, Rule, Action, Deed, deed_clear, Chunk, Fact}
 use Rattle.meaning.specs.State.{nothing, buffer_of, visible, is_nil}
 use Rattle.meaning.specs.Fire.{deed_on}
 use Rattle.meaning.specs.Step.{Event, event_fired, event_waited}
-use Rattle.meaning.specs.Learning.{learned, knowing, chunks_of, chunk_of, is_clear, cleared, equal, joining, actions_of, adds, store_after, overfull}
-use Rattle.laws.specs.BaseLaws.{no_true, and_left, and_right}
-use Rattle.promises.specs.Words.{At, first, next, ClearedBy, Learned, Growth, Stands}
+use Rattle.meaning.specs.Learning.{chunks_of, chunk_of, is_clear, cleared, equal, joining, actions_of, adds}
+use Rattle.laws.specs.BaseLaws.{no_true}
+use Rattle.promises.specs.Words.{At, first, next, ClearedBy, Stands}
 use Rattle.promises.proofs.Proofs.Decoded.{and-true}
-use Rattle.promises.proofs.Proofs.Steps.{same_true, same_refl}
 pub use Rattle.promises.proofs.Proofs.JoiningClears.{at_left, at_right, Split, before, after, later, at_split, Head, is-first, is-next, at_head, at_in, no-at, at_one, In, at_every, at_map, equal-true, equal-refl, known-any, any-known, not_known, joined_by, joining-new, joining-once, joining-all, joining-from, clear-is, Emptied, empties, emptied-next, not-false, emptied-here}
 
 pub cleared-from : (as' : List Action) (i : ℕ) (bs : List Buffer) (j : ℕ) (c : Chunk) → At c j (cleared as' i bs) → Emptied as' i bs c

@@ -1,17 +1,15 @@
 -- What joins a store in a step: the chunks that its rule clears, each once, and none that is known.
-use Rattle.std.specs.Prelude.{if◌then◌else◌, ◌≡◌, refl, ◌⊎◌, Bool, true, false, ◌&&◌, ◌||◌, not, List, [], ◌∷◌, ◌++◌, map, ℕ, zero, suc, ◌+◌, ◌≤◌, ◌<◌, eqb, length, get_or}
-use Rattle.std.proofs.Common.{sym, ap, ap₂, subst, ◌∙◌, inl, inr, ⊎_elim, append_assoc, append-nil, arith, eqb-true, eq-eqb, ltb-false, length-append}
+use Rattle.std.specs.Prelude.{if◌then◌else◌, ◌≡◌, refl, ◌⊎◌, Bool, true, false, ◌&&◌, ◌||◌, not, List, [], ◌∷◌, ◌++◌, map, ℕ, suc, ◌+◌, ◌<◌, eqb, length, get_or}
+use Rattle.std.proofs.Common.{sym, ap, ap₂, subst, ◌∙◌, inl, inr, arith, eqb-true, eq-eqb}
 use Rattle.std.proofs.Math.Option.{Option, none, some}
 use Rattle.meaning.specs.declared.Buffer.{Buffer}
-use Rattle.meaning.specs.declared.State.{State}
-use Rattle.meaning.specs.Base.{every, any_of, admit, same}
-use Rattle.meaning.specs.Model.{Model, Rule, Action, Deed, deed_modify, deed_request, deed_clear, Chunk, Fact}
-use Rattle.meaning.specs.State.{nothing, buffer_of, visible, is_nil}
+use Rattle.meaning.specs.Base.{every, any_of, same}
+use Rattle.meaning.specs.Model.{Action, Deed, deed_modify, deed_request, deed_clear, Chunk}
+use Rattle.meaning.specs.State.{nothing, visible, is_nil}
 use Rattle.meaning.specs.Fire.{deed_on}
-use Rattle.meaning.specs.Step.{Event, event_fired, event_waited}
-use Rattle.meaning.specs.Learning.{learned, knowing, chunks_of, chunk_of, is_clear, cleared, equal, joining, actions_of, adds, store_after, overfull}
+use Rattle.meaning.specs.Learning.{chunk_of, is_clear, equal, joining}
 use Rattle.laws.specs.BaseLaws.{no_true, and_left, and_right}
-use Rattle.promises.specs.Words.{At, first, next, ClearedBy, Learned, Growth, Stands}
+use Rattle.promises.specs.Words.{At, first, next}
 use Rattle.promises.proofs.Proofs.Decoded.{and-true}
 use Rattle.promises.proofs.Proofs.Steps.{same_true, same_refl}
 

@@ -1,26 +1,21 @@
--- What rests on MarkedBit.
+-- The mark of a step has the buffers that it touched, and no others.
 use Rattle.std.proofs.Math.Path.{◌≡◌, refl, ap}
-use Rattle.std.proofs.Common.{sym, subst, ◌∙◌, zero-add, arith, eqb-true, eq-eqb, ne_eqb}
+use Rattle.std.proofs.Common.{sym, subst, ◌∙◌, arith}
 use Rattle.std.proofs.Math.Logic.{⊎_elim}
-use Rattle.std.specs.Prelude.{if◌then◌else◌, Bool, ◌||◌, not, eqb, ℤ}
-use Rattle.std.proofs.Math.Bool.{true, false}
-use mathlib.Core.List.Memᴰ
-use mathlib.Core.List.{List, [], ◌∷◌, map, Memᴰ}
-use Rattle.std.proofs.Math.Option.{some}
-use Prim.Native.Nat.{ℕ, zero, suc, ◌+◌, ◌≤◌, ◌<◌}
-use Rattle.std.proofs.lemmas.Bool.{eqb-false}
-use Rattle.std.proofs.Math.ListN.{length, length-map, get_or-eq_default}
+use Rattle.std.specs.Prelude.{◌||◌, ℤ}
+use Rattle.std.proofs.Math.Bool.{true}
+use mathlib.Core.List.{List, []}
+use Prim.Native.Nat.{ℕ, ◌<◌}
+use Rattle.std.proofs.Math.ListN.{length}
 use Rattle.meaning.specs.declared.State.{State}
-use Rattle.meaning.specs.Base.{up_from, bit}
+use Rattle.meaning.specs.Base.{bit}
 use Rattle.meaning.specs.Model.{Model, Rule, Action, Fact}
-use Rattle.meaning.specs.State.{buffer_of, visible}
 use Rattle.meaning.specs.Fire.{deed_on}
-use Rattle.meaning.specs.Mark.{is_some, acted_on, arrived, mark_of}
+use Rattle.meaning.specs.Mark.{acted_on, arrived, mark_of}
 use Rattle.meaning.specs.Step.{Event, event_fired, event_waited, step_made, step}
-use Rattle.laws.specs.BaseLaws.{no_true, and_left, and_right, get_or-up_from, bit-weigh, by-lt}
+use Rattle.laws.specs.BaseLaws.{no_true, by-lt}
 use Rattle.promises.specs.Words.{At, Touched, acted-on, came}
 use Rattle.promises.proofs.Proofs.Decoded.{or_cases, or-first, or-second}
-use Rattle.promises.proofs.Proofs.Matching.{above_zero}
 use Rattle.promises.proofs.Proofs.Selection.{at_same}
 use Rattle.promises.proofs.Proofs.Steps.{FiredBy, WaitedBy, step-fired, step-waited}
 use Rattle.promises.proofs.Proofs.Firing.{fired-rule}

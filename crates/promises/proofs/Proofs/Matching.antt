@@ -1,20 +1,16 @@
--- What rests on MatchingTests.
-use Rattle.std.specs.Prelude.{if◌then◌else◌, ◌≡◌, refl, Bool, true, false, ◌||◌, not, ℕ, zero, suc, ◌+◌, ◌<◌, eqb, ltb, get_or}
-use Rattle.std.proofs.Common.{sym, ap, subst, ◌∙◌, add-zero, zero-add, arith, eqb-true, eq-eqb, ne_eqb, ltb-true}
-use Rattle.std.proofs.Math.Logic.{⊎_elim}
-use Rattle.std.proofs.Math.Bool.{or-true}
-use mathlib.Core.List.Memᴰ
-use mathlib.Core.List.{List, [], ◌∷◌, map, Memᴰ}
-use Rattle.meaning.specs.declared.Buffer.{Buffer}
+-- A binding under which all tests and queries of a rule hold is a match, and its entry holds the values of each such binding.
+use Rattle.std.specs.Prelude.{◌≡◌, refl, true, ℕ, zero, suc, ◌+◌, ◌<◌, ltb, get_or}
+use Rattle.std.proofs.Common.{ap, ◌∙◌, add-zero, zero-add, arith, ltb-true}
+use mathlib.Core.List.{List, map, Memᴰ}
 use Rattle.meaning.specs.declared.State.{State}
-use Rattle.meaning.specs.Base.{every, any_of, up_from}
-use Rattle.meaning.specs.Model.{Rule, Test, Query, Ask, busy, free, error, Named, Term, symbol, variable}
-use Rattle.meaning.specs.State.{buffer_of, visible}
+use Rattle.meaning.specs.Base.{any_of, up_from}
+use Rattle.meaning.specs.Model.{Rule, Test, Named, Term, symbol, variable}
+use Rattle.meaning.specs.State.{buffer_of}
 use Rattle.meaning.specs.Image.{is_variable, stands_in}
-use Rattle.meaning.specs.Match.{Place, place, places, value_in, term_in, takes, agrees, agreed, shows, tests_hold, answers, queries_hold, matches, entry_of}
+use Rattle.meaning.specs.Match.{place, places, value_in, tests_hold, answers, queries_hold, matches, entry_of}
 use Rattle.meaning.specs.Retrieval.{value_of}
-use Rattle.laws.specs.BaseLaws.{no_true, and_left, and_right, every-member}
-use Rattle.promises.specs.Published.{stands_for, Holds, Finds, Binds, Matches}
+use Rattle.laws.specs.BaseLaws.{and_left, and_right}
+use Rattle.promises.specs.Published.{stands_for, Holds, Binds, Matches}
 use Rattle.promises.proofs.Proofs.Decoded.{and-true, good_term}
 pub use Rattle.promises.proofs.Proofs.MatchingTests.{member-all, Passing, any-passing, passing-any, takes-filled, above_zero, answers-finds, finds-answers, matches-tests, matches-queries, tests-show, matches-bind}
 use Rattle.promises.proofs.Proofs.MatchingTests.{place-in, places-bound, is-variable, value-bound, bind-tests}

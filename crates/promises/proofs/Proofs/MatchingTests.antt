@@ -1,21 +1,20 @@
 -- The test `matches` finds a binding exactly if there is one, and the entry holds its values.
-use Rattle.std.specs.Prelude.{if◌then◌else◌, ◌≡◌, refl, Bool, true, false, ◌||◌, not, ℕ, zero, suc, ◌+◌, ◌<◌, eqb, ltb, get_or}
-use Rattle.std.proofs.Common.{sym, ap, subst, ◌∙◌, add-zero, zero-add, arith, eqb-true, eq-eqb, ne_eqb, ltb-true}
+use Rattle.std.specs.Prelude.{if◌then◌else◌, ◌≡◌, refl, Bool, true, false, ◌||◌, not, ℕ, zero, suc, ◌<◌, eqb}
+use Rattle.std.proofs.Common.{sym, ap, subst, ◌∙◌, arith, eqb-true, eq-eqb, ne_eqb}
 use Rattle.std.proofs.Math.Logic.{⊎_elim}
 use Rattle.std.proofs.Math.Bool.{or-true}
 use mathlib.Core.List.Memᴰ
 use mathlib.Core.List.{List, [], ◌∷◌, map, Memᴰ}
 use Rattle.meaning.specs.declared.Buffer.{Buffer}
 use Rattle.meaning.specs.declared.State.{State}
-use Rattle.meaning.specs.Base.{every, any_of, up_from}
+use Rattle.meaning.specs.Base.{every, any_of}
 use Rattle.meaning.specs.Model.{Rule, Test, Query, Ask, busy, free, error, Named, Term, symbol, variable}
 use Rattle.meaning.specs.State.{buffer_of, visible}
-use Rattle.meaning.specs.Image.{is_variable, stands_in}
-use Rattle.meaning.specs.Match.{Place, place, places, value_in, term_in, takes, agrees, agreed, shows, tests_hold, answers, queries_hold, matches, entry_of}
-use Rattle.meaning.specs.Retrieval.{value_of}
+use Rattle.meaning.specs.Image.{is_variable}
+use Rattle.meaning.specs.Match.{Place, place, places, value_in, term_in, takes, agrees, agreed, shows, tests_hold, answers, queries_hold, matches}
 use Rattle.laws.specs.BaseLaws.{no_true, and_left, and_right, every-member}
-use Rattle.promises.specs.Published.{stands_for, Holds, Finds, Binds, Matches}
-use Rattle.promises.proofs.Proofs.Decoded.{and-true, good_term}
+use Rattle.promises.specs.Published.{stands_for, Holds, Finds, Matches}
+use Rattle.promises.proofs.Proofs.Decoded.{and-true}
 
 pub member-all : {A : Type 0} (p : A → Bool) (xs : List A) → ((y : A) → Memᴰ y xs → p y ≡ true) → every p xs ≡ true
 member-all p [] h = refl

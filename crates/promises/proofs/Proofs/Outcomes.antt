@@ -1,34 +1,33 @@
--- What rests on OutcomesMade.
-use Rattle.std.specs.Prelude.{◌≡◌, ◌⊎◌, Bool, true, false, List, ◌∷◌, ℕ, zero, suc, ◌*◌, ◌≤◌, ◌<◌}
+-- A run with the fresh table makes the transitions in their order and ends as it must; so does one along a chain of calls, and no other way makes as many.
+use Rattle.std.specs.Prelude.{◌≡◌, Bool, true, false, List, ◌∷◌, ℕ, zero, suc, ◌*◌, ◌≤◌}
 use Rattle.std.proofs.Math.Path.{refl}
-use Rattle.std.proofs.Common.{sym, ap, ap₂, subst, ◌∙◌, inl, inr, ⊎_elim, arith}
+use Rattle.std.proofs.Common.{sym, ap, ap₂, subst, ◌∙◌, arith}
 use Rattle.std.proofs.Math.Option.{Option, some}
 use borrow.Author.Tests.{eq-eqb}
 use Rattle.std.proofs.Math.ListN.{length}
 use Rattle.meaning.specs.declared.State.{State}
 use Rattle.meaning.specs.Model.{Model, Chunk}
-use Rattle.meaning.specs.State.{buffer_of, well_formed}
+use Rattle.meaning.specs.State.{well_formed}
 use Rattle.meaning.specs.Read.{read_got}
 use Rattle.meaning.specs.Image.{decode}
 use Rattle.meaning.specs.Match.{fresh_table}
-use Rattle.meaning.specs.Step.{Event, Step, step_stopped, step_made, largest, unless_past, step_of}
-use Rattle.meaning.specs.Run.{Going, going, Timed, Run, before, run_from}
-use Rattle.meaning.specs.Calls.{accepted, trace_lent, ran_by}
+use Rattle.meaning.specs.Step.{Event, step_made, largest, step_of}
+use Rattle.meaning.specs.Run.{Going, Timed, Run, run_from}
+use Rattle.meaning.specs.Calls.{accepted, trace_lent}
 use Rattle.meaning.specs.Fresh.{Moving, moving}
-use Rattle.meaning.specs.Learning.{knowing, store_after, overfull, step_with}
-use Rattle.meaning.specs.Refresh.{refresh}
+use Rattle.meaning.specs.Learning.{knowing, store_after, overfull}
 use Rattle.meaning.specs.Store.{store_fits, store_of}
 use Rattle.laws.specs.BaseLaws.{by-lt}
 use Rattle.laws.specs.MatchLaws.{fresh-length}
 use Rattle.promises.specs.Words.{Reached, ran_lent}
-use Rattle.promises.specs.Published.{NoneSelected, Transition, Final, Stores, Transitions, no_step, one-step, Passes, Ended, done, full, over, crowded, RanOn}
+use Rattle.promises.specs.Published.{Transition, Stores, Transitions, no_step, one-step, done, full, over, crowded, RanOn}
 use Rattle.promises.proofs.Proofs.Decoded.{RulesGood, good-known, decoded}
-use Rattle.promises.proofs.Proofs.Runs.{known-step-fresh, chain-fresh}
+use Rattle.promises.proofs.Proofs.Runs.{chain-fresh}
 use Rattle.promises.proofs.Proofs.Machines.{chain-well}
-use Rattle.promises.proofs.Proofs.Steps.{no-made, InTime, unless-made, unless-stopped, unless-full, unless-on}
-use Rattle.promises.proofs.Proofs.Knowing.{known-fresh, as-known, crowding, with-made, made-with, stopped-with}
+use Rattle.promises.proofs.Proofs.Steps.{unless-full, unless-on}
+use Rattle.promises.proofs.Proofs.Knowing.{as-known, crowding, made-with, stopped-with}
 use Rattle.promises.proofs.Proofs.Transitions.{transition-once, Outcome, goes, stays, outcome, stays-final}
-use Rattle.promises.proofs.Proofs.Storing.{onward, stores-after, stores-once, has_room, without-room}
+use Rattle.promises.proofs.Proofs.Storing.{onward, stores-after, stores-once, without-room}
 pub use Rattle.promises.proofs.Proofs.OutcomesMade.{made-transition, transition-step, transition-made, halt-final, final-halt, final-quiet, full-passes, passes-full, stopped-eight-nine, not-seven, freshly, known_step, known_step_lem, made-run}
 use Rattle.promises.proofs.Proofs.OutcomesMade.{Goes, one_more, stopped-run}
 

@@ -1,34 +1,25 @@
 -- What a step and a run with the fresh table come to.
-use Rattle.std.specs.Prelude.{◌≡◌, ◌⊎◌, Bool, true, false, List, ◌∷◌, ℕ, zero, suc, ◌*◌, ◌≤◌, ◌<◌}
+use Rattle.std.specs.Prelude.{◌≡◌, ◌⊎◌, false, List, ℕ, suc, ◌≤◌, ◌<◌}
 use Rattle.std.proofs.Math.Path.{refl}
-use Rattle.std.proofs.Common.{sym, ap, ap₂, subst, ◌∙◌, inl, inr, ⊎_elim, arith}
-use Rattle.std.proofs.Math.Option.{Option, some}
-use borrow.Author.Tests.{eq-eqb}
+use Rattle.std.proofs.Common.{sym, ap, subst, ◌∙◌, inl, inr, ⊎_elim, arith}
 use Rattle.std.proofs.Math.ListN.{length}
 use Rattle.meaning.specs.declared.State.{State}
-use Rattle.meaning.specs.Model.{Model, Chunk}
-use Rattle.meaning.specs.State.{buffer_of, well_formed}
-use Rattle.meaning.specs.Read.{read_got}
-use Rattle.meaning.specs.Image.{decode}
+use Rattle.meaning.specs.Model.{Model}
+use Rattle.meaning.specs.State.{buffer_of}
 use Rattle.meaning.specs.Match.{fresh_table}
 use Rattle.meaning.specs.Step.{Event, Step, step_stopped, step_made, largest, unless_past, step_of}
-use Rattle.meaning.specs.Run.{Going, going, Timed, Run, before, run_from}
-use Rattle.meaning.specs.Calls.{accepted, trace_lent, ran_by}
-use Rattle.meaning.specs.Fresh.{Moving, moving}
-use Rattle.meaning.specs.Learning.{knowing, store_after, overfull, step_with}
+use Rattle.meaning.specs.Run.{Going, going, Run, before, run_from}
+use Rattle.meaning.specs.Calls.{ran_by}
+use Rattle.meaning.specs.Fresh.{Moving}
+use Rattle.meaning.specs.Learning.{knowing, overfull, step_with}
 use Rattle.meaning.specs.Refresh.{refresh}
-use Rattle.meaning.specs.Store.{store_fits, store_of}
-use Rattle.laws.specs.BaseLaws.{by-lt}
-use Rattle.laws.specs.MatchLaws.{fresh-length}
-use Rattle.promises.specs.Words.{Reached, ran_lent}
-use Rattle.promises.specs.Published.{NoneSelected, Transition, Final, Stores, Transitions, no_step, one-step, Passes, Ended, done, full, over, crowded, RanOn}
-use Rattle.promises.proofs.Proofs.Decoded.{RulesGood, good-known, decoded}
-use Rattle.promises.proofs.Proofs.Runs.{known-step-fresh, chain-fresh}
-use Rattle.promises.proofs.Proofs.Machines.{chain-well}
+use Rattle.promises.specs.Published.{NoneSelected, Transition, Final, no_step, one-step, Passes, Ended, done, full, over, crowded, RanOn}
+use Rattle.promises.proofs.Proofs.Decoded.{RulesGood}
+use Rattle.promises.proofs.Proofs.Runs.{known-step-fresh}
 use Rattle.promises.proofs.Proofs.Steps.{no-made, InTime, unless-made, unless-stopped, unless-full, unless-on}
-use Rattle.promises.proofs.Proofs.Knowing.{known-fresh, as-known, crowding, with-made, made-with, stopped-with}
+use Rattle.promises.proofs.Proofs.Knowing.{known-fresh, with-made}
 use Rattle.promises.proofs.Proofs.Transitions.{transition-once, Outcome, goes, stays, outcome, stays-final}
-use Rattle.promises.proofs.Proofs.Storing.{onward, stores-after, stores-once, has_room, without-room}
+use Rattle.promises.proofs.Proofs.Storing.{onward, stores-after, has_room}
 
 pub same_number : (a b : ℕ) → step_stopped a ≡ step_stopped b → a ≡ b
 same_number a b e = cc

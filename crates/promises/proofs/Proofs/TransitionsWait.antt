@@ -16,13 +16,13 @@ use Rattle.meaning.specs.Choice.{Candidate, utilities, choose}
 use Rattle.meaning.specs.Fire.{later, after, deed_on, change, fire}
 use Rattle.meaning.specs.Wait.{sooner, soonest, wait}
 use Rattle.meaning.specs.Mark.{mark_of}
-use Rattle.meaning.specs.Step.{Event, event_fired, event_waited, Step, step_stopped, unless_past, wait_step, step_by, step, step_of}
+use Rattle.meaning.specs.Step.{Event, event_fired, event_waited, Step, step_stopped, unless_past, wait_step, step_by, step_of}
 use Rattle.laws.specs.BaseLaws.{and_left, and_right, every-member}
 use Rattle.promises.specs.Words.{At}
-use Rattle.promises.specs.Published.{Binds, Selected, NoneSelected, Aged, Applied, LeastDelay, Passed, Transition, apply, no-rule, Final}
+use Rattle.promises.specs.Published.{Binds, Selected, NoneSelected, Aged, Applied, LeastDelay, Passed, Transition, apply, no-rule}
 use Rattle.promises.proofs.Proofs.Decoded.{RulesGood, rises, good_deed, good_action, good_rule}
 use Rattle.laws.specs.MarkLaws.{get_or-change, length-change}
-use Rattle.promises.proofs.Proofs.Selection.{chosen-own, chosen-selected, chosen_none, selected-once}
+use Rattle.promises.proofs.Proofs.Selection.{chosen-own, chosen-selected, selected-once}
 use Rattle.promises.proofs.Proofs.Steps.{fire-fresh}
 use Rattle.promises.proofs.Proofs.WellFormed.{all-at}
 use Rattle.promises.proofs.Proofs.Effects.{buffer-is, rises-above, done-effect, effect-done}

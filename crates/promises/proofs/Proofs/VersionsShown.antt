@@ -1,31 +1,18 @@
 -- No rule without queries sees an error flag: what 01 said of a state without flags is what is said now of the state with them, of matches, refreshed tables, marks, what is
 -- learned, what fires and what waits.
-use Rattle.std.specs.Prelude.{◌≡◌, true, not, ℕ, zero, suc, ◌+◌, ℤ, drop}
+use Rattle.std.specs.Prelude.{◌≡◌, ℕ}
 use Rattle.std.proofs.Math.Path.{refl, ap}
-use Rattle.std.proofs.Common.{sym, ap₂, ◌∙◌}
 use Rattle.std.proofs.Math.Bool.{and-true, or-false}
-use mathlib.Core.List.Memᴰ
 use mathlib.Core.List.{List, [], ◌∷◌, map}
-use Rattle.std.proofs.Math.Option.{Option, none, some}
 use Rattle.std.proofs.Math.ListN.{get_or-map}
-use Rattle.std.proofs.lemmas.List.{length-map}
 use Rattle.meaning.specs.declared.Buffer.{Buffer}
 use Rattle.meaning.specs.declared.State.{State}
 use Rattle.meaning.specs.Base.{every}
-use Rattle.meaning.specs.Model.{Model, Rule, Test, Action, Deed, deed_modify, deed_request, deed_clear, Fact}
-use Rattle.meaning.specs.State.{nothing, buffer_of, flag_fits, well_buffer, is_unused, well_formed}
-use Rattle.meaning.specs.Match.{places, shows, matches, entry_of}
-use Rattle.meaning.specs.Retrieval.{retrieve, retrieved}
-use Rattle.meaning.specs.Fire.{done, deed_on, after, change, fire}
-use Rattle.meaning.specs.Wait.{sooner, soonest, wait}
-use Rattle.meaning.specs.Mark.{arrived, mark_of}
-use Rattle.meaning.specs.Refresh.{tests_marked, refresh}
-use Rattle.meaning.specs.Learning.{cleared}
-use Rattle.meaning.specs.Fresh.{matched}
-use Rattle.laws.specs.BaseLaws.{and_left, and_right, every_map}
-use Rattle.promises.specs.Before.{NoQueries, matches01, entry_of01, tests_marked01, refresh01, matched01, well_buffer01, is_unused01, well_formed01, unflag, unflagged}
-use Rattle.promises.specs.Before.{retrieved01, done01, later01, after01, fire01, wait01}
-use Rattle.promises.proofs.Proofs.Decoded.{and-true as all_true, all-weaken}
+use Rattle.meaning.specs.Model.{Rule, Test}
+use Rattle.meaning.specs.State.{nothing, buffer_of}
+use Rattle.meaning.specs.Match.{places, shows, matches}
+use Rattle.meaning.specs.Refresh.{tests_marked}
+use Rattle.promises.specs.Before.{matches01, tests_marked01, unflag, unflagged}
 
 -- ---- a rule without queries
 

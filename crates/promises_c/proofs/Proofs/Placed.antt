@@ -26,9 +26,9 @@ use Rattle.promises.proofs.Numbers as numbers
 use Rattle.promises.proofs.Proofs.Reading.{no_place}
 use Rattle.promises.proofs.Proofs.Numbers.{refused-unread, unread-range, open-small, refresh-small}
 use Rattle.promises_c.specs.Handing.{number_in, position_in, Reads}
-use Rattle.promises_c.specs.Proofs.Calling.{answer-reads, unfit-small, unfit-reads, told_by, run-told, lent-told, unfit-run, unfit-refresh, run-reads, lent_reads, fit-refresh, by_fits}
-use Rattle.promises_c.specs.Proofs.Alone.{unfit-number, fit-reads, large-reads, lent-large}
-use Rattle.promises_c.specs.Proofs.Alone as alone
+use Rattle.promises_c.proofs.Proofs.Calling.{answer-reads, unfit-small, unfit-reads, told_by, run-told, lent-told, unfit-run, unfit-refresh, run-reads, lent_reads, fit-refresh, by_fits}
+use Rattle.promises_c.proofs.Proofs.Alone.{unfit-number, fit-reads, large-reads, lent-large}
+use Rattle.promises_c.proofs.Proofs.Alone as alone
 
 -- ---- the table's length
 

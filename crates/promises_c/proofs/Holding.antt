@@ -17,9 +17,9 @@ use Rattle.promises.specs.Words.{Machine, Reached}
 use Rattle.promises.specs.Sentences.{Beforehand, Taken}
 use Rattle.promises.proofs.Keeping.{reached-fresh, reached-well}
 use Rattle.promises_c.specs.Handing.{number_in, Leaves, Held}
-use Rattle.promises_c.specs.Proofs.Back as back
-use Rattle.promises_c.specs.Proofs.Calling as calling
-use Rattle.promises_c.specs.Proofs.Lent as lending
+use Rattle.promises_c.proofs.Proofs.Back as back
+use Rattle.promises_c.proofs.Proofs.Calling as calling
+use Rattle.promises_c.proofs.Proofs.Lent as lending
 
 -- ---- words and state
 

@@ -16,9 +16,9 @@ use Rattle.promises.specs.Words.{alone}
 use Rattle.promises.specs.Published.{RanOn}
 use Rattle.promises.specs.Sentences.{Beforehand}
 use Rattle.promises_c.specs.Handing.{number_in, ran_in, Held, lay_events}
-use Rattle.promises_c.specs.Proofs.Noted as noted
-use Rattle.promises_c.specs.Proofs.Calling as calling
-use Rattle.promises_c.specs.Proofs.Lent as lending
+use Rattle.promises_c.proofs.Proofs.Noted as noted
+use Rattle.promises_c.proofs.Proofs.Calling as calling
+use Rattle.promises_c.proofs.Proofs.Lent as lending
 
 -- What the contracts of `trace` say is left in the lent words is this: the events in order, three words each, as many as have room, and every other word as it was.
 pub noted-in-order : (lent : List ℕ) (events : List Timed) → inscribed lent 0 events ≡ lay_events lent events

@@ -14,7 +14,7 @@ use Rattle.jirvuntsag.specs.Fresh.{fresh_in, fresh_events_in}
 use Rattle.jirvuntsag.specs.Lent.{told_with, run_lent_in, lent_events_in, fresh_lent_in, fresh_lent_events_in}
 use Rattle.promises.specs.Words.{OnlyGrows, Grows}
 use Rattle.promises.specs.Sentences.{Taken}
-use Rattle.promises_c.specs.Proofs.Lent as proofs
+use Rattle.promises_c.proofs.Proofs.Lent as proofs
 
 -- any image, words of a state, steps, word that says what is lent, and words of a store, whatever their length
 module _ (image w : List ℕ) (steps lent : ℕ) (store : List ℕ) where

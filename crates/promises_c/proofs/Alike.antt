@@ -27,9 +27,9 @@ use Rattle.promises.specs.Words.{Reached, alone}
 use Rattle.promises.specs.Published.{Follows}
 use Rattle.promises.specs.Sentences.{Beforehand}
 use Rattle.promises_c.specs.Handing.{number_in, count_in, fresh_ran_in, Held, FreshLeaves, lay_events, SameDone, SameTold, SameLent}
-use Rattle.promises_c.specs.Proofs.Alike as alike
-use Rattle.promises_c.specs.Proofs.Alone as lone
-use Rattle.promises_c.specs.Proofs.Lent as lending
+use Rattle.promises_c.proofs.Proofs.Alike as alike
+use Rattle.promises_c.proofs.Proofs.Alone as lone
+use Rattle.promises_c.proofs.Proofs.Lent as lending
 
 -- ---- the calls in Rattle: any image, state, table and number of steps
 

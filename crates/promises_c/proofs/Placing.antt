@@ -11,9 +11,9 @@ use Rattle.jirvuntsag.specs.Fresh.{fresh_in}
 use Rattle.jirvuntsag.specs.Lent.{run_lent_in, fresh_lent_in}
 use Rattle.promises.specs.Places.{Located}
 use Rattle.promises_c.specs.Handing.{number_in, position_in, Reads}
-use Rattle.promises_c.specs.Proofs.Calling as calling
-use Rattle.promises_c.specs.Proofs.Alone as alone
-use Rattle.promises_c.specs.Proofs.Placed as placed
+use Rattle.promises_c.proofs.Proofs.Calling as calling
+use Rattle.promises_c.proofs.Proofs.Alone as alone
+use Rattle.promises_c.proofs.Proofs.Placed as placed
 
 -- ---- an answer taken apart
 

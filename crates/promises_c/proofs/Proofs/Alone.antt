@@ -29,10 +29,10 @@ use Rattle.promises.proofs.Proofs.Machines.{Sound, StoreFit, fit, known-sound, l
 use Rattle.promises.proofs.Proofs.Afresh.{run-as-kept, answers-as-kept, both-refuse, left-refused, call-refused, lent_never}
 use Rattle.promises.proofs.Proofs.Lending.{Accepts, Freed, put-off, moves, freed}
 use Rattle.promises_c.specs.Handing.{number_in, count_in, Reads, fresh_ran_in, FreshLeaves, lay_events}
-use Rattle.promises_c.specs.Proofs.Back.{state-back, fit-back, state-fits}
-use Rattle.promises_c.specs.Proofs.Calling.{number_of, none_of, answer-reads, unfit-reads, by_fits, most-by}
-use Rattle.promises_c.specs.Proofs.Alike.{free_by, free_events, free-told, free-noted, lent-free, lent-free-noted, fit-free-store, unfit-free-store}
-use Rattle.promises_c.specs.Proofs.Alike.{fit-fresh, unfit-fresh, fit-fresh-events, unfit-fresh-events}
+use Rattle.promises_c.proofs.Proofs.Back.{state-back, fit-back, state-fits}
+use Rattle.promises_c.proofs.Proofs.Calling.{number_of, none_of, answer-reads, unfit-reads, by_fits, most-by}
+use Rattle.promises_c.proofs.Proofs.Alike.{free_by, free_events, free-told, free-noted, lent-free, lent-free-noted, fit-free-store, unfit-free-store}
+use Rattle.promises_c.proofs.Proofs.Alike.{fit-fresh, unfit-fresh, fit-fresh-events, unfit-fresh-events}
 
 -- ---- over states, where words are lent or none
 

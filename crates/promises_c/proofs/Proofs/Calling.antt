@@ -30,7 +30,7 @@ use Rattle.promises.proofs.Numbers.{accepted-taken, open-refused, lent-refused, 
 use Rattle.promises.proofs.Keeping.{reached-fresh, reached-machine}
 use Rattle.promises.proofs.Proofs.Numbers.{taken-accepted, open-small, refresh-small, run-refused, left-refused, lent-small}
 use Rattle.promises_c.specs.Handing.{number_in, count_in, Reads, ran_in, SameBuffer, Leaves, Held, opened, ran, refreshed, changed, lay_events}
-use Rattle.promises_c.specs.Proofs.Back.{state-back, same-buffer, fit-back, all_words, words-fit, state-fits}
+use Rattle.promises_c.proofs.Proofs.Back.{state-back, same-buffer, fit-back, all_words, words-fit, state-fits}
 
 -- ---- an answer taken apart
 

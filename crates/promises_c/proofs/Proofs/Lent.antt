@@ -29,11 +29,11 @@ use Rattle.promises.proofs.Fresh.{fresh-lent-published}
 use Rattle.promises.proofs.Remembering as remembering
 use Rattle.promises.proofs.Proofs.Remembered.{words-stay}
 use Rattle.promises_c.specs.Handing.{ran_in, fresh_ran_in, Held, ran}
-use Rattle.promises_c.specs.Proofs.Back.{state-fits}
-use Rattle.promises_c.specs.Proofs.Calling.{by_fits, told_by, events_by, run-told, run-noted, lent-told, lent-noted, fit-store, unfit-store, Stands, held-stands}
-use Rattle.promises_c.specs.Proofs.Calling as calling
-use Rattle.promises_c.specs.Proofs.Alike.{free_by, free_events, free-told, free-noted, lent-free, lent-free-noted, fit-free-store, unfit-free-store, fit-fresh-events}
-use Rattle.promises_c.specs.Proofs.Alone.{lent_back}
+use Rattle.promises_c.proofs.Proofs.Back.{state-fits}
+use Rattle.promises_c.proofs.Proofs.Calling.{by_fits, told_by, events_by, run-told, run-noted, lent-told, lent-noted, fit-store, unfit-store, Stands, held-stands}
+use Rattle.promises_c.proofs.Proofs.Calling as calling
+use Rattle.promises_c.proofs.Proofs.Alike.{free_by, free_events, free-told, free-noted, lent-free, lent-free-noted, fit-free-store, unfit-free-store, fit-fresh-events}
+use Rattle.promises_c.proofs.Proofs.Alone.{lent_back}
 
 module _ (image w : List ℕ) (steps lent : ℕ) (store : List ℕ) where
   -- ---- nothing lent

@@ -31,9 +31,9 @@ use Rattle.promises.proofs.Keeping.{reached-fresh}
 use Rattle.promises.proofs.Proofs.Numbers.{taken-accepted, refused-accepted}
 use Rattle.promises.proofs.Proofs.Afresh.{call-as-kept, reached-as-kept, kept-refuses, fresh-refuses}
 use Rattle.promises_c.specs.Handing.{Held, SameDone, SameTold, SameLent}
-use Rattle.promises_c.specs.Proofs.Back.{fit-back}
-use Rattle.promises_c.specs.Proofs.Calling.{same_place, told_by, events_by, by_fits, run-told, run-noted, lent-told, lent-noted, fit-store, unfit-store}
-use Rattle.promises_c.specs.Proofs.Calling.{fit-run, unfit-run, fit-events, unfit-events, six-by, held-stands}
+use Rattle.promises_c.proofs.Proofs.Back.{fit-back}
+use Rattle.promises_c.proofs.Proofs.Calling.{same_place, told_by, events_by, by_fits, run-told, run-noted, lent-told, lent-noted, fit-store, unfit-store}
+use Rattle.promises_c.proofs.Proofs.Calling.{fit-run, unfit-run, fit-events, unfit-events, six-by, held-stands}
 
 -- ---- the runs over states that are alike, where words are lent or none
 
