@@ -13,7 +13,7 @@ abbrev pub settled : {A : Type 0} → Read A → Read A
 settled (read_refused n at) = read_refused n at
 settled (read_got x at) = read_got x 0
 
--- `Accepted` stands for the model that was laid out, `read_refused` for the number of the refusal and its place
+-- `Accepted` stands for the model that was laid out, `Refused` for the number of the refusal and its place
 abbrev pub taken_by : Taken → Model → Read Model
 taken_by taken.Accepted m = read_got m 0
 taken_by (taken.Refused n at) m = read_refused n at

@@ -1,4 +1,4 @@
--- Small words that the other files share: a choice by a test, tests over lists, marks as numbers.
+-- Small words that the other files share: tests over lists, marks as numbers.
 use Rattle.std.specs.Prelude.{if◌then◌else◌, Bool, true, false, ◌&&◌, ◌||◌, List, [], ◌∷◌, ℕ, zero, suc, ◌+◌, ◌*◌, ◌/◌, ◌%◌, eqb}
 
 module _ {A : Type 0} where
