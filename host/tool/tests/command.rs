@@ -13,7 +13,15 @@ const RUNNING: [&str; 3] = ["trace", "explain", "compare"];
 
 /// A folder of this test's own, empty.
 fn folder(name: &str) -> PathBuf {
-    let folder = PathBuf::from(env!("CARGO_TARGET_TMPDIR")).join(name);
+    emptied(PathBuf::from(env!("CARGO_TARGET_TMPDIR")).join(name))
+}
+
+/// One outside of the checkout, where `rt ci` takes no link.
+fn folder_for_links(name: &str) -> PathBuf {
+    emptied(std::env::temp_dir().join(format!("jirvuntsag-{name}-{}", std::process::id())))
+}
+
+fn emptied(folder: PathBuf) -> PathBuf {
     let _ = std::fs::remove_dir_all(&folder);
     std::fs::create_dir_all(&folder).expect("a folder");
     folder
@@ -60,7 +68,7 @@ fn packs_and_unpacks() {
 
 #[test]
 fn a_file_that_is_there_is_replaced_and_a_link_stays_a_link() {
-    let folder = folder("replaced");
+    let folder = folder_for_links("replaced");
     std::fs::write(folder.join("m"), "buffer b\n").expect("the text");
     std::fs::write(folder.join("old"), "old").expect("a file");
     std::os::unix::fs::symlink("old", folder.join("link")).expect("a link");
@@ -69,6 +77,7 @@ fn a_file_that_is_there_is_replaced_and_a_link_stays_a_link() {
     assert_eq!(std::fs::read(folder.join("old")).expect("the image"), [1, 0x10, 0, 0, 0, 0, 0, 0]);
     assert!(call(&folder, &["pack", "m", "-o", "/dev/null"], &[]).status.success());
     assert!(!PathBuf::from("/dev/null").is_file());
+    std::fs::remove_dir_all(folder).expect("the folder");
 }
 
 #[test]
