@@ -24,6 +24,7 @@ pub mod TransitionsWait
 pub mod Transitions
 pub mod Filled
 pub mod JoiningClears
+pub mod JoiningCleared
 pub mod JoiningAdds
 pub mod Joining
 pub mod Storing

@@ -24,15 +24,15 @@ use Rattle.promises.proofs.Proofs.Retrieving.{nothing-here, here-nothing}
 pub use Rattle.promises.proofs.Proofs.AskedAnswer.{answer-marked, flag-marked}
 use Rattle.promises.proofs.Proofs.AskedAnswer.{flag_of}
 
-module _ (m : Model) (memory : List Fact) (us : List ℤ) (s : State) (table : List ℕ) (e : Event) (s' : State) (mark : ℕ) (IsMade : step m memory us s table ≡ step_made e s' mark) where
+module _ (m : Model) (memory : List Fact) (us : List ℤ) (s : State) (table : List ℕ) (e : Event) (s' : State) (mark : ℕ) (made : step m memory us s table ≡ step_made e s' mark) where
   -- a delay that went from 0 to above 0, and one that went from above 0 to 0
   pub busy-marked : (b : ℕ) → (buffer_of s b).delay ≡ 0 → 0 < (buffer_of s' b).delay → bit mark b ≡ true
   busy-marked b was is =
-      (answer-marked m memory us s table e s' mark IsMade) b free (λ q. no_true (sym (finds-answers free (buffer_of s b) was) ∙ q ∙ ne_eqb (buffer_of s' b).delay 0 (λ z. omega arith)))
+      (answer-marked m memory us s table e s' mark made) b free (λ q. no_true (sym (finds-answers free (buffer_of s b) was) ∙ q ∙ ne_eqb (buffer_of s' b).delay 0 (λ z. omega arith)))
 
   pub free-marked : (b : ℕ) → 0 < (buffer_of s b).delay → (buffer_of s' b).delay ≡ 0 → bit mark b ≡ true
   free-marked b was is =
-      (answer-marked m memory us s table e s' mark IsMade) b free (λ q. no_true (sym (finds-answers free (buffer_of s' b) is) ∙ sym q ∙ ne_eqb (buffer_of s b).delay 0 (λ z. omega arith)))
+      (answer-marked m memory us s table e s' mark made) b free (λ q. no_true (sym (finds-answers free (buffer_of s' b) is) ∙ sym q ∙ ne_eqb (buffer_of s b).delay 0 (λ z. omega arith)))
 
 -- ---- why a flag is set after a step
 

@@ -21,13 +21,13 @@ use Rattle.promises.proofs.Proofs.Marks.{made-leaves, made-marks}
 abbrev pub flag_of : Buffer → Bool
 flag_of b = b.error
 
-module _ (m : Model) (memory : List Fact) (us : List ℤ) (s : State) (table : List ℕ) (e : Event) (s' : State) (mark : ℕ) (IsMade : step m memory us s table ≡ step_made e s' mark) where
+module _ (m : Model) (memory : List Fact) (us : List ℤ) (s : State) (table : List ℕ) (e : Event) (s' : State) (mark : ℕ) (made : step m memory us s table ≡ step_made e s' mark) where
   -- a buffer that cannot be left out of the mark is in it
   pub unless-marked : (b : ℕ) → (bit mark b ≡ false → ⊥) → bit mark b ≡ true
   unless-marked b off = (elim (bit mark b) as (λ t. bit mark b ≡ t → t ≡ true) [ true ↦ λ t. refl | false ↦ λ t. absurd (off t) ]) refl
 
   pub answer-marked : (b : ℕ) (a : Ask) → (answers a (buffer_of s b) ≡ answers a (buffer_of s' b) → ⊥) → bit mark b ≡ true
-  answer-marked b a differs = unless-marked b (λ off. differs (answers-alike a (buffer_of s b) (buffer_of s' b) (made-marks m memory us s table e s' mark IsMade b off)))
+  answer-marked b a differs = unless-marked b (λ off. differs (answers-alike a (buffer_of s b) (buffer_of s' b) (made-marks m memory us s table e s' mark made b off)))
 
   pub flag-marked : (b : ℕ) → ((buffer_of s b).error ≡ (buffer_of s' b).error → ⊥) → bit mark b ≡ true
-  flag-marked b differs = unless-marked b (λ off. differs (ap flag_of (sym (made-leaves m memory us s table e s' mark IsMade b off).is)))
+  flag-marked b differs = unless-marked b (λ off. differs (ap flag_of (sym (made-leaves m memory us s table e s' mark made b off).is)))

@@ -189,9 +189,7 @@ joining-from known (d ∷ cs) j c h = by (any_of (equal d) known) (λ i a. joini
         off (is-first e z) = (0, subst (λ (x : Chunk). At c 0 (x ∷ cs)) z first)
         off (is-next i e b) = more (jh i b)
 
--- ---- what a rule clears:
--- in a visible buffer
--- a chunk other than nil
+-- ---- what a rule empties
 
 pub clear-is : (o : Option Deed) → is_clear o ≡ true → o ≡ some deed_clear
 clear-is none e = absurd (no_true (sym e))
