@@ -10,7 +10,10 @@ ghost use Rattle.meaning.specs.Image.{a_type, anything};
 ghost use Rattle.layout.specs.Walks.{in_range};
 ghost use Rattle.read_ranges.specs.Reading.{told, told_or, Follows};
 
+mod sizes;
+
 use meaning::{Reason, Refusal};
+pub use sizes::Sizes;
 use std::marker::Model;
 
 /// The bytes of an image of at most 65,536 bytes, and the bit that is read next, at most its end.
