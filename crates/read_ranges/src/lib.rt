@@ -42,6 +42,14 @@ impl<'a> Reader<'a> {
         Reader { image, at: 0 }
     }
 
+    /// Goes on at a bit of an image, or at its end.
+    pub fn resume(image: &'a [u8], at: usize) -> Reader<'a>
+        requires { (length image.now ≤ 65536) × (at ≤ 8 * length image.now) }
+        ensures { result ≡ record { image = image.now; at = at } }
+    {
+        Reader { image, at }
+    }
+
     /// The bit that is read next.
     pub fn at(&self) -> usize
         ensures { result ≡ self.now.at }
