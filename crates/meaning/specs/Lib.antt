@@ -2,6 +2,7 @@
 pub mod Base
 pub mod Highest
 pub mod Numbers
+pub mod Reasons
 pub mod State
 pub mod Model
 pub mod Bits

@@ -5,10 +5,13 @@ ghost use Rattle.std.specs.Prelude.{◌≡◌};
 ghost use Rattle.meaning.specs.State.{nil_after, zero_state};
 
 pub mod numbers;
+mod reasons;
+
+pub use reasons::{Reason, Refusal};
 
 // One buffer: the type of its chunk, eight slot values, the ms until it is visible, and whether the last action on it was a request that found no fact.
 // (`isa` is ACT-R's own word for a chunk's type; Rattle keeps the word `type` for itself.)
-#[derive(Clone, Copy)]
+#[derive(Clone, Copy, Debug, PartialEq, Eq)]
 pub struct Buffer {
     pub isa: u16,
     pub slots: [u16; 8],
@@ -17,10 +20,17 @@ pub struct Buffer {
 }
 
 // Eight buffers and the clock in ms.
-#[derive(Clone, Copy)]
+#[derive(Clone, Copy, Debug, PartialEq, Eq)]
 pub struct State {
     pub buffers: [Buffer; 8],
     pub clock: u32,
+}
+
+/// What a step did: the number of the rule that fired, or the ms waited.
+#[derive(Clone, Copy, Debug, PartialEq, Eq)]
+pub enum Event {
+    Fired(u16),
+    Waited(u16),
 }
 
 // The nil chunk, visible after some ms.
