@@ -3,7 +3,8 @@ use Prim.Native.Nat.{ℕ, ◌+◌, ◌-◌, ◌*◌, ◌/◌, ◌%◌, ◌≤◌
 use mathlib.Core.Path.{◌≡◌, refl, sym, ap, ◌∙◌}
 use mathlib.Core.Bool.{Bool, true, false, ◌||◌, ◌&&◌}
 use mathlib.Core.List.{List}
-use mathlib.Core.Option.{Option}
+use mathlib.Core.Option as math
+use Rattle.std.specs.Prelude.{Some, None}
 use native.Mathlib.Omega.{arith}
 use native.Mathlib.Decide.{ℕ_discrete}
 use lib.Dec.{eqb}
@@ -16,7 +17,6 @@ use Rattle.laws.specs.BaseLaws.{no_true}
 use Rattle.laws.specs.BaseLaws.{by-lt}
 use Rattle.match_sets.specs.Sets.{has, member}
 use Rattle.match_sets.proofs.SetLaws.{put_in, put-kept, put_other}
-use Rattle.match_best.specs.declared.Chosen.TheVariants.{Rule, NoRule}
 use Rattle.match_choice.specs.Chosen.{candidate_of}
 use Rattle.match_best.specs.Chosen.{Below}
 use Rattle.match_choice.specs.Ranks.{rank_at, Matching, Highest}
@@ -24,7 +24,7 @@ use Rattle.match_choice.proofs.RankLaws.{none-chosen, highest-chosen}
 use Rattle.match_order.specs.Order.{Words16, Ranked, Hitting, HitAt, hits, rule_at, place_of}
 
 module _ (heads words table order sets : List ℕ) (n : ℕ) (small : Words16 heads) (ranked : Ranked heads order n) (hitting : Hitting table order sets n) where
-  abbrev whole : Option Candidate
+  abbrev whole : math.Option Candidate
   whole = choose (rules_in heads words n) (utilities (rules_in heads words n)) table
 
   -- a place in the set is one of n
@@ -34,7 +34,7 @@ module _ (heads words table order sets : List ℕ) (n : ℕ) (small : Words16 he
       omega (arith, ranked.low hit.rule hit.below, hit.placed)
 
   -- no place is in the set
-  pub none-picked : ((p : ℕ) → p < n → member sets hits p ≡ false) → (whole ≡ candidate_of heads words table NoRule) × Below NoRule n
+  pub none-picked : ((p : ℕ) → p < n → member sets hits p ≡ false) → (whole ≡ candidate_of heads words table None) × Below None n
   none-picked none = none-chosen heads words table n (λ k h m. no_true (sym (hitting.all k h m) ∙ none (place_of order k) (ranked.low k h)))
 
   module _ (p : ℕ) (low : p < 256) (here : member sets hits p ≡ true) (before : (q : ℕ) → q < p → member sets hits q ≡ false) where
@@ -49,7 +49,7 @@ module _ (heads words table order sets : List ℕ) (n : ℕ) (small : Words16 he
         ranked.falls hit.rule k hit.below h
         (by-lt (place_of order k) p (λ l. absurd (no_true (sym (hitting.all k h m) ∙ before (place_of order k) l))) (λ l. omega (arith, hit.placed)))
 
-    pub first-picked : (whole ≡ candidate_of heads words table (Rule (rule_at order p))) × Below (Rule (rule_at order p)) n
+    pub first-picked : (whole ≡ candidate_of heads words table (Some (rule_at order p))) × Below (Some (rule_at order p)) n
     first-picked =
         let top : Highest heads table n hit.rule = record { below = hit.below; matching = hit.matching; over = over } in
         rw is (highest-chosen heads words table n ranked.few small hit.rule top)
