@@ -1,10 +1,12 @@
 -- The first place whose rule matches holds the rule that the definition chooses.
 use Prim.Native.Nat.{ℕ, ◌+◌, ◌-◌, ◌*◌, ◌/◌, ◌%◌, ◌≤◌, ◌<◌}
-use mathlib.Core.Path.{◌≡◌, refl, sym, ap, ◌∙◌}
-use mathlib.Core.Bool.{Bool, true, false, ◌||◌, ◌&&◌}
+use mathlib.Core.Path.{◌≡◌, sym, ap, ◌∙◌}
+use mathlib.Core.Bool.{true, false, ◌||◌, ◌&&◌}
 use mathlib.Core.List.{List}
 use mathlib.Core.Option as math
-use Rattle.std.specs.Prelude.{Some, None}
+use Rattle.std.specs.Prelude.{Some, None, take, drop, length}
+use lib.Seq.{get_or-take, get_or-drop}
+use Rattle.std.proofs.Common.{length-take}
 use native.Mathlib.Omega.{arith}
 use native.Mathlib.Decide.{ℕ_discrete}
 use lib.Dec.{eqb}
@@ -89,12 +91,16 @@ hitting-none table order sets none = record { all = λ j h m. absurd (omega arit
 
 -- ---- the places word by word
 
--- no bit of an empty word
-pub none_before : (sets : List ℕ) (w : ℕ) → get_or sets (4 + w) 0 ≡ 0 → ((p : ℕ) → p < 64 * w → member sets hits p ≡ false)
-    → (p : ℕ) → p < 64 * (w + 1) → member sets hits p ≡ false
-none_before sets w e none p h =
-    by-lt p (64 * w) (λ l. none p l)
-    (λ l. let q : p / 64 ≡ w = omega arith in rw (q, e) (bit-zero (p % 64)))
+-- a word of the set, among those looked at
+pub word_in : (sets : List ℕ) (a w : ℕ) → w < length (take a (drop 4 sets)) → get_or (take a (drop 4 sets)) w 0 ≡ get_or sets (4 + w) 0
+word_in sets a w h = get_or-take a (drop 4 sets) w 0 (omega (arith, length-take a (drop 4 sets))) ∙ get_or-drop 4 sets w 0
+
+-- no bit of empty words
+pub none_before : (sets : List ℕ) (a w : ℕ) → w ≤ length (take a (drop 4 sets)) → ((k : ℕ) → k < w → get_or (take a (drop 4 sets)) k 0 ≡ 0)
+    → (p : ℕ) → p < 64 * w → member sets hits p ≡ false
+none_before sets a w here none p h =
+    let e : get_or sets (4 + p / 64) 0 ≡ 0 = sym (word_in sets a (p / 64) (omega arith)) ∙ none (p / 64) (omega arith) in
+    rw e (bit-zero (p % 64))
 
 -- the lowest bit of the first word that is not empty
 pub first-place : (sets : List ℕ) (w z : ℕ) → z < 64 → ((j : ℕ) → j < z → bit (get_or sets (4 + w) 0) j ≡ false) → ((p : ℕ) → p < 64 * w → member sets hits p ≡ false)
