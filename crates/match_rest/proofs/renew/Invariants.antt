@@ -13,8 +13,5 @@ use borrow.Author.Rules.{rules}
 use Rattle.match_rest.proofs.renew.Given as goal
 
 abbrev pub invariant-loop-w : goal.invariant-loop-w
-invariant-loop-w l = (64 * l.w ≤ l.n + 63) × (length l.table ≡ length l.initial.table) × (length l.sets ≡ length l.initial.sets)
+invariant-loop-w l = (length l.table ≡ length l.initial.table) × (length l.sets ≡ length l.initial.sets)
     × Lying l.heads l.words l.order l.n l.state l.table l.sets × Renewed l.heads l.words l.n l.state l.mark l.w l.initial.table l.table × Surer l.heads l.words l.n l.mark l.initial.sets l.sets
-
-abbrev pub decreases-loop-w : goal.decreases-loop-w
-decreases-loop-w l = 4 - l.w
