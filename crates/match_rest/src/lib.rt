@@ -26,9 +26,9 @@ fn settle(sets: &mut [u64], order: &[u16], k: usize, tried: Tried)
     match tried {
         Tried::Hit => match_sets::put(sets, HITS_AT, at),
         Tried::Varies => match_sets::remove(sets, HITS_AT, at),
-        Tried::Differs(place, value) => {
+        Tried::Differs { place, wanted } => {
             match_sets::remove(sets, HITS_AT, at);
-            match_beds::lay_down(sets, k, place as usize, value);
+            match_beds::lay_down(sets, k, place as usize, wanted);
         }
     }
 }

@@ -1,16 +1,14 @@
 -- `match_rest::renew` meets its contract: the entries below 64 w are as the refresh makes them, and what holds between two steps holds.
-use Rattle.match_rest.proofs.RenewLaws.{woken-rests, Renewed, renewed-none, visitable, rests-on, renewed-turn, Surer, lying-beside, joined-beside, surer-turn, sure-on}
+use Rattle.match_rest.proofs.RenewLaws.{woken-rests, renewed-none, visitable, rests-on, renewed-turn, Surer, lying-beside, joined-beside, surer-turn, sure-on}
 use Rattle.match_rest.proofs.EntryLaws.{refresh-is}
-use Rattle.match_rest.specs.Rest.{Lying}
 use Rattle.layout.specs.StateWords.{state_in}
 use Rattle.layout.specs.Rows.{rule_in}
 use lib.ListN.{length, get_or, length-set}
 use lib.Bits.{bit_and, and_le_l}
 use native.Mathlib.Omega.{arith}
 use mathlib.Core.Logic.{inl, inr, ⊎_elim}
-use mathlib.Core.Path.{◌≡◌, refl, sym, ◌∙◌}
-use Prim.Native.Nat.{◌+◌, ◌-◌, ◌*◌, ◌/◌, ◌%◌, ◌^◌, ◌≤◌, ◌<◌}
-use borrow.Author.Rules.{rules}
+use mathlib.Core.Path.{refl, sym, ◌∙◌}
+use Prim.Native.Nat.{◌+◌, ◌*◌, ◌/◌, ◌%◌, ◌^◌, ◌<◌}
 use Rattle.match_rest.proofs.renew.Goals as goal
 use Rattle.match_rest.proofs.renew.Goals.{After-slice_known-in-loop-w-1, At-loop-w, In-loop-w}
 

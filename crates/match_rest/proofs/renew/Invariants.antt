@@ -1,15 +1,7 @@
-use Rattle.match_rest.proofs.RenewLaws.{woken-rests, Renewed, renewed-none, visitable, rests-on, renewed-turn, Surer, lying-beside, joined-beside, surer-turn, sure-on}
-use Rattle.match_rest.proofs.EntryLaws.{refresh-is}
+use Rattle.match_rest.proofs.RenewLaws.{Renewed, Surer}
 use Rattle.match_rest.specs.Rest.{Lying}
-use Rattle.layout.specs.StateWords.{state_in}
-use Rattle.layout.specs.Rows.{rule_in}
-use lib.ListN.{length, get_or, length-set}
-use lib.Bits.{bit_and, and_le_r}
-use native.Mathlib.Omega.{arith}
-use mathlib.Core.Logic.{inl, inr, ⊎_elim}
-use mathlib.Core.Path.{◌≡◌, refl, sym, ◌∙◌}
-use Prim.Native.Nat.{◌+◌, ◌-◌, ◌*◌, ◌/◌, ◌%◌, ◌^◌, ◌≤◌, ◌<◌}
-use borrow.Author.Rules.{rules}
+use lib.ListN.{length}
+use mathlib.Core.Path.{◌≡◌}
 use Rattle.match_rest.proofs.renew.Given as goal
 
 abbrev pub invariant-loop-w : goal.invariant-loop-w
