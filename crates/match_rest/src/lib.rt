@@ -26,9 +26,9 @@ fn settle(sets: &mut [u64], order: &[u16], k: usize, tried: Tried)
     match tried {
         Tried::Hit => match_sets::put(sets, HITS_AT, at),
         Tried::Varies => match_sets::remove(sets, HITS_AT, at),
-        Tried::Differs(place, value) => {
+        Tried::Differs { place, wanted } => {
             match_sets::remove(sets, HITS_AT, at);
-            match_beds::lay_down(sets, k, place as usize, value);
+            match_beds::lay_down(sets, k, place as usize, wanted);
         }
     }
 }
@@ -76,7 +76,7 @@ fn visit_all(
     }
 }
 
-// The refresh of n rules after a step with that mark: of the rules that test or query a marked buffer, those that are awake are matched again.
+/// The refresh of n rules after a step with that mark: of the rules that test or query a marked buffer, those that are awake are matched again.
 pub fn renew(
     table: &mut [u16],
     sets: &mut [u64],
@@ -92,17 +92,15 @@ pub fn renew(
     ensures rests { Resting heads.now words.now order.now n state.now table.new sets.new }
 {
     match_beds::wake_all(sets, n, state, mark);
-    let mut w = 0;
-    while 64 * w < n {
+    for w in 0..n.div_ceil(64) {
         let all = match_beds::touched(sets, w, mark);
         let todo = all & sets[w];
         visit_all(table, sets, order, heads, words, state, w, todo);
-        sets[SURE_AT + w] = sets[SURE_AT + w] | all;
-        w += 1;
+        sets[SURE_AT + w] |= all;
     }
 }
 
-// What a run keeps of n rules in that order, as it begins with a table that is right or wrong: all of them awake, and no bed used.
+/// What a run keeps of n rules in that order, as it begins with a table that is right or wrong: all of them awake, and no bed used.
 pub fn lay_rest(sets: &mut [u64], order: &[u16], heads: &[u16], table: &[u16], n: usize)
     requires { Roomy n sets.old × Ranked heads.now order.now n × (4 * n ≤ length heads.now) × (9 * n ≤ length table.now) × Cleared sets.old }
     ensures { (words state : List ℕ) → Resting heads.now words order.now n state table.now sets.new }
