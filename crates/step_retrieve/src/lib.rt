@@ -44,10 +44,8 @@ fn fits(facts: &[u16], f: usize, words: &[u16], q: usize, nine: &[u16]) -> bool
     }
     let mask = words[q + 2];
     for slot in 0..8 {
-        if is_named(mask, slot) {
-            if facts[f + 3 + slot] != value_of(nine, words[q + 3 + slot]) {
-                return false;
-            }
+        if is_named(mask, slot) && facts[f + 3 + slot] != value_of(nine, words[q + 3 + slot]) {
+            return false;
         }
     }
     true
