@@ -15,8 +15,8 @@ use layout::{LARGE_TAPE, MIDDLE_TAPE, OPENING_AT, Plan, PlanRead, SMALL_TAPE};
 use meaning::State;
 use meaning::numbers::ALL_DONE;
 
-// What open answers: the number, the position of the refused field if there is one, else 0, and the state.
-#[derive(Clone, Copy)]
+/// What open answers: the number, the position of the refused field if there is one, else 0, and the state.
+#[derive(Clone, Copy, Debug, PartialEq, Eq)]
 pub struct OpenDone {
     pub number: u8,
     pub position: usize,
@@ -29,8 +29,8 @@ fn no_opening(number: u8, position: usize) -> OpenDone
 {
     let nothing = meaning::zero_state();
     OpenDone {
-        number: number,
-        position: position,
+        number,
+        position,
         state: nothing,
     }
 }
@@ -61,24 +61,32 @@ fn open_on(image: &[u8], begun: PlanRead, table: &mut [u16], tape: &mut [u16]) -
     OpenDone {
         number: ALL_DONE,
         position: 0,
-        state: state,
+        state,
     }
 }
 
-// Opens an image: the number, the position of a refused field, and the opening state (all zero if it is refused); writes the fresh table if it is accepted.
+// Opening on a tape of this size. It is a function of its own, and never set into its caller, so that the stack holds one tape at a time.
+#[inline(never)]
+fn open_in<const TAPE: usize>(image: &[u8], begun: PlanRead, table: &mut [u16]) -> OpenDone
+    requires begun { Begun begun image.now }
+    requires taped { (begun.plan.end ≤ TAPE) × (TAPE ≤ 58328) }
+    ensures { opened_in result table.new ≡ open_of image.now table.old }
+{
+    let mut tape = [0u16; TAPE];
+    open_on(image, begun, table, &mut tape)
+}
+
+/// Opens an image: the number, the position of a refused field, and the opening state (all zero if it is refused); writes the fresh table if it is accepted.
 pub fn open(image: &[u8], table: &mut [u16]) -> OpenDone
     ensures { opened_in result table.new ≡ open_of image.now table.old }
 {
     let begun = read_image::begin(image, false);
-    let plan = begun.plan;
-    if plan.end <= SMALL_TAPE {
-        let mut tape = [0u16; SMALL_TAPE];
-        return open_on(image, begun, table, &mut tape);
+    let end = begun.plan.end;
+    if end <= SMALL_TAPE {
+        open_in::<SMALL_TAPE>(image, begun, table)
+    } else if end <= MIDDLE_TAPE {
+        open_in::<MIDDLE_TAPE>(image, begun, table)
+    } else {
+        open_in::<LARGE_TAPE>(image, begun, table)
     }
-    if plan.end <= MIDDLE_TAPE {
-        let mut tape = [0u16; MIDDLE_TAPE];
-        return open_on(image, begun, table, &mut tape);
-    }
-    let mut tape = [0u16; LARGE_TAPE];
-    open_on(image, begun, table, &mut tape)
 }

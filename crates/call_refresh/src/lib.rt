@@ -13,8 +13,8 @@ use layout::{LARGE_TAPE, MIDDLE_TAPE, Plan, PlanRead, SMALL_TAPE, STATE_WORDS};
 use meaning::State;
 use meaning::numbers::{ALL_DONE, BAD_MARK, ILL_FORMED};
 
-// What refresh answers: the number, the position of the refused field if there is one, else 0, and how many rules test or query a marked buffer.
-#[derive(Clone, Copy)]
+/// What refresh answers: the number, the position of the refused field if there is one, else 0, and how many rules test or query a marked buffer.
+#[derive(Clone, Copy, Debug, PartialEq, Eq)]
 pub struct RefreshDone {
     pub number: u8,
     pub position: usize,
@@ -26,8 +26,8 @@ fn no_refresh(number: u8, position: usize) -> RefreshDone
     ensures { result ≡ record { number = number; position = position; count = 0 } }
 {
     RefreshDone {
-        number: number,
-        position: position,
+        number,
+        position,
         count: 0,
     }
 }
@@ -61,7 +61,7 @@ fn refresh_for(table: &mut [u16], plan: Plan, tape: &[u16], state: State, mark: 
     RefreshDone {
         number: ALL_DONE,
         position: 0,
-        count: count,
+        count,
     }
 }
 
@@ -85,20 +85,34 @@ fn refresh_on(
     refresh_for(table, plan, tape, state, mark)
 }
 
-// Makes the entries of the rules that test or query a marked buffer afresh: the number, the position of a refused field, and how many these rules are.
+// Refreshing on a tape of this size. It is a function of its own, and never set into its caller, so that the stack holds one tape at a time.
+#[inline(never)]
+fn refresh_in<const TAPE: usize>(
+    image: &[u8],
+    begun: PlanRead,
+    state: State,
+    mark: u16,
+    table: &mut [u16],
+) -> RefreshDone
+    requires begun { Begun begun image.now }
+    requires taped { (begun.plan.end ≤ TAPE) × (TAPE ≤ 58328) }
+    ensures { refreshed_in result table.new ≡ refresh_of image.now state mark table.old }
+{
+    let mut tape = [0u16; TAPE];
+    refresh_on(image, begun, state, mark, table, &mut tape)
+}
+
+/// Makes the entries of the rules that test or query a marked buffer afresh: the number, the position of a refused field, and how many these rules are.
 pub fn refresh(image: &[u8], state: State, mark: u16, table: &mut [u16]) -> RefreshDone
     ensures { refreshed_in result table.new ≡ refresh_of image.now state mark table.old }
 {
     let begun = read_image::begin(image, false);
-    let plan = begun.plan;
-    if plan.end <= SMALL_TAPE {
-        let mut tape = [0u16; SMALL_TAPE];
-        return refresh_on(image, begun, state, mark, table, &mut tape);
+    let end = begun.plan.end;
+    if end <= SMALL_TAPE {
+        refresh_in::<SMALL_TAPE>(image, begun, state, mark, table)
+    } else if end <= MIDDLE_TAPE {
+        refresh_in::<MIDDLE_TAPE>(image, begun, state, mark, table)
+    } else {
+        refresh_in::<LARGE_TAPE>(image, begun, state, mark, table)
     }
-    if plan.end <= MIDDLE_TAPE {
-        let mut tape = [0u16; MIDDLE_TAPE];
-        return refresh_on(image, begun, state, mark, table, &mut tape);
-    }
-    let mut tape = [0u16; LARGE_TAPE];
-    refresh_on(image, begun, state, mark, table, &mut tape)
 }

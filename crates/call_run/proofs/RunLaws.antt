@@ -65,20 +65,6 @@ pub lent_same : (r : RunDone) (a : Read Model) (s : State) (table table' : List 
     → RunMet r a s table table' steps noted noted' lent store store' → RunMet r a s table table' steps noted noted' lent' store store'
 lent_same r a s table table' steps noted noted' store store' lent lent' e met = subst (λ (b : Bool). RunMet r a s table table' steps noted noted' b store store') e met
 
--- what is met of an image is the run that is asked for, with its events
-pub as-asked : (image table table' noted noted' : List ℕ) (s : State) (steps lent : ℕ) (store store' : List ℕ) (r : RunDone)
-    → RunMet r (accepted image table) s table table' steps noted noted' (bit lent 0) store store'
-    → (with_store r table' store' ≡ run_lent image s table steps lent store) × (noted' ≡ inscribed noted 0 (trace_lent image s table steps (lent_by lent store)).events)
-unfolding run_lent trace_lent
-as-asked image table table' noted noted' s steps lent store store' r met = (met.is_run, met.events)
-
--- with nothing lent
-pub as-asked-alone : (image table table' noted noted' : List ℕ) (s : State) (steps : ℕ) (store store' : List ℕ) (r : RunDone)
-    → (with_store r table' store' ≡ run_lent image s table steps 0 store) × (noted' ≡ inscribed noted 0 (trace_lent image s table steps (lent_by 0 store)).events)
-    → (ran_back r table' ≡ run_of image s table steps) × (noted' ≡ inscribed noted 0 (trace_of image s table steps).events)
-unfolding run_lent run_of
-as-asked-alone image table table' noted noted' s steps store store' r met = (ap (λ (x : WithStore Ran). x.answer) met.0, met.1)
-
 -- ---- what a run has left in the store is what was there, and more after it
 
 module _ (went : Went) (m : Model) (store : Option (List Chunk)) (w w' : List ℕ) (clock : ℕ) (table table' : List ℕ) (steps : ℕ) (noted noted' tape' : List ℕ)

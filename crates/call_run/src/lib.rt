@@ -1,7 +1,7 @@
 // Running a model: refused by number, or step after step, with the table refreshed and an event noted after each.
 #![tactic(auto)]
 
-ghost use Rattle.std.specs.Prelude.{◌≡◌, ◌*◌, ◌≤◌, length, List};
+ghost use Rattle.std.specs.Prelude.{◌≡◌, ◌*◌, ◌≤◌, length, List, replicate};
 ghost use Rattle.meaning.specs.Read.{read_got};
 ghost use Rattle.std.proofs.Math.Option.{Option};
 ghost use Rattle.meaning.specs.Model.{Model, Chunk};
@@ -23,8 +23,8 @@ use meaning::State;
 use meaning::numbers::ALL_DONE;
 use step_run::Went;
 
-// What run answers: the number, the position of the refused field if there is one, else 0, the state, and the steps made.
-#[derive(Clone, Copy)]
+/// What run answers: the number, the position of the refused field if there is one, else 0, the state, and the steps made.
+#[derive(Clone, Copy, Debug, PartialEq, Eq)]
 pub struct RunDone {
     pub number: u8,
     pub position: usize,
@@ -37,9 +37,9 @@ fn no_run(number: u8, position: usize, state: State) -> RunDone
     ensures { result ≡ record { number = number; position = position; state = state; made = 0 } }
 {
     RunDone {
-        number: number,
-        position: position,
-        state: state,
+        number,
+        position,
+        state,
         made: 0,
     }
 }
@@ -127,7 +127,11 @@ fn run_on(
     tape: &mut [u16],
     sets: &mut [u64],
 ) -> RunDone
-    requires { Begun begun image.now × Learning begun asked.lent × (begun.plan.end ≤ length tape.old) × Roomy begun.plan.rules sets.old × Cleared sets.old }
+    requires begun { Begun begun image.now }
+    requires learning { Learning begun asked.lent }
+    requires taped { begun.plan.end ≤ length tape.old }
+    requires roomy { Roomy begun.plan.rules sets.old }
+    requires cleared { Cleared sets.old }
     ensures { RunMet result (accepted image.now table.old) asked.state table.old table.new asked.steps events.old events.new
         asked.lent store.old store.new }
 {
@@ -140,8 +144,9 @@ fn run_on(
     run_for(table, plan, tape, asked, events, sets, store)
 }
 
-// Running on the small tape, with sets for few rules. Each way is a function, so that the stack holds one tape at a time.
-fn run_small(
+// Running on a tape and with sets of these sizes. It is a function of its own, and never set into its caller, so that the stack holds one tape at a time.
+#[inline(never)]
+fn run_in<const TAPE: usize, const SETS: usize>(
     image: &[u8],
     begun: PlanRead,
     asked: Asked,
@@ -149,80 +154,24 @@ fn run_small(
     events: &mut [u32],
     store: &mut [u16],
 ) -> RunDone
-    requires { Begun begun image.now × Learning begun asked.lent × (begun.plan.end ≤ 4096) }
+    requires begun { Begun begun image.now }
+    requires learning { Learning begun asked.lent }
+    requires taped { (begun.plan.end ≤ TAPE) × (TAPE ≤ 58328) }
+    requires roomy { Roomy begun.plan.rules (replicate SETS 0) × (SETS ≤ 1076) }
     ensures { RunMet result (accepted image.now table.old) asked.state table.old table.new asked.steps events.old events.new
         asked.lent store.old store.new }
 {
-    let mut tape = [0u16; SMALL_TAPE];
-    let mut sets = [0u64; SMALL_SETS];
+    let mut tape = [0u16; TAPE];
+    let mut sets = [0u64; SETS];
     run_on(
         image, begun, asked, table, events, store, &mut tape, &mut sets,
     )
 }
 
-// Running on the tape for a store, with sets for few rules.
-fn run_stored(
-    image: &[u8],
-    begun: PlanRead,
-    asked: Asked,
-    table: &mut [u16],
-    events: &mut [u32],
-    store: &mut [u16],
-) -> RunDone
-    requires { Begun begun image.now × Learning begun asked.lent × (begun.plan.end ≤ 7168) }
-    ensures { RunMet result (accepted image.now table.old) asked.state table.old table.new asked.steps events.old events.new
-        asked.lent store.old store.new }
-{
-    let mut tape = [0u16; STORE_TAPE];
-    let mut sets = [0u64; SMALL_SETS];
-    run_on(
-        image, begun, asked, table, events, store, &mut tape, &mut sets,
-    )
-}
-
-// Running on the middle tape, with sets for the most rules.
-fn run_middle(
-    image: &[u8],
-    begun: PlanRead,
-    asked: Asked,
-    table: &mut [u16],
-    events: &mut [u32],
-    store: &mut [u16],
-) -> RunDone
-    requires { Begun begun image.now × Learning begun asked.lent × (begun.plan.end ≤ 16960) }
-    ensures { RunMet result (accepted image.now table.old) asked.state table.old table.new asked.steps events.old events.new
-        asked.lent store.old store.new }
-{
-    let mut tape = [0u16; MIDDLE_TAPE];
-    let mut sets = [0u64; LARGE_SETS];
-    run_on(
-        image, begun, asked, table, events, store, &mut tape, &mut sets,
-    )
-}
-
-// Running on the large tape, which has room for every image and a store, with sets for the most rules.
-fn run_large(
-    image: &[u8],
-    begun: PlanRead,
-    asked: Asked,
-    table: &mut [u16],
-    events: &mut [u32],
-    store: &mut [u16],
-) -> RunDone
-    requires { Begun begun image.now × Learning begun asked.lent }
-    ensures { RunMet result (accepted image.now table.old) asked.state table.old table.new asked.steps events.old events.new
-        asked.lent store.old store.new }
-{
-    let mut tape = [0u16; LARGE_TAPE];
-    let mut sets = [0u64; LARGE_SETS];
-    run_on(
-        image, begun, asked, table, events, store, &mut tape, &mut sets,
-    )
-}
-
-// Runs at most `steps` steps from a state, with what `lent` says is lent (1: a store): the number, the position of a refused field, the state and the steps made.
-// The table is refreshed after each step, and each is noted in three lent words, as long as there is room: the clock after it, 0 and the rule that fired or 1 and the ms waited.
-// What is learned joins the store; where it is not lent its words are neither read nor written.
+/// Runs at most `steps` steps from a state, with what `lent` says is lent (1: a store): the number, the position of a refused field, the state and the steps made.
+/// The table is refreshed after each step, and each is noted in three lent words, as long as there is room: the clock after it, 0 and the rule that fired or 1 and the ms waited.
+/// What is learned joins the store; where it is not lent its words are neither read nor written.
+#[tactic(auto, unfolding(meaning::specs::Calls::run_lent, meaning::specs::Calls::trace_lent))]
 pub fn run_lent(
     image: &[u8],
     state: State,
@@ -237,25 +186,25 @@ pub fn run_lent(
 {
     let learns = lent % 2 == 1;
     let begun = read_image::begin(image, learns);
-    let plan = begun.plan;
     let asked = Asked {
-        state: state,
-        steps: steps,
+        state,
+        steps,
         lent: learns,
     };
-    if plan.end <= SMALL_TAPE {
-        return run_small(image, begun, asked, table, events, store);
+    let end = begun.plan.end;
+    if end <= SMALL_TAPE {
+        run_in::<SMALL_TAPE, SMALL_SETS>(image, begun, asked, table, events, store)
+    } else if end <= STORE_TAPE {
+        run_in::<STORE_TAPE, SMALL_SETS>(image, begun, asked, table, events, store)
+    } else if end <= MIDDLE_TAPE {
+        run_in::<MIDDLE_TAPE, LARGE_SETS>(image, begun, asked, table, events, store)
+    } else {
+        run_in::<LARGE_TAPE, LARGE_SETS>(image, begun, asked, table, events, store)
     }
-    if plan.end <= STORE_TAPE {
-        return run_stored(image, begun, asked, table, events, store);
-    }
-    if plan.end <= MIDDLE_TAPE {
-        return run_middle(image, begun, asked, table, events, store);
-    }
-    run_large(image, begun, asked, table, events, store)
 }
 
-// Runs with nothing lent, and notes each step as `run_lent` does.
+/// Runs with nothing lent, and notes each step as `run_lent` does.
+#[tactic(auto, unfolding(meaning::specs::Calls::run_lent, meaning::specs::Calls::run_of))]
 pub fn trace(
     image: &[u8],
     state: State,
@@ -270,7 +219,7 @@ pub fn trace(
     run_lent(image, state, table, steps, events, 0, &mut no_store)
 }
 
-// Runs at most `steps` steps from a state: the number, the position of a refused field, the state and the steps made; the table is refreshed after each step.
+/// Runs at most `steps` steps from a state: the number, the position of a refused field, the state and the steps made; the table is refreshed after each step.
 pub fn run(image: &[u8], state: State, table: &mut [u16], steps: u16) -> RunDone
     ensures { ran_back result table.new ≡ run_of image.now state table.old steps }
 {

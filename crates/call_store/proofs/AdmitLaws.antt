@@ -16,8 +16,11 @@ use Rattle.layout.specs.Plans.{types_on, model_on}
 use Rattle.layout.specs.StateWords.{buffers_in}
 use Rattle.layout_state.specs.Words.{well_in}
 use Rattle.layout_state.proofs.ValueLaws.{well-by}
-use Rattle.store_words.specs.declared.Loaded.{Loaded}
-use Rattle.call_store.specs.Lending.{lent_if, TakenIn, verdict, Admits}
+use Rattle.std.specs.Prelude.{Result, Ok, Err}
+use Rattle.meaning.specs.declared.reasons.Reason.{Reason}
+use Rattle.meaning.specs.declared.reasons.Reason.TheVariants.{TooLong, NotThere, BadNumber, BadEnd, WrongTable, IllFormed, NotFresh, ClockFull, Halted, BadMark, BadMask, BadVariable, BadBuffer, StoreFull, BadStore}
+use Rattle.meaning.specs.Reasons.{number_of}
+use Rattle.call_store.specs.Lending.{TakenIn, verdict, Admits}
 
 -- ---- what is judged
 
@@ -26,30 +29,35 @@ module _ (p : Plan) (tape : List ℕ) (s : State) (w : List ℕ) (well : Bool) (
   unfolding model_on
   formed x g = well-by (model_on p tape) (types_on p tape) p.buffers w s refl refl stands well x judged g
 
-  pub not-formed : well ≡ false → Admits (record { number = ill_formed; plan = p }) p tape tape s w store
-  not-formed g =
-      record { judged = rw (formed false g) refl; stands = stands; planned = λ e. absurd (omega arith); rules = λ e. absurd (omega arith); knows = λ e. absurd (omega arith) }
+  pub not-formed : well ≡ false → Admits (Err IllFormed) p tape tape s w store
+  not-formed g = record { judged = rw (formed false g) refl; stands = stands; planned = tt; rules = tt; knows = tt }
 
-  module _ (g : well ≡ true) (r : Loaded) (tape' : List ℕ) (met : TakenIn r p tape tape' store) where
-    pub not_taken : r.fits ≡ false → Admits (record { number = bad_store; plan = p }) p tape tape' s w store
-    unfolding model_on
-    not_taken f =
-        let misfit : store_fits (types_on p tape) (lent_if p.learns store) ≡ false = sym met.judged ∙ f in
-        record {
-          judged = rw (formed true g, misfit) refl;
-          stands = stands;
-          planned = λ e. absurd (omega arith);
-          rules = λ e. absurd (omega arith);
-          knows = λ e. absurd (omega arith);
-        }
-
-    pub both-taken : r.fits ≡ true → Admits (record { number = all_done; plan = r.plan }) p tape tape' s w store
-    unfolding model_on
-    both-taken f =
-        let fits : store_fits (types_on p tape) (lent_if p.learns store) ≡ true = sym met.judged ∙ f in
-        record { judged = rw (formed true g, fits) refl; stands = stands; planned = λ e. met.planned f; rules = λ e. met.rules f; knows = λ e. met.knows f }
+  pub formed-taken : well ≡ true → (r : Result Plan Reason) (tape' : List ℕ) → TakenIn r p tape tape' store → Admits r p tape tape' s w store
+  unfolding model_on
+  formed-taken g (Ok known) tape' met =
+      record { judged = rw (formed true g, ← met.judged) refl; stands = stands; planned = met.planned; rules = met.rules; knows = met.knows }
+  formed-taken g (Err why) tape' met =
+      record { judged = rw (formed true g, ← met.judged, met.refused) refl; stands = stands; planned = tt; rules = tt; knows = tt }
 
 -- ---- what a number tells
+
+-- no reason has the number 0
+pub no-zero : (why : Reason) → number_of why ≡ all_done → ⊥
+no-zero TooLong e = omega arith
+no-zero NotThere e = omega arith
+no-zero BadNumber e = omega arith
+no-zero BadEnd e = omega arith
+no-zero WrongTable e = omega arith
+no-zero IllFormed e = omega arith
+no-zero NotFresh e = omega arith
+no-zero ClockFull e = omega arith
+no-zero Halted e = omega arith
+no-zero BadMark e = omega arith
+no-zero BadMask e = omega arith
+no-zero BadVariable e = omega arith
+no-zero BadBuffer e = omega arith
+no-zero StoreFull e = omega arith
+no-zero BadStore e = omega arith
 
 -- why a run is refused before its first step
 pub data Unfit (m : Model) (s : State) (lent : Option (List ℕ)) : ℕ → Type 0 where

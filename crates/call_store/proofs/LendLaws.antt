@@ -20,7 +20,8 @@ use Rattle.layout.specs.declared.Plan.{Plan}
 use Rattle.layout.specs.Plans.{places_for, facts_on, model_on, Planned}
 use Rattle.layout.specs.Growth.{with_more, Extended}
 use Rattle.step_learn.specs.Knows.{Knows}
-use Rattle.store_words.specs.declared.Loaded.{Loaded}
+use Rattle.std.specs.Prelude.{Result, Ok, Err}
+use Rattle.meaning.specs.declared.reasons.Reason.{Reason}
 use Rattle.store_words.specs.Loads.{LoadMet, learned_on}
 use Rattle.store_words.proofs.StoreLaws.{store_length}
 use Rattle.store_words.proofs.BackLaws.{learned-are, back_count, back-store}
@@ -29,24 +30,25 @@ use Rattle.call_store.specs.Lending.{lent_if, TakenIn, Backing}
 -- ---- taken in
 
 -- no store is lent: the model knows its own facts
-pub nothing_lent : (p : Plan) (tape store : List ℕ) → Planned p tape → p.learns ≡ false → TakenIn (record { fits = true; plan = p }) p tape tape store
+pub nothing_lent : (p : Plan) (tape store : List ℕ) → Planned p tape → p.learns ≡ false → TakenIn (Ok p) p tape tape store
 unfolding store_fits
 nothing_lent p tape store planned e =
     record {
       judged = rw e refl;
-      planned = λ _. planned;
-      rules = λ _. refl;
-      knows = λ _. subst (λ (b : Bool). Knows p tape (model_on p tape) (store_of (lent_if b store))) (sym e)
+      planned = planned;
+      rules = refl;
+      knows = subst (λ (b : Bool). Knows p tape (model_on p tape) (store_of (lent_if b store))) (sym e)
           (record { means = refl; lends = e; places = λ cs z. absurd (no_true (sym (ap is_some z))) });
+      refused = tt;
     }
 
-module _ (p : Plan) (tape tape' store : List ℕ) (r : Loaded) (planned : Planned p tape) (places : p.places ≡ places_for p.facts p.learns) (e : p.learns ≡ true) where
+module _ (p : Plan) (tape tape' store : List ℕ) (planned : Planned p tape) (places : p.places ≡ places_for p.facts p.learns) (e : p.learns ≡ true) where
   -- 256 places
   room : p.places ≡ p.facts + 256
   room = places ∙ ap (places_for p.facts) e
 
-  known : (new : List Fact) (cs : List Chunk) → new ≡ map learned cs → Extended p tape r.plan tape' new → Knows r.plan tape' (model_on p tape) (some cs)
-  known new cs is extended =
+  known : (q : Plan) (new : List Fact) (cs : List Chunk) → new ≡ map learned cs → Extended p tape q tape' new → Knows q tape' (model_on p tape) (some cs)
+  known q new cs is extended =
       record {
         means = extended.model ∙ ap (with_more (model_on p tape)) is;
         lends = ap (λ (q : Plan). q.learns) extended.plan ∙ e;
@@ -59,14 +61,16 @@ module _ (p : Plan) (tape tape' store : List ℕ) (r : Loaded) (planned : Planne
             omega (arith, room);
       }
 
-  pub store-taken : LoadMet r p tape tape' store → TakenIn r p tape tape' store
-  store-taken met =
+  pub store-taken : (r : Result Plan Reason) → LoadMet r p tape tape' store → TakenIn r p tape tape' store
+  store-taken (Ok q) met =
       record {
         judged = rw e met.judged;
-        planned = λ fits. (met.loaded fits).planned;
-        rules = λ fits. ap (λ (q : Plan). q.rules) (met.loaded fits).plan;
-        knows = λ fits. subst (λ (b : Bool). Knows r.plan tape' (model_on p tape) (store_of (lent_if b store))) (sym e) (known _ (store_in store) refl (met.loaded fits));
+        planned = met.loaded.planned;
+        rules = ap (λ (q : Plan). q.rules) met.loaded.plan;
+        knows = subst (λ (b : Bool). Knows q tape' (model_on p tape) (store_of (lent_if b store))) (sym e) (known q _ (store_in store) refl met.loaded);
+        refused = tt;
       }
+  store-taken (Err why) met = record { judged = rw e met.judged; planned = tt; rules = tt; knows = tt; refused = met.refused }
 
 -- ---- given back
 

@@ -10,73 +10,49 @@ ghost use Rattle.store_words.specs.Loads.{learned_on};
 ghost use Rattle.call_store.specs.Lending.{TakenIn, Admits, Backing};
 
 use layout::Plan;
-use meaning::State;
-use meaning::numbers::{ALL_DONE, BAD_STORE, ILL_FORMED};
-use store_words::Loaded;
+use meaning::{Reason, State};
 
-// What is asked of a run of either engine: the state to run from, the steps at most, and whether a store is lent.
-#[derive(Clone, Copy)]
+/// What is asked of a run of either engine: the state to run from, the steps at most, and whether a store is lent.
+#[derive(Clone, Copy, Debug, PartialEq, Eq)]
 pub struct Asked {
     pub state: State,
     pub steps: u16,
     pub lent: bool,
 }
 
-// The number by which a run is refused before its first step, 0 if by none; and then the plan that knows the facts of a store, if one is lent.
-#[derive(Clone, Copy)]
-pub struct Admitted {
-    pub number: u8,
-    pub plan: Plan,
-}
-
-// Takes a store, if the plan says that one is lent: whether the image can have it, and the plan that knows its facts.
-fn take_in(store: &[u16], plan: Plan, tape: &mut [u16]) -> Loaded
+// Takes a store, if the plan says that one is lent and the image can have it: the plan that knows its facts.
+fn take_in(store: &[u16], plan: Plan, tape: &mut [u16]) -> Result<Plan, Reason>
     requires { Planned plan tape.old × (plan.places ≡ places_for plan.facts plan.learns) }
     ensures { TakenIn result plan tape.old tape.new store.now }
 {
     if plan.learns {
-        return store_words::load(store, plan, tape);
-    }
-    Loaded {
-        fits: true,
-        plan: plan,
+        store_words::load(store, plan, tape)
+    } else {
+        Ok(plan)
     }
 }
 
-// Lays a state into words, and looks at what is left to refuse once an image is accepted: the state (6), and then the store, if the plan says that one is lent (15).
+/// Lays a state into words, and looks at what is left to refuse once an image is accepted: the state (6), and then the store, if the plan says that one is lent (15).
+/// What is accepted is answered by the plan that knows the facts of a store, if one is lent.
 pub fn admit(
     state: State,
     words: &mut [u16],
     store: &[u16],
     plan: Plan,
     tape: &mut [u16],
-) -> Admitted
+) -> Result<Plan, Reason>
     requires { Planned plan tape.old × (plan.places ≡ places_for plan.facts plan.learns) × (88 ≤ length words.old) }
     ensures { Admits result plan tape.old tape.new state words.new store.now }
 {
     layout_state::lay_state(state, words);
     let end = plan.declared as usize + 1;
     if !layout_state::well_formed(words, &tape[..end], plan.buffers as usize) {
-        return Admitted {
-            number: ILL_FORMED,
-            plan: plan,
-        };
+        return Err(Reason::IllFormed);
     }
-    let taken = take_in(store, plan, tape);
-    if !taken.fits {
-        return Admitted {
-            number: BAD_STORE,
-            plan: plan,
-        };
-    }
-    let known = taken.plan;
-    Admitted {
-        number: ALL_DONE,
-        plan: known,
-    }
+    take_in(store, plan, tape)
 }
 
-// Gives a store back, if one was lent, with what the plan knows more than the image has.
+/// Gives a store back, if one was lent, with what the plan knows more than the image has.
 pub fn give_back(store: &mut [u16], plan: Plan, known: Plan, tape: &[u16])
     requires { Planned known tape.now × (plan.learns ≡ true → Backing known tape.now store.old plan.facts) }
     ensures { store.new ≡ (if plan.learns then store_left store.old (some (learned_on known tape.now plan.facts)) else store.old) }

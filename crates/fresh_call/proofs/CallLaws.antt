@@ -61,20 +61,6 @@ pub lent_same : (r : FreshDone) (a : Read Model) (s : State) (steps : ℕ) (note
     → FreshMet r a s steps noted noted' lent store store' → FreshMet r a s steps noted noted' lent' store store'
 lent_same r a s steps noted noted' store store' lent lent' e met = subst (λ (b : Bool). FreshMet r a s steps noted noted' b store store') e met
 
--- what is met of an image is the run that is asked for, with its events
-pub as-asked : (image noted noted' : List ℕ) (s : State) (steps lent : ℕ) (store store' : List ℕ) (r : FreshDone)
-    → FreshMet r (decode image) s steps noted noted' (bit lent 0) store store'
-    → (with_store r store' ≡ fresh_lent image s steps lent store) × (noted' ≡ inscribed noted 0 (fresh_trace_lent image s steps (lent_by lent store)).events)
-unfolding fresh_lent fresh_trace_lent
-as-asked image noted noted' s steps lent store store' r met = (met.is_run, met.events)
-
--- with nothing lent
-pub as-asked-alone : (image noted noted' : List ℕ) (s : State) (steps : ℕ) (store store' : List ℕ) (r : FreshDone)
-    → (with_store r store' ≡ fresh_lent image s steps 0 store) × (noted' ≡ inscribed noted 0 (fresh_trace_lent image s steps (lent_by 0 store)).events)
-    → (fresh_back r ≡ fresh_of image s steps) × (noted' ≡ inscribed noted 0 (fresh_trace_of image s steps).events)
-unfolding fresh_lent fresh_of
-as-asked-alone image noted noted' s steps store store' r met = (ap (λ (x : WithStore FreshRan). x.answer) met.0, met.1)
-
 -- ---- what a run has left in the store is what was there, and more after it
 
 module _ (went : Went) (m : Model) (store : Option (List Chunk)) (w w' : List ℕ) (clock steps : ℕ) (noted noted' tape' : List ℕ)

@@ -21,8 +21,8 @@ use layout::{LARGE_TAPE, MIDDLE_TAPE, Plan, PlanRead, SMALL_TAPE, STATE_WORDS, S
 use meaning::State;
 use meaning::numbers::ALL_DONE;
 
-// What a run with nothing kept answers: the number, the position of the refused field if there is one, else 0, the state, and the steps made.
-#[derive(Clone, Copy)]
+/// What a run with nothing kept answers: the number, the position of the refused field if there is one, else 0, the state, and the steps made.
+#[derive(Clone, Copy, Debug, PartialEq, Eq)]
 pub struct FreshDone {
     pub number: u8,
     pub position: usize,
@@ -35,9 +35,9 @@ fn no_run(number: u8, position: usize, state: State) -> FreshDone
     ensures { result ≡ record { number = number; position = position; state = state; made = 0 } }
 {
     FreshDone {
-        number: number,
-        position: position,
-        state: state,
+        number,
+        position,
+        state,
         made: 0,
     }
 }
@@ -99,7 +99,9 @@ fn run_on(
     store: &mut [u16],
     tape: &mut [u16],
 ) -> FreshDone
-    requires { Begun begun image.now × Learning begun asked.lent × (begun.plan.end ≤ length tape.old) }
+    requires begun { Begun begun image.now }
+    requires learning { Learning begun asked.lent }
+    requires taped { begun.plan.end ≤ length tape.old }
     ensures { FreshMet result (decode image.now) asked.state asked.steps events.old events.new asked.lent store.old store.new }
 {
     let walk = read_image::lay_out(image, begun, tape);
@@ -111,69 +113,28 @@ fn run_on(
     run_for(plan, tape, asked, events, store)
 }
 
-// Running on the small tape. Each way is a function, so that the stack holds one tape at a time.
-fn run_small(
+// Running on a tape of this size. It is a function of its own, and never set into its caller, so that the stack holds one tape at a time.
+#[inline(never)]
+fn run_in<const TAPE: usize>(
     image: &[u8],
     begun: PlanRead,
     asked: Asked,
     events: &mut [u32],
     store: &mut [u16],
 ) -> FreshDone
-    requires { Begun begun image.now × Learning begun asked.lent × (begun.plan.end ≤ 4096) }
+    requires begun { Begun begun image.now }
+    requires learning { Learning begun asked.lent }
+    requires taped { (begun.plan.end ≤ TAPE) × (TAPE ≤ 58328) }
     ensures { FreshMet result (decode image.now) asked.state asked.steps events.old events.new asked.lent store.old store.new }
 {
-    let mut tape = [0u16; SMALL_TAPE];
+    let mut tape = [0u16; TAPE];
     run_on(image, begun, asked, events, store, &mut tape)
 }
 
-// Running on the tape for a store.
-fn run_stored(
-    image: &[u8],
-    begun: PlanRead,
-    asked: Asked,
-    events: &mut [u32],
-    store: &mut [u16],
-) -> FreshDone
-    requires { Begun begun image.now × Learning begun asked.lent × (begun.plan.end ≤ 7168) }
-    ensures { FreshMet result (decode image.now) asked.state asked.steps events.old events.new asked.lent store.old store.new }
-{
-    let mut tape = [0u16; STORE_TAPE];
-    run_on(image, begun, asked, events, store, &mut tape)
-}
-
-// Running on the middle tape.
-fn run_middle(
-    image: &[u8],
-    begun: PlanRead,
-    asked: Asked,
-    events: &mut [u32],
-    store: &mut [u16],
-) -> FreshDone
-    requires { Begun begun image.now × Learning begun asked.lent × (begun.plan.end ≤ 16960) }
-    ensures { FreshMet result (decode image.now) asked.state asked.steps events.old events.new asked.lent store.old store.new }
-{
-    let mut tape = [0u16; MIDDLE_TAPE];
-    run_on(image, begun, asked, events, store, &mut tape)
-}
-
-// Running on the large tape, which has room for every image and a store.
-fn run_large(
-    image: &[u8],
-    begun: PlanRead,
-    asked: Asked,
-    events: &mut [u32],
-    store: &mut [u16],
-) -> FreshDone
-    requires { Begun begun image.now × Learning begun asked.lent }
-    ensures { FreshMet result (decode image.now) asked.state asked.steps events.old events.new asked.lent store.old store.new }
-{
-    let mut tape = [0u16; LARGE_TAPE];
-    run_on(image, begun, asked, events, store, &mut tape)
-}
-
-// Runs at most `steps` steps from a state with nothing kept, and with what `lent` says is lent (1: a store): the number, the position of a refused field, the state and the steps made.
-// Every rule is matched afresh at each step, and each step is noted in three lent words, as long as there is room: the clock after it, 0 and the rule that fired or 1 and the ms waited.
-// What is learned joins the store; where it is not lent its words are neither read nor written.
+/// Runs at most `steps` steps from a state with nothing kept, and with what `lent` says is lent (1: a store): the number, the position of a refused field, the state and the steps made.
+/// Every rule is matched afresh at each step, and each step is noted in three lent words, as long as there is room: the clock after it, 0 and the rule that fired or 1 and the ms waited.
+/// What is learned joins the store; where it is not lent its words are neither read nor written.
+#[tactic(auto, unfolding(meaning::specs::Fresh::fresh_lent, meaning::specs::Fresh::fresh_trace_lent))]
 pub fn fresh_lent(
     image: &[u8],
     state: State,
@@ -187,25 +148,25 @@ pub fn fresh_lent(
 {
     let learns = lent % 2 == 1;
     let begun = read_image::begin(image, learns);
-    let plan = begun.plan;
     let asked = Asked {
-        state: state,
-        steps: steps,
+        state,
+        steps,
         lent: learns,
     };
-    if plan.end <= SMALL_TAPE {
-        return run_small(image, begun, asked, events, store);
+    let end = begun.plan.end;
+    if end <= SMALL_TAPE {
+        run_in::<SMALL_TAPE>(image, begun, asked, events, store)
+    } else if end <= STORE_TAPE {
+        run_in::<STORE_TAPE>(image, begun, asked, events, store)
+    } else if end <= MIDDLE_TAPE {
+        run_in::<MIDDLE_TAPE>(image, begun, asked, events, store)
+    } else {
+        run_in::<LARGE_TAPE>(image, begun, asked, events, store)
     }
-    if plan.end <= STORE_TAPE {
-        return run_stored(image, begun, asked, events, store);
-    }
-    if plan.end <= MIDDLE_TAPE {
-        return run_middle(image, begun, asked, events, store);
-    }
-    run_large(image, begun, asked, events, store)
 }
 
-// Runs with nothing lent, and notes each step as `fresh_lent` does.
+/// Runs with nothing lent, and notes each step as `fresh_lent` does.
+#[tactic(auto, unfolding(meaning::specs::Fresh::fresh_lent, meaning::specs::Fresh::fresh_of))]
 pub fn trace_fresh(image: &[u8], state: State, steps: u16, events: &mut [u32]) -> FreshDone
     ensures { (fresh_back result ≡ fresh_of image.now state steps)
         × (events.new ≡ inscribed events.old 0 (fresh_trace_of image.now state steps).events) }
@@ -214,7 +175,7 @@ pub fn trace_fresh(image: &[u8], state: State, steps: u16, events: &mut [u32]) -
     fresh_lent(image, state, steps, events, 0, &mut no_store)
 }
 
-// Runs at most `steps` steps from a state, with every rule matched afresh at each step: the number, the position of a refused field, the state and the steps made.
+/// Runs at most `steps` steps from a state, with every rule matched afresh at each step: the number, the position of a refused field, the state and the steps made.
 pub fn run_fresh(image: &[u8], state: State, steps: u16) -> FreshDone
     ensures { fresh_back result ≡ fresh_of image.now state steps }
 {

@@ -1,17 +1,17 @@
 -- Laws of the places of a store laid on a tape: one row more, and the facts that plan and tape then know.
 use Prim.Native.Nat.{ℕ, ◌+◌, ◌*◌, ◌≤◌, ◌<◌}
 use mathlib.Core.Path.{◌≡◌, refl, sym, ap, ap₂, ◌∙◌, subst}
-use mathlib.Core.Bool.{false}
+use mathlib.Core.Bool.{Bool, true, false}
+use mathlib.Core.Option.{some}
 use mathlib.Core.List.{List, [], ◌∷◌, ◌++◌, map, map-append}
 use native.Mathlib.Omega.{arith}
 use lib.ListN.{length, get_or, take, drop}
 use lib.Seq.{sets, length-sets, drop-drop}
 use borrow.Author.Tests.{eq-eqb, ne_eqb, le-leb, lt-leb}
 use Rattle.meaning.specs.Base.{every}
-use Rattle.laws.specs.BaseLaws.{no_true}
 use Rattle.meaning.specs.Model.{Fact}
 use Rattle.meaning.specs.Learning.{learned}
-use Rattle.meaning.specs.Store.{place_in, holdable, store_in, store_fits}
+use Rattle.meaning.specs.Store.{place_in, holdable, store_fits}
 use Rattle.layout.specs.declared.Plan.{Plan}
 use Rattle.layout.specs.Rows.{rows_in, fact_in, facts_in}
 use Rattle.layout.specs.Plans.{types_on, Planned}
@@ -20,7 +20,9 @@ use Rattle.layout.proofs.WordLaws.{sets-take, sets-drop}
 use Rattle.layout.proofs.RowLaws.{rows_more, rows_same, fact-like, in-more, in-drop}
 use Rattle.layout.proofs.KeptLaws.{begin-alike, drop-alike, follows}
 use Rattle.layout.proofs.GrowthLaws.{extended-by}
-use Rattle.store_words.specs.declared.Loaded.{Loaded}
+use Rattle.std.specs.Prelude.{Result, Ok, Err}
+use Rattle.meaning.specs.declared.reasons.Reason.{Reason}
+use Rattle.meaning.specs.declared.reasons.Reason.TheVariants.{BadStore}
 use Rattle.store_words.specs.Rows.{row_words, RowsLaid, PlacesMet}
 use Rattle.store_words.specs.Loads.{LoadMet}
 use Rattle.store_words.proofs.PlaceLaws.{store-row}
@@ -73,36 +75,32 @@ rows-added tape own n =
     ∙ in-drop fact_in fact-like tape (152 + 11 * own) 0 (152 + 11 * own) n (omega arith)
 
 module _ (p : Plan) (tape store : List ℕ) where
-  pub load-long : (r : Loaded) (tape' : List ℕ) → r.fits ≡ false → (length store ≡ 2305 → ⊥) → LoadMet r p tape tape' store
+  pub load-long : (tape' : List ℕ) → (length store ≡ 2305 → ⊥) → LoadMet (Err BadStore) p tape tape' store
   unfolding store_fits
-  load-long r tape' bad h =
-      record {
-        judged = bad ∙ rw (ne_eqb (length store) 2305 h);
-        loaded = λ good. absurd (no_true (sym good ∙ bad));
-      }
+  load-long tape' h = record { judged = rw (ne_eqb (length store) 2305 h); loaded = tt; refused = refl }
 
   module _ (long : length store ≡ 2305) where
-    pub load_many : (r : Loaded) (tape' : List ℕ) → r.fits ≡ false → 256 < get_or store 0 0 → LoadMet r p tape tape' store
+    pub load_many : (tape' : List ℕ) → 256 < get_or store 0 0 → LoadMet (Err BadStore) p tape tape' store
     unfolding store_fits
-    load_many r tape' bad h =
-        record {
-          judged = bad ∙ rw (eq-eqb (length store) 2305 long, lt-leb (get_or store 0 0) 256 h);
-          loaded = λ good. absurd (no_true (sym good ∙ bad));
-        }
+    load_many tape' h = record { judged = rw (eq-eqb (length store) 2305 long, lt-leb (get_or store 0 0) 256 h); loaded = tt; refused = refl }
 
-    pub load-met : (r : Loaded) (tape' : List ℕ) → Planned p tape → p.places ≡ p.facts + 256 → get_or store 0 0 ≤ 256
-        → r.plan ≡ with_facts p (p.facts + get_or store 0 0) → PlacesMet r.fits p tape tape' store (get_or store 0 0) → LoadMet r p tape tape' store
-    unfolding store_fits
-    load-met r tape' planned room few plan met =
-        let n : ℕ = get_or store 0 0 in
-        let f = follows planned in
-        record {
-          judged = met.judged ∙ ap (every (holdable (types_on p tape))) (sym (store-row store)) ∙ rw (eq-eqb (length store) 2305 long, le-leb n 256 few);
-          loaded = λ good.
-              let laid = met.laid good in
-              let apart = drop-alike (152 + 11 * (p.facts + n)) p.heads tape tape' (omega arith) laid.above in
-              let is = rows-added tape' p.facts n ∙ laid.laid ∙ ap (map learned) (sym (store-row store)) in
-              subst (λ (q : Plan). Extended p tape q tape' (map learned (store_in store))) (sym plan)
-              (subst (λ (fs : List Fact). Extended p tape (with_facts p (p.facts + n)) tape' fs) is
-              (extended-by p tape tape' planned n (omega arith) laid.as_long laid.below apart));
-        }
+    module _ (few : get_or store 0 0 ≤ 256) (placed : Bool) (tape' : List ℕ) (met : PlacesMet placed p tape tape' store (get_or store 0 0)) where
+      fitting : placed ≡ store_fits (types_on p tape) (some store)
+      unfolding store_fits
+      fitting = met.judged ∙ ap (every (holdable (types_on p tape))) (sym (store-row store)) ∙ rw (eq-eqb (length store) 2305 long, le-leb (get_or store 0 0) 256 few)
+
+      pub load-bad : placed ≡ false → (r : Result Plan Reason) → r ≡ Err BadStore → LoadMet r p tape tape' store
+      load-bad bad r e = rw e record { judged = sym bad ∙ fitting; loaded = tt; refused = refl }
+
+      pub load-met : Planned p tape → p.places ≡ p.facts + 256 → placed ≡ true → LoadMet (Ok (with_facts p (p.facts + get_or store 0 0))) p tape tape' store
+      load-met planned room good =
+          let n : ℕ = get_or store 0 0 in
+          let f = follows planned in
+          let laid = met.laid good in
+          let apart = drop-alike (152 + 11 * (p.facts + n)) p.heads tape tape' (omega arith) laid.above in
+          let is = rows-added tape' p.facts n ∙ laid.laid ∙ ap (map learned) (sym (store-row store)) in
+          record {
+            judged = sym good ∙ fitting;
+            loaded = subst (λ (fs : List Fact). Extended p tape (with_facts p (p.facts + n)) tape' fs) is (extended-by p tape tape' planned n (omega arith) laid.as_long laid.below apart);
+            refused = tt;
+          }

@@ -2,12 +2,14 @@
 use Prim.Native.Nat.{ℕ, zero, suc, ◌+◌, ◌-◌, ◌*◌, ◌≤◌, ◌<◌}
 use mathlib.Core.Path.{◌≡◌, refl, sym, ap, ap₂, ◌∙◌}
 use mathlib.Core.Bool.{and-true, true, false}
-use mathlib.Core.List.{List, ◌∷◌, map}
+use mathlib.Core.List.{List, ◌∷◌, ◌++◌, map}
 use native.Mathlib.Omega.{arith}
 use lib.Dec.{leb, eqb}
-use lib.ListN.{length, get_or, set, take, drop}
-use lib.Seq.{sets}
+use lib.ListN.{length, get_or, set, take, drop, length-set}
+use lib.Seq.{sets, sets-eq, drop-drop}
+use Rattle.std.proofs.Common.{append_assoc}
 use borrow.Author.Tests.{le-ltb, lt-ltb}
+use borrow.Rule.Slice.PartMut.{put_mid}
 use Rattle.meaning.specs.Base.{every, up_from}
 use Rattle.meaning.specs.State.{slot_count}
 use Rattle.meaning.specs.Store.{place_in, place_words, holdable, store_in}
@@ -45,21 +47,29 @@ part-slots w o first end a b h =
     let n : end - first ≡ 8 = omega arith in
     ap₂ (λ (n k : ℕ). take n (drop k w)) n a ∙ sym (slots-there w o (omega arith))
 
-pub row_laid : (tape store : List ℕ) (i o : ℕ) → 9 * i + 10 ≤ length store
-    → sets (set (set (set tape o (get_or store (9 * i + 1) 0)) (o + 1) 0) (o + 2) 50) (o + 3) (take (9 * i + 1 + 9 - (9 * i + 1 + 1)) (drop (9 * i + 1 + 1) store))
-    ≡ sets tape o (row_words (place_in store i))
-row_laid tape store i o h =
+-- words that were copied into a part
+put-sets : (w xs : List ℕ) (a k : ℕ) → a + k ≤ length w → length xs ≡ k → put_mid a k w xs ≡ sets w a xs
+put-sets w xs a k h n = ap (λ (l : List ℕ). take a w ++ (xs ++ l)) (drop-drop k a w ∙ ap (λ (m : ℕ). drop (a + m) w) (sym n)) ∙ sym (append_assoc (take a w) xs (drop (a + length xs) w)) ∙ sym (sets-eq xs w a (omega arith))
+
+pub row_laid : (tape store : List ℕ) (i o : ℕ) → o + 11 ≤ length tape → 9 * i + 10 ≤ length store → (xs : List ℕ) → xs ≡ take (9 * i + 1 + 9 - (9 * i + 1 + 1)) (drop (9 * i + 1 + 1) store)
+    → put_mid (o + 3) (o + 11 - (o + 3)) (set (set (set tape o (get_or store (9 * i + 1) 0)) (o + 1) 0) (o + 2) 50) xs ≡ sets tape o (row_words (place_in store i))
+row_laid tape store i o room h xs e =
+    let head : List ℕ = set (set (set tape o (get_or store (9 * i + 1) 0)) (o + 1) 0) (o + 2) 50 in
+    let long : length head ≡ length tape = simp length-set refl in
+    let slots : xs ≡ (place_in store i).slots = e ∙ part-slots store (9 * i + 2) (9 * i + 1 + 1) (9 * i + 1 + 9) (omega arith) (omega arith) (omega arith) in
     let a : o + 1 ≡ suc o = omega arith in
     let b : o + 2 ≡ suc (suc o) = omega arith in
     let d : o + 3 ≡ suc (suc (suc o)) = omega arith in
-    rw (a, b, d) (ap (sets (set (set (set tape o (get_or store (9 * i + 1) 0)) (suc o) 0) (suc (suc o)) 50) (suc (suc (suc o))))
-    (part-slots store (9 * i + 2) (9 * i + 1 + 1) (9 * i + 1 + 9) (omega arith) (omega arith) (omega arith)))
+    put-sets head xs (o + 3) (o + 11 - (o + 3)) (omega arith) (ap length slots ∙ omega arith) ∙ rw (slots, a, b, d)
 
-pub place-laid : (store tape : List ℕ) (i o : ℕ) → o + 11 ≤ length tape
-    → sets (set store (9 * i + 1) (get_or tape o 0)) (9 * i + 1 + 1) (take (o + 11 - (o + 3)) (drop (o + 3) tape)) ≡ sets store (9 * i + 1) (place_words (fact_in tape o).chunk)
-place-laid store tape i o h =
+pub place-laid : (store tape : List ℕ) (i o : ℕ) → 9 * i + 10 ≤ length store → o + 11 ≤ length tape → (xs : List ℕ) → xs ≡ take (o + 11 - (o + 3)) (drop (o + 3) tape)
+    → put_mid (9 * i + 1 + 1) (9 * i + 1 + 9 - (9 * i + 1 + 1)) (set store (9 * i + 1) (get_or tape o 0)) xs ≡ sets store (9 * i + 1) (place_words (fact_in tape o).chunk)
+place-laid store tape i o room h xs e =
+    let head : List ℕ = set store (9 * i + 1) (get_or tape o 0) in
+    let long : length head ≡ length store = length-set store (9 * i + 1) (get_or tape o 0) in
+    let slots : xs ≡ (fact_in tape o).chunk.slots = e ∙ part-slots tape (o + 3) (o + 3) (o + 11) refl (omega arith) h in
     let a : 9 * i + 1 + 1 ≡ suc (9 * i + 1) = omega arith in
-    rw a (ap (sets (set store (9 * i + 1) (get_or tape o 0)) (suc (9 * i + 1))) (part-slots tape (o + 3) (o + 3) (o + 11) refl (omega arith) h))
+    put-sets head xs (9 * i + 1 + 1) (9 * i + 1 + 9 - (9 * i + 1 + 1)) (omega arith) (ap length slots ∙ omega arith) ∙ rw (slots, a)
 
 -- ---- a place is judged
 

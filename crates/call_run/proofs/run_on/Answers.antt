@@ -21,4 +21,4 @@ returns-in-Refused c =
 
 pub run_for-requires : goal.run_for-requires
 run_for-requires c =
-    (c.accept-taken.ensures.planned c.in_default.is, c.accept-taken.ensures.right_length c.in_default.is, c.requires.3, c.requires.4, taken_next c.args.begun c.accept-taken.result c.args.image.now c.args.table.now (tape (goal.at.run_for-requires c).After-accept-taken) c.requires.0 c.accept-taken.ensures c.in_default.is (λ q e. ap (λ (p : Plan). p.places) (c.requires.0.in_bounds q e).starts), taken_next c.args.begun c.accept-taken.result c.args.image.now c.args.table.now (tape (goal.at.run_for-requires c).After-accept-taken) c.requires.0 c.accept-taken.ensures c.in_default.is c.requires.1)
+    (c.accept-taken.ensures.planned c.in_default.is, c.accept-taken.ensures.right_length c.in_default.is, c.requires.roomy, c.requires.cleared, taken_next c.args.begun c.accept-taken.result c.args.image.now c.args.table.now (tape (goal.at.run_for-requires c).After-accept-taken) c.requires.begun c.accept-taken.ensures c.in_default.is (λ q e. ap (λ (p : Plan). p.places) (c.requires.begun.in_bounds q e).starts), taken_next c.args.begun c.accept-taken.result c.args.image.now c.args.table.now (tape (goal.at.run_for-requires c).After-accept-taken) c.requires.begun c.accept-taken.ensures c.in_default.is c.requires.learning)

@@ -1,11 +1,8 @@
--- `call_store::take_in` meets its contract: a store that is lent is loaded, and else nothing is done.
-use mathlib.Core.Path.{ap, ◌∙◌}
-use borrow.Author.Rules.{rules}
-use Rattle.layout.specs.Plans.{places_for}
-use Rattle.call_store.proofs.LendLaws.{nothing_lent, store-taken}
+-- `call_store::take_in` meets its contract: where no store is lent, nothing is done.
+use Rattle.call_store.proofs.LendLaws.{nothing_lent}
 use Rattle.call_store.proofs.take_in.Goals as goal
 
-pub returns : goal.returns
-returns c =
+pub returns-else-plan : goal.returns-else-plan
+returns-else-plan c =
     let a = c.args in
     nothing_lent a.plan a.tape.now a.store.now c.requires.0 c.if-plan.false

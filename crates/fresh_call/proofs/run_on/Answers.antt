@@ -21,4 +21,4 @@ returns-in-Bad c =
 
 pub run_for-requires : goal.run_for-requires
 run_for-requires c =
-    (c.lay_out-walk.ensures.planned _ c.in_default.is, laid_next c.args.begun c.args.image.now (tape (goal.at.run_for-requires c).After-lay_out-walk) c.lay_out-walk.result _ c.requires.0 c.lay_out-walk.ensures c.in_default.is (λ q e. ap (λ (p : Plan). p.places) (c.requires.0.in_bounds q e).starts), laid_next c.args.begun c.args.image.now (tape (goal.at.run_for-requires c).After-lay_out-walk) c.lay_out-walk.result _ c.requires.0 c.lay_out-walk.ensures c.in_default.is c.requires.1)
+    (c.lay_out-walk.ensures.planned _ c.in_default.is, laid_next c.args.begun c.args.image.now (tape (goal.at.run_for-requires c).After-lay_out-walk) c.lay_out-walk.result _ c.requires.begun c.lay_out-walk.ensures c.in_default.is (λ q e. ap (λ (p : Plan). p.places) (c.requires.begun.in_bounds q e).starts), laid_next c.args.begun c.args.image.now (tape (goal.at.run_for-requires c).After-lay_out-walk) c.lay_out-walk.result _ c.requires.begun c.lay_out-walk.ensures c.in_default.is c.requires.learning)

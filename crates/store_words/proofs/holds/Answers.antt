@@ -1,10 +1,6 @@
 -- `store_words::holds` meets its contract: the type, the values and the slots past the count are judged in the order of the definition.
-use Prim.Native.Nat.{◌+◌, ◌*◌}
 use mathlib.Core.Path.{sym, ◌∙◌}
-use native.Mathlib.Omega.{arith}
-use lib.ListN.{get_or}
-use borrow.Author.Tests.{not-true, not-false}
-use Rattle.store_words.proofs.PlaceLaws.{holds-nil, holds-type, holds-values, holds-past}
+use Rattle.store_words.proofs.PlaceLaws.{holds-values, holds-past}
 use borrow.Author.Rules.{rules}
 use Rattle.store_words.proofs.holds.Goals as goal
 

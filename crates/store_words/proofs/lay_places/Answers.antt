@@ -3,13 +3,9 @@ use Prim.Native.Nat.{ℕ, ◌+◌, ◌-◌, ◌*◌, ◌≤◌}
 use mathlib.Core.Path.{◌≡◌, sym, ap, ◌∙◌, subst}
 use mathlib.Core.List.{List}
 use native.Mathlib.Omega.{arith}
-use lib.ListN.{length, take}
-use lib.Seq.{length-take-le}
-use borrow.Author.Tests.{not-true, not-false}
-use Rattle.meaning.specs.Base.{every}
+use lib.ListN.{length}
 use Rattle.meaning.specs.Store.{place_in, holdable}
 use Rattle.laws.specs.BaseLaws.{no_true}
-use Rattle.layout.specs.Rows.{rows_in}
 use Rattle.layout.specs.Plans.{types_on}
 use Rattle.layout.proofs.PlanLaws.{sections}
 use Rattle.layout.proofs.KeptLaws.{follows}
@@ -29,21 +25,21 @@ like c =
     let a = c.args in
     let few : a.plan.declared + 1 ≤ 152 = omega (arith, c.requires.0.most_declared) in
     ap (λ (ts : List ℕ). holdable ts (place_in a.store.now c.loop-i.i))
-    (sym (types-stay a.plan.facts a.tape.now c.loop-i.tape a.store.now c.loop-i.i (a.plan.declared + 1) few c.loop-i.invariant.1))
+    (sym (types-stay a.plan.facts a.tape.now c.loop-i.tape a.store.now c.loop-i.i (a.plan.declared + 1) few c.loop-i.invariant.laid))
 
 pub loop-i-init : goal.loop-i-init
 loop-i-init c =
     let a = c.args in
     let z : a.n - 0 ≡ a.n = omega arith in
-    (search rules, rows_none a.plan.facts a.tape.now a.store.now, rw z)
+    record { laid = rows_none a.plan.facts a.tape.now a.store.now; judged = rw z }
 
-pub returns-then-not-holds : goal.returns-then-not-holds
-returns-then-not-holds c =
+pub returns-then-not-holds-clause-places : goal.returns-then-not-holds-clause-places
+returns-then-not-holds-clause-places c =
     let l = c.loop-i in
     let a = c.args in
-    let bad = like (goal.at.returns-then-not-holds c).At-loop-i ∙ sym c.holds.ensures ∙ c.if-not-holds.true in
+    let bad = like (goal.at.returns-then-not-holds-clause-places c).At-loop-i ∙ sym c.holds.ensures ∙ c.if-not-holds.true in
     record {
-      judged = all-broken (holdable (types_on a.plan a.tape.now)) (place_in a.store.now) l.i a.n (search rules) bad ∙ l.invariant.2;
+      judged = all-broken (holdable (types_on a.plan a.tape.now)) (place_in a.store.now) l.i a.n (search rules) bad ∙ l.invariant.judged;
       laid = λ good. absurd (no_true (sym good));
     }
 
@@ -51,18 +47,18 @@ pub loop-i-preserved : goal.loop-i-preserved
 loop-i-preserved c =
     let l = c.loop-i in
     let a = c.args in
-    let good = like (goal.at.loop-i-preserved c).At-loop-i ∙ sym c.holds.ensures ∙ c.if-not-holds.false in (
-      search rules,
-      rows_next a.plan.facts a.tape.now l.tape _ a.store.now l.i (omega (arith, room (goal.at.loop-i-preserved c).At-loop-i, c.requires.3)) l.invariant.1 c.lay_row.ensures,
-      all-kept (holdable (types_on a.plan a.tape.now)) (place_in a.store.now) l.i a.n c.loop-i-test.true good ∙ l.invariant.2,
-    )
+    let good = like (goal.at.loop-i-preserved c).At-loop-i ∙ sym c.holds.ensures ∙ c.if-not-holds.false in
+    record {
+      laid = rows_next a.plan.facts a.tape.now l.tape _ a.store.now l.i (omega (arith, room (goal.at.loop-i-preserved c).At-loop-i, c.requires.3)) l.invariant.laid c.lay_row.ensures;
+      judged = all-kept (holdable (types_on a.plan a.tape.now)) (place_in a.store.now) l.i a.n (search rules) good ∙ l.invariant.judged;
+    }
 
-pub returns : goal.returns
-returns c =
+pub returns-clause-places : goal.returns-clause-places
+returns-clause-places c =
     let l = c.loop-i in
     let a = c.args in
-    let all : l.i ≡ a.n = omega (arith, l.invariant.0, c.loop-i-test.false) in
+    let all : l.i ≡ a.n = search rules in
     record {
-      judged = all_done (holdable (types_on a.plan a.tape.now)) (place_in a.store.now) l.i a.n c.loop-i-test.false ∙ l.invariant.2;
-      laid = λ good. subst (λ (m : ℕ). RowsLaid a.plan.facts a.tape.now l.tape a.store.now m) all l.invariant.1;
+      judged = all_done (holdable (types_on a.plan a.tape.now)) (place_in a.store.now) l.i a.n (search rules) ∙ l.invariant.judged;
+      laid = λ good. subst (λ (m : ℕ). RowsLaid a.plan.facts a.tape.now l.tape a.store.now m) all l.invariant.laid;
     }
