@@ -1,3 +1,3 @@
--- Laws of the header, of the slot counts and of the opening state.
-pub mod HeaderLaws
+-- Laws of counts, of the slot counts and of the opening state.
+pub mod CountLaws
 pub mod OpeningLaws
