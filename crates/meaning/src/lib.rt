@@ -1,4 +1,4 @@
-// The state that every call takes and gives back, by value (document 01, "Words and sizes").
+// The state that every call takes and gives back, by value (docs/MEANING.md says what each part of it means).
 #![tactic(auto)]
 
 ghost use Rattle.std.specs.Prelude.{◌≡◌};

@@ -1,4 +1,4 @@
--- What the fetch of a field answers: document 01's number and value for each case.
+-- What the fetch of a field answers: the number and value for each case (docs/NUMBERS.md).
 use Rattle.std.specs.Prelude.{Option, Some, None, ◌≡◌, List, ℕ, ◌+◌}
 use Rattle.meaning.specs.Numbers.{not_there}
 use Rattle.meaning.specs.Read.{Read, read_refused, read_got, field}
