@@ -1,21 +1,19 @@
 -- `step_learn::collect` meets its contract: the rows are what the buffers below a place give, and those that are left are ahead.
-use borrow.Author.Rules.{rules}
 use borrow.Author.Tests.{not-true, not-false}
 use Prim.Native.Nat.{◌+◌, ◌*◌, ◌≤◌, ◌<◌}
-use mathlib.Core.Path.{◌≡◌, refl, sym, ◌∙◌}
+use mathlib.Core.Path.{refl, sym, ◌∙◌}
 use mathlib.Core.List.{List}
 use native.Mathlib.Omega.{arith}
-use lib.ListN.{length, get_or}
+use lib.ListN.{get_or}
 use Rattle.meaning.specs.Model.{Action, Chunk}
 use Rattle.meaning.specs.Learning.{chunks_of}
 use Rattle.layout.specs.Rows.{actions_in}
 use Rattle.layout.specs.Plans.{facts_on, rows_on}
 use Rattle.laws.specs.PartLaws.{to_end}
-use Rattle.layout.proofs.PlanLaws.{sections}
-use Rattle.match_sets.proofs.BitWalk.{Walk, walk_here}
+use Rattle.match_sets.proofs.BitWalk.{walk_here}
 use Rattle.step_learn.specs.Clears.{ClearMask}
 use Rattle.step_learn.proofs.ClearLaws.{clear-low}
-use Rattle.step_learn.proofs.CollectLaws.{Held, collecting-start, collecting-few, collecting-turn, collecting-end, actions-count, collected-none, collected-so}
+use Rattle.step_learn.proofs.CollectLaws.{collecting-start, collecting-few, collecting-turn, collecting-end, actions-count, collected-none, collected-so}
 use Rattle.step_learn.proofs.collect.Goals as goal
 use Rattle.step_learn.proofs.collect.Goals.{After-clear_mask-mask, After-lowest-b, After-shared_slice_known-3-1}
 

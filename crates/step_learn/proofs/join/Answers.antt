@@ -2,7 +2,6 @@
 use mathlib.Core.Path.{◌≡◌, sym, ◌∙◌}
 use mathlib.Core.Bool.{true, false}
 use mathlib.Core.List.{List}
-use native.Mathlib.Omega.{arith}
 use Rattle.meaning.specs.declared.Buffer.{Buffer}
 use Rattle.meaning.specs.Model.{Chunk, Fact}
 use Rattle.meaning.specs.Learning.{chunks_of, chunk_of, equal}
@@ -10,10 +9,8 @@ use Rattle.meaning.specs.Base.{any_of}
 use Rattle.layout.specs.Rows.{facts_in}
 use Rattle.layout.specs.StateWords.{buffer_in}
 use Rattle.layout.specs.Plans.{facts_on}
-use borrow.Author.Tests.{not-true, not-false}
 use Rattle.step_learn.specs.Clears.{gives}
 use Rattle.step_learn.proofs.JoinLaws.{join-none, join-known, join-among, join-new}
-use borrow.Author.Rules.{rules}
 use Rattle.step_learn.proofs.join.Goals as goal
 use Rattle.step_learn.proofs.join.Goals.{After-gives, Else-known, Else-not-gives}
 

@@ -1,5 +1,4 @@
 -- `step_learn::placed` meets its contract.
-use borrow.Author.Rules.{rules}
 use Rattle.step_learn.proofs.ClearLaws.{place_set, place-unset}
 use Rattle.step_learn.proofs.placed.Goals as goal
 
