@@ -32,9 +32,6 @@ crowded c =
     let a = c.args in
     no-place-is a.plan a.tape.now a.state.now c.collect-joined.new.news a.clock a.k c.collect-joined.result c.requires.1 c.collect-joined.ensures
 
-on-time : (c : After-collect-joined) → c.args.clock + 50 ≤ largest
-on-time c = (in-time c.args.clock 50 _ (sym c.clock_after.ensures ∙ c.in_ok-clock_after.was)).1
-
 pub returns-in_err-clock_after-clause-step_met : goal.returns-in_err-clock_after-clause-step_met
 returns-in_err-clock_after-clause-step_met c =
     let a = c.args in
@@ -46,7 +43,8 @@ pub returns-then-plan-joined-clause-step_met : goal.returns-then-plan-joined-cla
 returns-then-plan-joined-clause-step_met c =
     let a = c.args in
     let after = (goal.at.returns-then-plan-joined-clause-step_met c).After-collect-joined in
-    no_room a.plan a.tape.now _ a.k _ a.nine.now a.state.now a.clock (on-time after) (crowded after ∙ lt-ltb _ _ c.if-plan-joined.true)
+    let fits = (in-time a.clock 50 _ (sym c.clock_after.ensures ∙ c.in_ok-clock_after.was)).1 in
+    no_room a.plan a.tape.now _ a.k _ a.nine.now a.state.now a.clock fits (crowded after ∙ lt-ltb _ _ c.if-plan-joined.true)
 
 pub returns-clause-step_met : goal.returns-clause-step_met
 returns-clause-step_met c =
@@ -57,4 +55,5 @@ returns-clause-step_met c =
     let state = c.fire-mark.ensures.by_index a.clock rule actions in
     let mark = c.fire-mark.ensures.mark a.clock (a.clock + 50) in
     let fits : a.plan.facts + c.collect-joined.result ≤ a.plan.places = omega (arith, c.if-plan-joined.false) in
-    fired a.plan a.tape.now _ a.k rule a.nine.now a.state.now a.clock (on-time after) (crowded after ∙ le-ltb _ _ fits) _ _ _ state (rw (← actions) at mark)
+    let on-time = (in-time a.clock 50 _ (sym c.clock_after.ensures ∙ c.in_ok-clock_after.was)).1 in
+    fired a.plan a.tape.now _ a.k rule a.nine.now a.state.now a.clock on-time (crowded after ∙ le-ltb _ _ fits) _ _ _ state (rw (← actions) at mark)
