@@ -6,13 +6,12 @@ use mathlib.Core.List.{List}
 use mathlib.Core.Option.{Option, none}
 use lib.ListN.{length}
 use Rattle.meaning.specs.declared.State.{State}
-use Rattle.meaning.specs.Base.{bit}
 use Rattle.meaning.specs.Model.{Model, Chunk}
 use Rattle.meaning.specs.State.{well_formed}
 use Rattle.meaning.specs.Read.{Read, read_refused, read_got}
 use Rattle.meaning.specs.Run.{Going, going, Run, ends, run_from}
-use Rattle.meaning.specs.Store.{lent_by, store_fits, store_of, store_left}
-use Rattle.meaning.specs.Calls.{place_of, Ran, WithStore, accepted, traced_by, trace_lent, run_lent, trace_of, run_of}
+use Rattle.meaning.specs.Store.{store_fits, store_of, store_left}
+use Rattle.meaning.specs.Calls.{place_of, Ran, accepted, traced_by}
 use Rattle.laws.specs.StoreLaws.{extend, Grows, run-grows}
 use Rattle.layout.specs.StateWords.{buffers_in, state_in}
 use Rattle.layout.specs.declared.Plan.{Plan}
@@ -29,7 +28,7 @@ use Rattle.call_accept.proofs.TakenLaws.{place-settled, by-refused, by-accepted}
 use Rattle.call_store.specs.Lending.{lent_if}
 use Rattle.call_store.proofs.AdmitLaws.{Unfit, ill, misfit}
 use Rattle.call_run.specs.declared.RunDone.{RunDone}
-use Rattle.call_run.specs.Answers.{RunMet, ran_back, with_store, ran_into}
+use Rattle.call_run.specs.Answers.{RunMet, with_store, ran_into}
 
 abbrev done : ℕ → ℕ → State → ℕ → RunDone
 done number at s made = record { number = number; position = at; state = s; made = made }

@@ -1,6 +1,8 @@
 -- What a run answers, and what is promised of it.
-use Rattle.std.specs.Prelude.{ℕ, Bool, List}
+use Rattle.std.specs.Prelude.{ℕ, Bool, List, Result, Ok, Err}
 use Rattle.meaning.specs.declared.State.{State}
+use Rattle.meaning.specs.declared.reasons.Refusal.{Refusal}
+use Rattle.meaning.specs.Reasons.{number_of}
 use Rattle.meaning.specs.Model.{Model}
 use Rattle.meaning.specs.Read.{Read}
 use Rattle.meaning.specs.Run.{Going, Run}
@@ -13,6 +15,11 @@ use Rattle.call_run.specs.declared.RunDone.{RunDone}
 -- the answer, with the table as it is left
 abbrev pub ran_back : RunDone → List ℕ → Ran
 ran_back r table = record { number = r.number; position = r.position; state = r.state; table = table; made = r.made }
+
+-- a run that was made, or the answer of a refused one: "count 0, the state as handed in"
+abbrev pub answered : State → Result RunDone Refusal → RunDone
+answered s (Ok done) = done
+answered s (Err refusal) = record { number = number_of refusal.reason; position = refusal.at; state = s; made = 0 }
 
 -- and with the words of the store
 abbrev pub with_store : RunDone → List ℕ → List ℕ → WithStore Ran

@@ -13,14 +13,13 @@ ghost use Rattle.match_beds.specs.Beds.{Roomy, Cleared};
 ghost use Rattle.step_note.specs.Events.{inscribed};
 ghost use Rattle.step_learn.specs.Knows.{Knows};
 ghost use Rattle.step_run.specs.Went.{WentMet};
-ghost use Rattle.call_run.specs.Answers.{RunMet, ran_back, with_store};
+ghost use Rattle.call_run.specs.Answers.{RunMet, answered, ran_back, with_store};
 
 use call_accept::Taken;
 use call_store::Asked;
 use layout::{LARGE_TAPE, MIDDLE_TAPE, Plan, PlanRead, SMALL_TAPE, STATE_WORDS, STORE_TAPE};
 use match_beds::{LARGE_SETS, SMALL_SETS};
-use meaning::State;
-use meaning::numbers::ALL_DONE;
+use meaning::{Refusal, State};
 use step_run::Went;
 
 /// What run answers: the number, the position of the refused field if there is one, else 0, the state, and the steps made.
@@ -73,6 +72,16 @@ fn set_out(
     step_run::advance(state, clock, table, plan, tape, steps, events, sets)
 }
 
+// A run that was made, or a refusal as the answer of one: the state as it was handed in, and no step made.
+fn answered(ran: Result<RunDone, Refusal>, state: State) -> RunDone
+    ensures { result ≡ answered state ran }
+{
+    match ran {
+        Ok(done) => done,
+        Err(refusal) => no_run(refusal.reason.number(), refusal.at, state),
+    }
+}
+
 // What is left to refuse once the image and the table's length are accepted, and the run.
 fn run_for(
     table: &mut [u16],
@@ -82,19 +91,15 @@ fn run_for(
     events: &mut [u32],
     sets: &mut [u64],
     store: &mut [u16],
-) -> RunDone
+) -> Result<RunDone, Refusal>
     requires { Planned plan tape.old × (length table.old ≡ 9 * plan.rules) × Roomy plan.rules sets.old × Cleared sets.old
         × (plan.places ≡ places_for plan.facts plan.learns) × (plan.learns ≡ asked.lent) }
-    ensures { RunMet result (read_got (model_on plan tape.old) 0) asked.state table.old table.new asked.steps events.old events.new
+    ensures { RunMet (answered asked.state result) (read_got (model_on plan tape.old) 0) asked.state table.old table.new asked.steps events.old events.new
         asked.lent store.old store.new }
 {
     let state = asked.state;
     let mut now = [0u16; STATE_WORDS];
-    let admitted = call_store::admit(state, &mut now, store, plan, tape);
-    if admitted.number != ALL_DONE {
-        return no_run(admitted.number, 0, state);
-    }
-    let known = admitted.plan;
+    let known = call_store::admit(state, &mut now, store, plan, tape)?;
     let steps = asked.steps;
     let went = set_out(
         &mut now,
@@ -107,13 +112,12 @@ fn run_for(
         sets,
     );
     call_store::give_back(store, plan, went.plan, tape);
-    let after = layout_state::read_state(&now, went.clock);
-    RunDone {
+    Ok(RunDone {
         number: went.number,
         position: 0,
-        state: after,
+        state: layout_state::read_state(&now, went.clock),
         made: went.made,
-    }
+    })
 }
 
 // Running, with the tape to lay the image out on and the sets to keep its rules in.
@@ -141,7 +145,10 @@ fn run_on(
         return no_run(number, at, state);
     }
     let plan = begun.plan;
-    run_for(table, plan, tape, asked, events, sets, store)
+    answered(
+        run_for(table, plan, tape, asked, events, sets, store),
+        state,
+    )
 }
 
 // Running on a tape and with sets of these sizes. It is a function of its own, and never set into its caller, so that the stack holds one tape at a time.

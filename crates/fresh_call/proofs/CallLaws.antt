@@ -5,15 +5,13 @@ use mathlib.Core.Bool.{Bool, true}
 use mathlib.Core.List.{List}
 use mathlib.Core.Option.{Option, none}
 use Rattle.meaning.specs.declared.State.{State}
-use Rattle.meaning.specs.Base.{bit}
 use Rattle.meaning.specs.Model.{Model, Chunk}
 use Rattle.meaning.specs.State.{well_formed}
 use Rattle.meaning.specs.Read.{Read, read_refused, read_got}
 use Rattle.meaning.specs.Image.{decode}
 use Rattle.meaning.specs.Run.{ends}
-use Rattle.meaning.specs.Store.{lent_by, store_fits, store_of, store_left}
-use Rattle.meaning.specs.Calls.{WithStore}
-use Rattle.meaning.specs.Fresh.{moving, FreshRan, fresh_from, fresh_trace_lent, fresh_lent, fresh_trace_of, fresh_of}
+use Rattle.meaning.specs.Store.{store_fits, store_of, store_left}
+use Rattle.meaning.specs.Fresh.{moving, FreshRan, fresh_from}
 use Rattle.laws.specs.StoreLaws.{extend, Grows, fresh-grows}
 use Rattle.layout.specs.declared.Walk.{Walk}
 use Rattle.layout.specs.declared.Walk.TheVariants.{Next, Bad}
@@ -30,7 +28,7 @@ use Rattle.fresh_run.specs.Went.{WentMet}
 use Rattle.call_store.specs.Lending.{lent_if}
 use Rattle.call_store.proofs.AdmitLaws.{Unfit, ill, misfit}
 use Rattle.fresh_call.specs.declared.FreshDone.{FreshDone}
-use Rattle.fresh_call.specs.Answers.{FreshMet, fresh_back, with_store, fresh_into}
+use Rattle.fresh_call.specs.Answers.{FreshMet, with_store, fresh_into}
 
 abbrev done : ℕ → ℕ → State → ℕ → FreshDone
 done number at s made = record { number = number; position = at; state = s; made = made }

@@ -1,6 +1,8 @@
 -- What a run with nothing kept answers, and what is promised of it.
-use Rattle.std.specs.Prelude.{ℕ, Bool, List}
+use Rattle.std.specs.Prelude.{ℕ, Bool, List, Result, Ok, Err}
 use Rattle.meaning.specs.declared.State.{State}
+use Rattle.meaning.specs.declared.reasons.Refusal.{Refusal}
+use Rattle.meaning.specs.Reasons.{number_of}
 use Rattle.meaning.specs.Model.{Model}
 use Rattle.meaning.specs.Read.{Read}
 use Rattle.meaning.specs.Run.{Run}
@@ -14,6 +16,11 @@ use Rattle.fresh_call.specs.declared.FreshDone.{FreshDone}
 -- the answer, as the definition has it
 abbrev pub fresh_back : FreshDone → FreshRan
 fresh_back r = record { number = r.number; position = r.position; state = r.state; made = r.made }
+
+-- a run that was made, or the answer of a refused one: "count 0, the state as handed in"
+abbrev pub answered : State → Result FreshDone Refusal → FreshDone
+answered s (Ok done) = done
+answered s (Err refusal) = record { number = number_of refusal.reason; position = refusal.at; state = s; made = 0 }
 
 -- and with the words of the store
 abbrev pub with_store : FreshDone → List ℕ → WithStore FreshRan

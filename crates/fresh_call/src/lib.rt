@@ -13,13 +13,12 @@ ghost use Rattle.read_image.specs.Whole.{Begun, Learning};
 ghost use Rattle.step_note.specs.Events.{inscribed};
 ghost use Rattle.step_learn.specs.Knows.{Knows};
 ghost use Rattle.fresh_run.specs.Went.{WentMet};
-ghost use Rattle.fresh_call.specs.Answers.{FreshMet, fresh_back, with_store};
+ghost use Rattle.fresh_call.specs.Answers.{FreshMet, answered, fresh_back, with_store};
 
 use call_store::Asked;
 use fresh_run::Went;
 use layout::{LARGE_TAPE, MIDDLE_TAPE, Plan, PlanRead, SMALL_TAPE, STATE_WORDS, STORE_TAPE, Walk};
-use meaning::State;
-use meaning::numbers::ALL_DONE;
+use meaning::{Refusal, State};
 
 /// What a run with nothing kept answers: the number, the position of the refused field if there is one, else 0, the state, and the steps made.
 #[derive(Clone, Copy, Debug, PartialEq, Eq)]
@@ -60,6 +59,16 @@ fn set_out(
     fresh_run::advance(state, clock, plan, tape, steps, events)
 }
 
+// A run that was made, or a refusal as the answer of one: the state as it was handed in, and no step made.
+fn answered(ran: Result<FreshDone, Refusal>, state: State) -> FreshDone
+    ensures { result ≡ answered state ran }
+{
+    match ran {
+        Ok(done) => done,
+        Err(refusal) => no_run(refusal.reason.number(), refusal.at, state),
+    }
+}
+
 // What is left to refuse once the image is accepted, and the run.
 fn run_for(
     plan: Plan,
@@ -67,27 +76,22 @@ fn run_for(
     asked: Asked,
     events: &mut [u32],
     store: &mut [u16],
-) -> FreshDone
+) -> Result<FreshDone, Refusal>
     requires { Planned plan tape.old × (plan.places ≡ places_for plan.facts plan.learns) × (plan.learns ≡ asked.lent) }
-    ensures { FreshMet result (read_got (model_on plan tape.old) 0) asked.state asked.steps events.old events.new
+    ensures { FreshMet (answered asked.state result) (read_got (model_on plan tape.old) 0) asked.state asked.steps events.old events.new
         asked.lent store.old store.new }
 {
     let state = asked.state;
     let mut now = [0u16; STATE_WORDS];
-    let admitted = call_store::admit(state, &mut now, store, plan, tape);
-    if admitted.number != ALL_DONE {
-        return no_run(admitted.number, 0, state);
-    }
-    let known = admitted.plan;
+    let known = call_store::admit(state, &mut now, store, plan, tape)?;
     let went = set_out(&mut now, state.clock, known, tape, asked.steps, events);
     call_store::give_back(store, plan, went.plan, tape);
-    let after = layout_state::read_state(&now, went.clock);
-    FreshDone {
+    Ok(FreshDone {
         number: went.number,
         position: 0,
-        state: after,
+        state: layout_state::read_state(&now, went.clock),
         made: went.made,
-    }
+    })
 }
 
 // Running, with the tape to lay the image out on.
@@ -110,7 +114,7 @@ fn run_on(
         return no_run(number, at, state);
     }
     let plan = begun.plan;
-    run_for(plan, tape, asked, events, store)
+    answered(run_for(plan, tape, asked, events, store), state)
 }
 
 // Running on a tape of this size. It is a function of its own, and never set into its caller, so that the stack holds one tape at a time.

@@ -1,12 +1,10 @@
 -- `call_run::run_on` meets its contract: refused with nothing done, or what is left to refuse, and the run.
 use Prim.Native.Nat.{ℕ}
-use mathlib.Core.Path.{◌≡◌, ap}
+use mathlib.Core.Path.{ap}
 use mathlib.Core.List.{List}
 use Rattle.layout.specs.declared.Plan.{Plan}
-use Rattle.layout.specs.declared.Walk.TheVariants.{Next}
 use Rattle.call_accept.proofs.TakenLaws.{taken_next}
-use Rattle.call_run.proofs.RunLaws.{run-refused, run-accepted}
-use borrow.Author.Rules.{rules}
+use Rattle.call_run.proofs.RunLaws.{run-refused}
 use Rattle.call_run.proofs.run_on.Goals as goal
 use Rattle.call_run.proofs.run_on.Goals.{After-accept-taken}
 

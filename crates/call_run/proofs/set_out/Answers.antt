@@ -1,13 +1,8 @@
 -- `call_run::set_out` meets its contract: what a run keeps besides the model is laid out, and the model that stands on the tape runs.
-use Prim.Native.Nat.{ℕ, ◌≤◌, ◌+◌, ◌*◌}
-use mathlib.Core.Path.{◌≡◌, refl, sym, ap, ◌∙◌}
+use Prim.Native.Nat.{ℕ}
 use mathlib.Core.List.{List}
-use native.Mathlib.Omega.{arith}
-use lib.ListN.{length}
 use Rattle.laws.specs.PartLaws.{to_end}
 use Rattle.layout.specs.Plans.{rows_on}
-use Rattle.layout.proofs.PlanLaws.{Sections, sections}
-use borrow.Author.Rules.{rules}
 use Rattle.call_run.proofs.set_out.Goals as goal
 use Rattle.call_run.proofs.set_out.Goals.{After-lay_aids}
 

@@ -1,6 +1,7 @@
 -- `fresh_call::run_for` meets its contract: state and store are judged, and then the model that stands on the tape runs.
-use Prim.Native.Nat.{ℕ, ◌≤◌, ◌*◌}
-use mathlib.Core.Path.{◌≡◌, ◌∙◌}
+use Rattle.std.specs.Prelude.{Err}
+use Prim.Native.Nat.{ℕ, ◌*◌}
+use mathlib.Core.Path.{◌≡◌, refl, ap, ◌∙◌}
 use mathlib.Core.Bool.{true}
 use mathlib.Core.List.{List}
 use lib.ListN.{length, drop}
@@ -14,14 +15,15 @@ use Rattle.layout.proofs.RowLaws.{rows-length}
 use Rattle.fresh_run.specs.Went.{WentMet}
 use Rattle.call_store.specs.Lending.{lent_if}
 use Rattle.call_store.proofs.LendLaws.{backing, given_back}
-use Rattle.call_store.proofs.AdmitLaws.{taken-by, refused-by}
+use Rattle.call_store.proofs.AdmitLaws.{taken-by, no-zero, refused-by}
 use Rattle.fresh_call.proofs.CallLaws.{lent_same, left-known, fresh-unfit, fresh-went}
+use Rattle.fresh_call.specs.Answers.{answered}
 use borrow.Author.Rules.{rules}
 use Rattle.fresh_call.proofs.run_for.Goals as goal
-use Rattle.fresh_call.proofs.run_for.Goals.{After-admit-admitted, After-set_out-went, Else-admitted-ne-ALL_DONE, Start}
+use Rattle.fresh_call.proofs.run_for.Goals.{After-admit, After-set_out-went, In_ok-known, Start}
 
-abbrev words : (c : After-admit-admitted) → List ℕ
-words c = c.admit-admitted.new.words
+abbrev words : (c : After-admit) → List ℕ
+words c = c.admit.new.words
 
 abbrev model : (c : Start) → Model
 model c = model_on c.args.plan c.args.tape.now
@@ -32,32 +34,34 @@ unfolding model_on
 own c = rows-length (λ k. fact_in (drop 152 c.args.tape.now) (11 * k)) 0 c.args.plan.facts
 
 -- the state is well formed, and the store fits
-fits : (c : Else-admitted-ne-ALL_DONE) → (well_formed (model (goal.at.Else-admitted-ne-ALL_DONE c).Start) c.args.asked.state ≡ true) × (store_fits (model (goal.at.Else-admitted-ne-ALL_DONE c).Start).types (lent_if c.args.plan.learns c.args.store.now) ≡ true)
-fits c = taken-by _ _ _ c.admit-admitted.ensures.judged c.if-admitted-ne-ALL_DONE.false
+fits : (c : In_ok-known) → (well_formed (model (goal.at.In_ok-known c).Start) c.args.asked.state ≡ true) × (store_fits (model (goal.at.In_ok-known c).Start).types (lent_if c.args.plan.learns c.args.store.now) ≡ true)
+fits c = taken-by _ _ _ c.in_ok-known.ensures.judged refl
 
 -- the run that was made
-went : (c : After-set_out-went) → let a = c.args in WentMet c.set_out-went.result (model (goal.at.After-set_out-went c).Start) (store_of (lent_if a.plan.learns a.store.now)) (words (goal.at.After-set_out-went c).After-admit-admitted) c.set_out-went.new.state a.asked.state.clock a.asked.steps a.events.now c.set_out-went.new.events c.set_out-went.new.tape
+went : (c : After-set_out-went) → let a = c.args in WentMet c.set_out-went.result (model (goal.at.After-set_out-went c).Start) (store_of (lent_if a.plan.learns a.store.now)) (words (goal.at.After-set_out-went c).After-admit) c.set_out-went.new.state a.asked.state.clock a.asked.steps a.events.now c.set_out-went.new.events c.set_out-went.new.tape
 went c =
-    c.set_out-went.ensures.went_met (model (goal.at.After-set_out-went c).Start) _ (c.admit-admitted.ensures.knows c.if-admitted-ne-ALL_DONE.false)
+    c.set_out-went.ensures.went_met (model (goal.at.After-set_out-went c).Start) _ c.in_ok-known.ensures.knows
 
-pub returns-then-admitted-ne-ALL_DONE : goal.returns-then-admitted-ne-ALL_DONE
-returns-then-admitted-ne-ALL_DONE c =
+pub returns-in_err-known : goal.returns-in_err-known
+returns-in_err-known c =
     let a = c.args in
-    let unfit = refused-by (model (goal.at.returns-then-admitted-ne-ALL_DONE c).Start) a.asked.state _ c.admit-admitted.ensures.judged c.if-admitted-ne-ALL_DONE.true in
-    let met = fresh-unfit a.asked.state a.asked.steps (model (goal.at.returns-then-admitted-ne-ALL_DONE c).Start) (words (goal.at.returns-then-admitted-ne-ALL_DONE c).After-admit-admitted) c.admit-admitted.ensures.stands a.plan.learns a.store.now _ unfit c.no_run.result
-    c.no_run.ensures a.events.now in
-    lent_same _ (read_got (model (goal.at.returns-then-admitted-ne-ALL_DONE c).Start) 0) a.asked.state a.asked.steps a.events.now _ a.store.now _ a.plan.learns a.asked.lent c.requires.2 met
+    let m = model (goal.at.returns-in_err-known c).Start in
+    let why = c.in_err-known.field-0.0 in
+    let is : c.from_residual.result ≡ Err (record { reason = why; at = 0 }) = search rules in
+    let unfit = refused-by m a.asked.state _ c.in_err-known.ensures.judged (no-zero why) in
+    let met = fresh-unfit a.asked.state a.asked.steps m (words (goal.at.returns-in_err-known c).After-admit) c.in_err-known.ensures.stands a.plan.learns a.store.now _ unfit _ (ap (answered a.asked.state) is) a.events.now in
+    lent_same _ (read_got m 0) a.asked.state a.asked.steps a.events.now _ a.store.now _ a.plan.learns a.asked.lent c.requires.2 met
 
 pub give_back-requires : goal.give_back-requires
 give_back-requires c =
     let a = c.args in
-    (c.set_out-went.ensures.planned, backing a.plan c.set_out-went.result.plan _ a.store.now (model (goal.at.give_back-requires c).Start) c.set_out-went.ensures.planned (own (goal.at.give_back-requires c).Start) (fits (goal.at.give_back-requires c).Else-admitted-ne-ALL_DONE).1 _ (left-known _ (model (goal.at.give_back-requires c).Start) _ _ _ _ _ _ _ _ (went (goal.at.give_back-requires c).After-set_out-went)))
+    (c.set_out-went.ensures.planned, backing a.plan c.set_out-went.result.plan _ a.store.now (model (goal.at.give_back-requires c).Start) c.set_out-went.ensures.planned (own (goal.at.give_back-requires c).Start) (fits (goal.at.give_back-requires c).In_ok-known).1 _ (left-known _ (model (goal.at.give_back-requires c).Start) _ _ _ _ _ _ _ _ (went (goal.at.give_back-requires c).After-set_out-went)))
 
 pub returns : goal.returns
 returns c =
     let a = c.args in
     let met = went (goal.at.returns c).After-set_out-went in
-    let left = given_back a.plan c.set_out-went.result.plan _ a.store.now (model (goal.at.returns c).Start) c.set_out-went.ensures.planned (own (goal.at.returns c).Start) (fits (goal.at.returns c).Else-admitted-ne-ALL_DONE).1 _ (left-known _ (model (goal.at.returns c).Start) _ _ _ _ _ _ _ _ met) in
-    let ran = fresh-went a.asked.state a.asked.steps (model (goal.at.returns c).Start) (words (goal.at.returns c).After-admit-admitted) c.admit-admitted.ensures.stands a.plan.learns a.store.now (fits (goal.at.returns c).Else-admitted-ne-ALL_DONE).0 (fits (goal.at.returns c).Else-admitted-ne-ALL_DONE).1 c.set_out-went.result
-    c.read_state-after.result c.set_out-went.new.state a.events.now _ _ _ c.read_state-after.ensures met (c.give_back.ensures ∙ left) in
+    let left = given_back a.plan c.set_out-went.result.plan _ a.store.now (model (goal.at.returns c).Start) c.set_out-went.ensures.planned (own (goal.at.returns c).Start) (fits (goal.at.returns c).In_ok-known).1 _ (left-known _ (model (goal.at.returns c).Start) _ _ _ _ _ _ _ _ met) in
+    let ran = fresh-went a.asked.state a.asked.steps (model (goal.at.returns c).Start) (words (goal.at.returns c).After-admit) c.in_ok-known.ensures.stands a.plan.learns a.store.now (fits (goal.at.returns c).In_ok-known).0 (fits (goal.at.returns c).In_ok-known).1 c.set_out-went.result
+    c.read_state.result c.set_out-went.new.state a.events.now _ _ _ c.read_state.ensures met (c.give_back.ensures ∙ left) in
     lent_same _ (read_got (model (goal.at.returns c).Start) 0) a.asked.state a.asked.steps a.events.now _ a.store.now _ a.plan.learns a.asked.lent c.requires.2 ran

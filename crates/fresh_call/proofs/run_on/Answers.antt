@@ -1,12 +1,10 @@
 -- `fresh_call::run_on` meets its contract: refused with nothing done, or what is left to refuse, and the run.
 use Prim.Native.Nat.{ℕ}
-use mathlib.Core.Path.{◌≡◌, ap}
+use mathlib.Core.Path.{ap}
 use mathlib.Core.List.{List}
 use Rattle.layout.specs.declared.Plan.{Plan}
-use Rattle.layout.specs.declared.Walk.TheVariants.{Next}
 use Rattle.read_image.proofs.WholeLaws.{laid_next}
-use Rattle.fresh_call.proofs.CallLaws.{fresh-refused, fresh-accepted}
-use borrow.Author.Rules.{rules}
+use Rattle.fresh_call.proofs.CallLaws.{fresh-refused}
 use Rattle.fresh_call.proofs.run_on.Goals as goal
 use Rattle.fresh_call.proofs.run_on.Goals.{After-lay_out-walk}
 

@@ -1,7 +1,6 @@
 -- `fresh_call::set_out` meets its contract: the chains are laid, and the model that stands on the tape runs.
 use mathlib.Core.Path.{◌∙◌}
 use Rattle.step_chains.proofs.ChainLaws.{planned-chained, model-chained}
-use borrow.Author.Rules.{rules}
 use Rattle.fresh_call.proofs.set_out.Goals as goal
 
 pub advance-requires : goal.advance-requires
