@@ -8,7 +8,7 @@ use lib.ListN.{get_or}
 use lib.Bits.{bit_and, bit_or, and_mask}
 use lib.Pow.{pow_mono}
 use lib.Dec.{eqb}
-use borrow.Author.Tests.{lt-ltb, le-ltb}
+use borrow.Author.Tests.{le-ltb}
 use Rattle.meaning.specs.Base.{every, any_of, up_from, bit}
 use Rattle.meaning.specs.Image.{is_variable, names, stands_in, is_tested}
 use Rattle.laws.specs.BaseLaws.{bit-zero}
@@ -35,9 +35,6 @@ module _ (mask k : ℕ) (h : k < 8) where
 -- ---- a term
 
 module _ (mask t : ℕ) where
-  pub with_symbol : t < 4096 → Holds (λ v. bit mask v || is_variable v (word_term t)) mask
-  with_symbol h v = rw (lt-ltb t 4096 h) (sym (or-false (bit mask v)))
-
   pub with_variable : 4096 ≤ t → Holds (λ v. bit mask v || is_variable v (word_term t)) (bit_or mask (1 * 2 ^ (t % 8) % 65536))
   with_variable h v = rw (le-ltb t 4096 h) (one_more mask (t % 8) (omega arith) v)
 
