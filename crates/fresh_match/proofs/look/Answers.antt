@@ -25,19 +25,19 @@ pub returns-then-state-k-ne0 : goal.returns-then-state-k-ne0
 returns-then-state-k-ne0 c =
     let l = c.loop-i in
     let a = c.args in
-    λ r clock is. delay-shuts a.words.now a.o a.n l.i _ refl c.loop-i-test.true r is a.state.now clock c.if-state-k-ne0.true
+    λ r clock is. delay-shuts a.words.now a.o a.n l.i _ refl (omega (arith, c.loop-i-test.true)) r is a.state.now clock c.if-state-k-ne0.true
 
 pub returns-then-state-k : goal.returns-then-state-k
 returns-then-state-k c =
     let l = c.loop-i in
     let a = c.args in
-    λ r clock is. type-shuts a.words.now a.o a.n l.i _ refl c.loop-i-test.true r is a.state.now clock c.if-state-k.true
+    λ r clock is. type-shuts a.words.now a.o a.n l.i _ refl (omega (arith, c.loop-i-test.true)) r is a.state.now clock c.if-state-k.true
 
 pub loop-b-init : goal.loop-b-init
 loop-b-init c =
     let l = c.loop-i in
     let a = c.args in
-    flat_on a.words.now a.state.now a.o a.n l.i _ no_vars refl c.loop-i-test.true c.if-state-k-ne0.false c.if-state-k.false ∙ l.invariant
+    flat_on a.words.now a.state.now a.o a.n l.i _ no_vars refl (omega (arith, c.loop-i-test.true)) c.if-state-k-ne0.false c.if-state-k.false ∙ l.invariant
 
 pub returns-then-state-k-2 : goal.returns-then-state-k-2
 returns-then-state-k-2 c =
@@ -47,7 +47,7 @@ returns-then-state-k-2 c =
     let low : m.b < 8 = c.loop-b-test.true in
     let on = slot_on (get_or a.words.now (a.o + 11 * l.i + 2) 0) m.b low c.if-left-ge128.true in
     λ r clock is.
-    symbol-shuts a.words.now a.o a.n l.i _ refl c.loop-i-test.true r is m.b low on
+    symbol-shuts a.words.now a.o a.n l.i _ refl (omega (arith, c.loop-i-test.true)) r is m.b low on
     (omega (arith, c.if-term-ge4096.false)) a.state.now clock c.if-state-k-2.true
 
 pub loop-b-preserved : goal.loop-b-preserved

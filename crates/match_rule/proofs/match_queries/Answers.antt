@@ -21,7 +21,7 @@ holds : (c : After-ask-tried) → is_hit c.ask-tried.result ≡ answered (ask_of
 holds c = ap is_hit c.ask-tried.ensures ∙ asked-hit (ask_of (query c / 8)) c.args.state.now (query c % 8)
 
 more : (c : After-ask-tried) → let a = c.args in c.loop-i.i < get_or a.words.now (a.o + 88) 0
-more c = c.loop-i-test.true
+more c = omega (arith, c.loop-i-test.true)
 
 pub loop-i-preserved : goal.loop-i-preserved
 loop-i-preserved c =
