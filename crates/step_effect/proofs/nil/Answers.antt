@@ -1,5 +1,4 @@
 -- `step_effect::nil` meets its contract: nil is type 0 with eight zeros.
-use borrow.Author.Rules.{rules}
 use Rattle.layout.specs.Rows.{rows_in}
 use Rattle.step_effect.proofs.nil.Goals as goal
 
