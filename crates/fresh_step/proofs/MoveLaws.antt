@@ -1,7 +1,7 @@
 -- A step with nothing kept is the step of both engines, less its mark.
 use Rattle.std.specs.Prelude.{if◌then◌else◌}
 use Prim.Native.Nat.{ℕ, zero, suc, ◌+◌, ◌≤◌, ◌<◌}
-use mathlib.Core.Path.{◌≡◌, refl, sym, ap, ◌∙◌}
+use mathlib.Core.Path.{◌≡◌, refl, ap, ◌∙◌}
 use mathlib.Core.Bool.{Bool, true, false}
 use mathlib.Core.List.{List, []}
 use native.Mathlib.Omega.{arith}
@@ -12,7 +12,7 @@ use Rattle.std.specs.Prelude.{Option, None, Some, Result, Ok, Err, IfOk}
 use Rattle.meaning.specs.declared.State.{State}
 use Rattle.meaning.specs.declared.reasons.Reason.{Reason}
 use Rattle.meaning.specs.Numbers as numbers
-use Rattle.meaning.specs.Model.{Rule, Chunk, Fact}
+use Rattle.meaning.specs.Model.{Rule, Chunk}
 use Rattle.meaning.specs.Choice.{utilities}
 use Rattle.meaning.specs.Fire.{fire}
 use Rattle.meaning.specs.Wait.{soonest, wait}

@@ -17,7 +17,7 @@ use Rattle.meaning.specs.Reasons.{number_of}
 use Rattle.meaning.specs.Model.{Rule, Chunk, Fact}
 use Rattle.meaning.specs.Learning.{learned}
 use Rattle.meaning.specs.Fire.{fire}
-use Rattle.meaning.specs.Wait.{soonest, wait}
+use Rattle.meaning.specs.Wait.{wait}
 use Rattle.meaning.specs.Mark.{mark_of}
 use Rattle.meaning.specs.Step as meaning
 use Rattle.layout.specs.declared.Plan.{Plan}
