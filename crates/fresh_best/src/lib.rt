@@ -10,10 +10,15 @@ ghost use Rattle.match_best.specs.Chosen.{Below};
 ghost use Rattle.fresh_best.specs.Matched.{matched_of, Entered};
 
 use layout::{ENTRY_WORDS, HEAD_WORDS, RULE_WORDS};
-use match_best::Chosen;
 
 // Of n rules, each matched afresh, the one that is chosen; its entry goes to nine lent words.
-pub fn best(heads: &[u16], words: &[u16], n: usize, state: &[u16], nine: &mut [u16]) -> Chosen
+pub fn best(
+    heads: &[u16],
+    words: &[u16],
+    n: usize,
+    state: &[u16],
+    nine: &mut [u16],
+) -> Option<usize>
     requires { Laid heads.now words.now n × (88 ≤ length state.now) × (length nine.old ≡ 9) }
     ensures by_index { (clock : ℕ) → choose_fresh (rules_in heads.now words.now n)
         (utilities (rules_in heads.now words.now n)) (state_in state.now clock)
@@ -22,7 +27,7 @@ pub fn best(heads: &[u16], words: &[u16], n: usize, state: &[u16], nine: &mut [u
     ensures below { Below result n }
 {
     let mut trial = [0u16; ENTRY_WORDS];
-    let mut best = Chosen::NoRule;
+    let mut best = None;
     let mut top = 0u32;
     let mut k = 0;
     while k < n {
@@ -31,7 +36,7 @@ pub fn best(heads: &[u16], words: &[u16], n: usize, state: &[u16], nine: &mut [u
             let height = match_best::key(heads[HEAD_WORDS * k + 2]);
             if top < height {
                 layout::copy_into(nine, 0, &trial);
-                best = Chosen::Rule(k);
+                best = Some(k);
                 top = height;
             }
         }

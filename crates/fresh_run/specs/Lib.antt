@@ -1,2 +1,3 @@
--- What a run with nothing kept answers.
+-- What a run with nothing kept answers, and a law of it.
+pub mod Turns
 pub mod Went

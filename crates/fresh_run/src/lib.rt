@@ -4,26 +4,54 @@
 ghost use Rattle.std.specs.Prelude.{◌≤◌, List, length};
 ghost use Rattle.std.proofs.Math.Option.{Option};
 ghost use Rattle.meaning.specs.Model.{Model, Chunk};
+ghost use Rattle.meaning.specs.Fresh.{Moving, moving, fresh_from};
 ghost use Rattle.layout.specs.Plans.{Planned};
 ghost use Rattle.step_retrieve.specs.Chains.{ChainsOn};
 ghost use Rattle.step_learn.specs.Knows.{Knows};
+ghost use Rattle.fresh_run.specs.Turns.{run-done};
 ghost use Rattle.fresh_run.specs.Went.{WentMet};
 
 use layout::Plan;
-use meaning::numbers::ALL_DONE;
-use step_learn::NEWS_WORDS;
+use meaning::Reason;
+use running::Engine;
+pub use running::Went;
+use step_made::Made;
 
-// How a run went: the number, the clock after it, the steps made, and the plan that knows of what was learned.
-#[derive(Clone, Copy)]
-pub struct Went {
-    pub number: u8,
-    pub clock: u32,
-    pub made: u16,
-    pub plan: Plan,
+/// The engine without a table: it keeps nothing between two steps.
+#[derive(Drop)]
+pub struct Fresh;
+
+impl Engine for Fresh {
+    ghost Left = { Moving };
+
+    ghost run = { fresh_from };
+
+    ghost left = { λ e s store. moving s store };
+
+    ghost ready = { λ e p tape state. Unit {0} };
+
+    ghost Lent = { Unit {0} };
+
+    ghost lent = { λ e. tt };
+
+    fn turn(
+        &mut self,
+        state: &mut [u16],
+        clock: u32,
+        plan: Plan,
+        tape: &[u16],
+        news: &mut [u16],
+    ) -> Result<Made, Reason> {
+        fresh_step::step(state, clock, plan, tape, news)
+    }
+
+    ghost done = { run-done };
+
+    ghost grows = { λ e p p' tape tape' new state planned grown ready. tt };
 }
 
-// At most `steps` steps of the model that plan and tape mean, from a state in words with its clock; event k goes to three lent words, as long as there is room.
-// What a step adds to the store stands on the tape from then on, in rows after the facts that are known.
+/// At most `steps` steps of the model that plan and tape mean, from a state in words with its clock; event k goes to three lent words, as long as there is room.
+/// What a step adds to the store stands on the tape from then on, in rows after the facts that are known.
 pub fn advance(
     state: &mut [u16],
     clock: u32,
@@ -37,29 +65,6 @@ pub fn advance(
         → WentMet result m store state.old state.new clock steps events.old events.new tape.new }
     ensures planned { Planned result.plan tape.new }
 {
-    let mut now = clock;
-    let mut made = 0;
-    let mut known = plan;
-    let mut news = [0u16; NEWS_WORDS];
-    while made < steps {
-        let m = fresh_step::step(state, now, known, tape, &mut news);
-        if m.kind == 2 {
-            return Went {
-                number: (m.value % 256) as u8,
-                clock: now,
-                made: made,
-                plan: known,
-            };
-        }
-        now += m.elapsed as u32;
-        known = step_grow::grow(known, tape, &news, m.joined);
-        step_note::note(events, made, now, m.kind, m.value);
-        made += 1;
-    }
-    Went {
-        number: ALL_DONE,
-        clock: now,
-        made: made,
-        plan: known,
-    }
+    let mut fresh = Fresh;
+    running::advance(&mut fresh, state, clock, plan, tape, steps, events)
 }

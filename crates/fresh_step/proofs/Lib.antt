@@ -1,3 +1,2 @@
 -- Laws of a step with nothing kept.
-pub mod AddLaws
 pub mod MoveLaws

@@ -1,119 +1,114 @@
--- A step by its cases: what each answer of the code needs to be the step that the definitions give.
+-- A step with nothing kept is the step of both engines, less its mark.
 use Rattle.std.specs.Prelude.{if◌then◌else◌}
 use Prim.Native.Nat.{ℕ, zero, suc, ◌+◌, ◌≤◌, ◌<◌}
-use mathlib.Core.Path.{◌≡◌, refl, sym, ap}
+use mathlib.Core.Path.{◌≡◌, refl, sym, ap, ◌∙◌}
 use mathlib.Core.Bool.{Bool, true, false}
-use mathlib.Core.List.{List}
+use mathlib.Core.List.{List, []}
 use native.Mathlib.Omega.{arith}
-use borrow.Author.Tests.{le-leb, lt-leb}
-use lib.Dec.{leb}
+use borrow.Author.Tests.{le-ltb}
+use lib.Dec.{ltb, leb}
+use lib.ListN.{length}
+use Rattle.std.specs.Prelude.{Option, None, Some, Result, Ok, Err, IfOk}
 use Rattle.meaning.specs.declared.State.{State}
+use Rattle.meaning.specs.declared.reasons.Reason.{Reason}
 use Rattle.meaning.specs.Numbers as numbers
-use Rattle.meaning.specs.Model.{Rule, Fact}
+use Rattle.meaning.specs.Model.{Rule, Chunk, Fact}
 use Rattle.meaning.specs.Choice.{utilities}
 use Rattle.meaning.specs.Fire.{fire}
 use Rattle.meaning.specs.Wait.{soonest, wait}
-use Rattle.meaning.specs.Step.{event_fired, event_waited, largest}
+use Rattle.meaning.specs.Mark.{mark_of}
+use Rattle.meaning.specs.Step as meaning
 use Rattle.meaning.specs.Fresh.{Move, stays, moves, moves_to, wait_fresh, choose_fresh, move, move_of}
-use Rattle.layout.specs.Rows.{rule_in}
 use Rattle.layout.specs.declared.Plan.{Plan}
+use Rattle.layout.specs.Rows.{rule_in}
 use Rattle.layout.specs.StateWords.{buffers_in, state_in}
 use Rattle.layout.specs.Plans.{facts_on, heads_on, rows_on, rules_on, model_on}
-use Rattle.match_best.specs.declared.Chosen.{Chosen}
-use Rattle.match_best.specs.declared.Chosen.TheVariants as chosen
 use Rattle.match_best.specs.Chosen.{Below}
 use Rattle.step_learn.specs.Joins.{no_place}
 use Rattle.fresh_best.specs.Matched.{matched_of, Entered}
-use Rattle.fresh_step.specs.declared.Moved.{Moved}
-use Rattle.fresh_step.specs.Moves.{MoveMet, placed_move}
-use Rattle.fresh_step.proofs.AddLaws.{no_step, roomy}
+use Rattle.step_made.specs.declared.Made.{Made}
+use Rattle.step_made.specs.Made.{firing, placed, step_in, StepMet, Joins, Added, Waits}
+use Rattle.step_made.proofs.MadeLaws.{joins-added, joins-none}
+use Rattle.fresh_step.specs.Moves.{MoveMet, move_in, placed_move}
 
--- no step, by its number
-stayed : {m : Move} {w : List ℕ} {clock : ℕ} (number : ℕ) → number ≤ 255 → m ≡ stays number → MoveMet m (no_step number) w w clock
-stayed number small e = record { is_move = sym e; kept = λ _. refl; in_time = λ h. omega arith; known = omega arith; small = λ _. small }
+-- ---- a step without its mark
 
--- ---- a firing, of a plan that has places for what it adds, or not
+abbrev less : meaning.Step → Move
+less (meaning.step_stopped number) = stays number
+less (meaning.step_made e s' mark) = moves e s'
 
-module _ (p : Plan) (tape : List ℕ) (memory : List Fact) (k : ℕ) (r : Rule) (nine w : List ℕ) (clock : ℕ) where
-  abbrev fires : Move
-  fires = placed_move p tape (state_in w clock) (moves_to (event_fired k) (fire p.failure memory r nine (state_in w clock)))
+less-in : (r : Result Made Reason) (w : List ℕ) (clock : ℕ) → move_in r w clock ≡ less (step_in r w clock)
+less-in (Ok made) w clock = refl
+less-in (Err reason) w clock = refl
 
-  abbrev crowded : Bool
-  crowded = no_place p tape (state_in w clock) (event_fired k)
+less-past : (e : meaning.Event) (s' : State) (mark : ℕ) → less (meaning.unless_past e s' mark) ≡ moves_to e s'
+less-past e s' mark = elim (leb s'.clock meaning.largest) as (λ (b : Bool). less (if b then meaning.step_made e s' mark else meaning.step_stopped numbers.clock_full) ≡ (if b then moves e s' else stays numbers.clock_full)) [ true ↦ refl | false ↦ refl ]
 
-  pub full : (a : Moved) → a ≡ no_step 8 → largest < clock + 50 → MoveMet fires a w w clock
-  unfolding fire
-  full a e h = rw e (stayed numbers.clock_full (omega arith) (rw (lt-leb (clock + 50) largest h)))
+less-wait : (s : State) (ms : ℕ) → less (meaning.wait_step s ms) ≡ wait_fresh s ms
+less-wait s zero = refl
+less-wait s (suc n) = less-past (meaning.event_waited (suc n)) (wait (suc n) s) (mark_of [] s (wait (suc n) s))
 
-  pub no_room : (a : Moved) → a ≡ no_step 14 → clock + 50 ≤ largest → crowded ≡ true → MoveMet fires a w w clock
-  unfolding fire
-  no_room a e h room = rw e (stayed numbers.store_full (omega arith) (rw (le-leb (clock + 50) largest h, room)))
+module _ (p : Plan) (tape : List ℕ) (s : State) where
+  less-placed : (step : meaning.Step) → less (placed p tape s step) ≡ placed_move p tape s (less step)
+  less-placed (meaning.step_stopped number) = refl
+  less-placed (meaning.step_made e s' mark) = elim (no_place p tape s e) as (λ (b : Bool). less (if b then meaning.step_stopped numbers.store_full else (meaning.step_made e s' mark)) ≡ (if b then stays numbers.store_full else (moves e s'))) [ true ↦ refl | false ↦ refl ]
 
-  pub fired : clock + 50 ≤ largest → crowded ≡ false → (joined : ℕ) (w' : List ℕ) → state_in w' (clock + 50) ≡ fire p.failure memory r nine (state_in w clock)
-      → MoveMet fires (record { kind = 0; value = k; elapsed = 50; joined = joined }) w w' clock
-  fired h room joined w' s =
-      record {
-        is_move = rw (← s, le-leb (clock + 50) largest h, room);
-        kept = λ z. absurd (omega arith);
-        in_time = λ _. h;
-        known = omega arith;
-        small = λ z. absurd (omega arith);
-      }
-
--- ---- a wait
-
-wait-some : (ms : ℕ) → (ms ≡ 0 → ⊥) → (s : State) → wait_fresh s ms ≡ moves_to (event_waited ms) (wait ms s)
-wait-some zero some s = absurd (some refl)
-wait-some (suc n) some s = refl
-
-module _ (w : List ℕ) (clock ms : ℕ) {soonest : ℕ} (is : ms ≡ soonest) where
-  pub nothing-pending : (a : Moved) → ms ≡ 0 → a ≡ no_step 9 → MoveMet (wait_fresh (state_in w clock) soonest) a w w clock
-  nothing-pending a e z = rw z (stayed numbers.halted (omega arith) (rw (← is, e)))
-
-  module _ (some : ms ≡ 0 → ⊥) where
-    pub wait-full : (a : Moved) → largest < clock + ms → a ≡ no_step 8 → MoveMet (wait_fresh (state_in w clock) soonest) a w w clock
-    unfolding wait
-    wait-full a h z = rw z (stayed numbers.clock_full (omega arith) (rw (← is, wait-some ms some (state_in w clock), lt-leb (clock + ms) largest h)))
-
-    pub waited : clock + ms ≤ largest → (w' : List ℕ) → state_in w' (clock + ms) ≡ wait ms (state_in w clock)
-        → MoveMet (wait_fresh (state_in w clock) soonest) (record { kind = 1; value = ms; elapsed = ms; joined = 0 }) w w' clock
-    waited h w' s =
-        record {
-          is_move = rw (← is, wait-some ms some (state_in w clock), ← s, le-leb (clock + ms) largest h);
-          kept = λ z. absurd (omega arith);
-          in_time = λ _. h;
-          known = omega arith;
-          small = λ z. absurd (omega arith);
-        }
+-- what is met with the mark is met without it
+met : {step : meaning.Step} {m : Move} {r : Result Made Reason} {w w' : List ℕ} {clock : ℕ} → less step ≡ m → StepMet step r w w' clock → MoveMet m r w w' clock
+met {r = r} {w' = w'} {clock = clock} e s = record { is_move = less-in r w' clock ∙ ap less s.is_step ∙ e; kept = s.kept; in_time = s.clock_fits }
 
 -- ---- one of the two, by the choice
 
 -- a wait adds nothing, so it has its places
 module _ (p : Plan) (tape : List ℕ) (s : State) (fit : p.facts ≤ p.places) where
+  roomy : (ms : ℕ) → no_place p tape s (meaning.event_waited ms) ≡ false
+  roomy ms =
+      elim p.learns as (λ b. ltb p.places (p.facts + length (if◌then◌else◌ {A = List Chunk} b [] [])) ≡ false) [
+        | true ↦ le-ltb p.places (p.facts + 0) (omega arith)
+        | false ↦ le-ltb p.places (p.facts + 0) (omega arith)
+      ]
+
   -- in time, or not
-  past-or-not : (ms : ℕ) (s' : State) (b : Bool) → let move = if b then moves (event_waited ms) s' else stays numbers.clock_full in placed_move p tape s move ≡ move
-  past-or-not ms s' true = ap (λ (x : Bool). if x then stays numbers.store_full else (moves (event_waited ms) s')) (roomy p tape s fit ms)
+  past-or-not : (ms : ℕ) (s' : State) (b : Bool) → let move = if b then moves (meaning.event_waited ms) s' else stays numbers.clock_full in placed_move p tape s move ≡ move
+  past-or-not ms s' true = ap (λ (x : Bool). if x then stays numbers.store_full else (moves (meaning.event_waited ms) s')) (roomy ms)
   past-or-not ms s' false = refl
 
-  pub wait-placed : (ms : ℕ) → placed_move p tape s (wait_fresh s ms) ≡ wait_fresh s ms
+  wait-placed : (ms : ℕ) → placed_move p tape s (wait_fresh s ms) ≡ wait_fresh s ms
   wait-placed zero = refl
-  wait-placed (suc n) = past-or-not (suc n) (wait (suc n) s) (leb (wait (suc n) s).clock largest)
+  wait-placed (suc n) = past-or-not (suc n) (wait (suc n) s) (leb (wait (suc n) s).clock meaning.largest)
 
 -- the number of a rule that is chosen
-pub rule-below : {r : Chosen} {k n : ℕ} → r ≡ chosen.Rule k → Below r n → k < n
+pub rule-below : {r : Option ℕ} {k n : ℕ} → r ≡ Some k → Below r n → k < n
 rule-below e h = rw e at h
 
-module _ (p : Plan) (tape : List ℕ) {r : Chosen} {a : Moved} {w w' : List ℕ} {clock : ℕ}
-    (e : choose_fresh (rules_on p tape) (utilities (rules_on p tape)) (state_in w clock) ≡ matched_of (heads_on p tape) (rows_on p tape) (state_in w clock) r) where
-  pub step-fires : (k : ℕ) → r ≡ chosen.Rule k → (nine : List ℕ) → Entered (heads_on p tape) (rows_on p tape) w r nine
-      → MoveMet (placed_move p tape (state_in w clock) (moves_to (event_fired k) (fire p.failure (facts_on p tape) (rule_in (heads_on p tape) (rows_on p tape) k) nine (state_in w clock)))) a w w' clock
-      → MoveMet (placed_move p tape (state_in w clock) (move_of (model_on p tape) (state_in w clock))) a w w' clock
-  unfolding move model_on
-  step-fires k g nine entered s =
-      let entry = (rw g at entered) clock in
-      rw (e, g, ← entry) s
+module _ (p : Plan) (tape w : List ℕ) (clock : ℕ) where
+  abbrev s : State
+  s = state_in w clock
 
-  pub step_waits : p.facts ≤ p.places → r ≡ chosen.NoRule → MoveMet (wait_fresh (state_in w clock) (soonest 0 (buffers_in w))) a w w' clock
-      → MoveMet (placed_move p tape (state_in w clock) (move_of (model_on p tape) (state_in w clock))) a w w' clock
-  unfolding move model_on
-  step_waits fit g s = rw (e, g, wait-placed p tape (state_in w clock) fit (soonest 0 (buffers_in w))) s
+  abbrev rule : ℕ → Rule
+  rule k = rule_in (heads_on p tape) (rows_on p tape) k
+
+  module _ {r : Option ℕ} {a : Result Made Reason} {w' : List ℕ} (e : choose_fresh (rules_on p tape) (utilities (rules_on p tape)) s ≡ matched_of (heads_on p tape) (rows_on p tape) s r) where
+    pub step-fires : (k : ℕ) → r ≡ Some k → (nine : List ℕ) → Entered (heads_on p tape) (rows_on p tape) w r nine
+        → StepMet (placed p tape s (firing p.failure (facts_on p tape) s k (rule k) nine)) a w w' clock
+        → MoveMet (placed_move p tape s (move_of (model_on p tape) s)) a w w' clock
+    unfolding move model_on
+    step-fires k g nine entered m =
+        let entry = (rw g at entered) clock in
+        let s' : State = fire p.failure (facts_on p tape) (rule k) nine s in
+        let move = less-placed p tape s _ ∙ ap (placed_move p tape s) (less-past (meaning.event_fired k) s' (mark_of (rule k).actions s s')) in
+        rw (e, g, ← entry) (met move m)
+
+    pub step_waits : p.facts ≤ p.places → r ≡ None → StepMet (meaning.wait_step s (soonest 0 (buffers_in w))) a w w' clock
+        → MoveMet (placed_move p tape s (move_of (model_on p tape) s)) a w w' clock
+    unfolding move model_on
+    step_waits fit g m = let ms = soonest 0 (buffers_in w) in rw (e, g, wait-placed p tape s fit ms) (met (less-wait s ms) m)
+
+-- ---- what a step adds
+
+pub added-by : (r : Result Made Reason) (p : Plan) (tape w news : List ℕ) → p.facts ≤ p.places → Joins r p tape w news → IfOk r (λ made. Added made p tape w news)
+added-by (Ok made) p tape w news fit joins = joins-added made p tape w news fit joins
+added-by (Err reason) p tape w news fit joins = tt
+
+pub added-none : (r : Result Made Reason) (p : Plan) (tape w news : List ℕ) → p.facts ≤ p.places → IfOk r Waits → IfOk r (λ made. Added made p tape w news)
+added-none r p tape w news fit waits = added-by r p tape w news fit (joins-none r p tape w news waits)

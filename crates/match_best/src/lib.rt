@@ -4,14 +4,7 @@
 ghost use Rattle.std.specs.Prelude.{◌≡◌};
 ghost use Rattle.match_best.specs.Keys.{key_of};
 
-// The number of the rule that is chosen.
-#[derive(Clone, Copy)]
-pub enum Chosen {
-    Rule(usize),
-    NoRule,
-}
-
-// A number above 0 that rises as the utility does which the field stands for.
+/// A number above 0 that rises as the utility does which the field stands for.
 pub fn key(field: u16) -> u32
     ensures { result ≡ key_of field }
 {

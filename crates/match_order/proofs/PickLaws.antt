@@ -1,9 +1,12 @@
 -- The first place whose rule matches holds the rule that the definition chooses.
 use Prim.Native.Nat.{ℕ, ◌+◌, ◌-◌, ◌*◌, ◌/◌, ◌%◌, ◌≤◌, ◌<◌}
-use mathlib.Core.Path.{◌≡◌, refl, sym, ap, ◌∙◌}
-use mathlib.Core.Bool.{Bool, true, false, ◌||◌, ◌&&◌}
+use mathlib.Core.Path.{◌≡◌, sym, ap, ◌∙◌}
+use mathlib.Core.Bool.{true, false, ◌||◌, ◌&&◌}
 use mathlib.Core.List.{List}
-use mathlib.Core.Option.{Option}
+use mathlib.Core.Option as math
+use Rattle.std.specs.Prelude.{Some, None, take, drop, length}
+use lib.Seq.{get_or-take, get_or-drop}
+use Rattle.std.proofs.Common.{length-take}
 use native.Mathlib.Omega.{arith}
 use native.Mathlib.Decide.{ℕ_discrete}
 use lib.Dec.{eqb}
@@ -16,7 +19,6 @@ use Rattle.laws.specs.BaseLaws.{no_true}
 use Rattle.laws.specs.BaseLaws.{by-lt}
 use Rattle.match_sets.specs.Sets.{has, member}
 use Rattle.match_sets.proofs.SetLaws.{put_in, put-kept, put_other}
-use Rattle.match_best.specs.declared.Chosen.TheVariants.{Rule, NoRule}
 use Rattle.match_choice.specs.Chosen.{candidate_of}
 use Rattle.match_best.specs.Chosen.{Below}
 use Rattle.match_choice.specs.Ranks.{rank_at, Matching, Highest}
@@ -24,7 +26,7 @@ use Rattle.match_choice.proofs.RankLaws.{none-chosen, highest-chosen}
 use Rattle.match_order.specs.Order.{Words16, Ranked, Hitting, HitAt, hits, rule_at, place_of}
 
 module _ (heads words table order sets : List ℕ) (n : ℕ) (small : Words16 heads) (ranked : Ranked heads order n) (hitting : Hitting table order sets n) where
-  abbrev whole : Option Candidate
+  abbrev whole : math.Option Candidate
   whole = choose (rules_in heads words n) (utilities (rules_in heads words n)) table
 
   -- a place in the set is one of n
@@ -34,7 +36,7 @@ module _ (heads words table order sets : List ℕ) (n : ℕ) (small : Words16 he
       omega (arith, ranked.low hit.rule hit.below, hit.placed)
 
   -- no place is in the set
-  pub none-picked : ((p : ℕ) → p < n → member sets hits p ≡ false) → (whole ≡ candidate_of heads words table NoRule) × Below NoRule n
+  pub none-picked : ((p : ℕ) → p < n → member sets hits p ≡ false) → (whole ≡ candidate_of heads words table None) × Below None n
   none-picked none = none-chosen heads words table n (λ k h m. no_true (sym (hitting.all k h m) ∙ none (place_of order k) (ranked.low k h)))
 
   module _ (p : ℕ) (low : p < 256) (here : member sets hits p ≡ true) (before : (q : ℕ) → q < p → member sets hits q ≡ false) where
@@ -49,7 +51,7 @@ module _ (heads words table order sets : List ℕ) (n : ℕ) (small : Words16 he
         ranked.falls hit.rule k hit.below h
         (by-lt (place_of order k) p (λ l. absurd (no_true (sym (hitting.all k h m) ∙ before (place_of order k) l))) (λ l. omega (arith, hit.placed)))
 
-    pub first-picked : (whole ≡ candidate_of heads words table (Rule (rule_at order p))) × Below (Rule (rule_at order p)) n
+    pub first-picked : (whole ≡ candidate_of heads words table (Some (rule_at order p))) × Below (Some (rule_at order p)) n
     first-picked =
         let top : Highest heads table n hit.rule = record { below = hit.below; matching = hit.matching; over = over } in
         rw is (highest-chosen heads words table n ranked.few small hit.rule top)
@@ -89,12 +91,16 @@ hitting-none table order sets none = record { all = λ j h m. absurd (omega arit
 
 -- ---- the places word by word
 
--- no bit of an empty word
-pub none_before : (sets : List ℕ) (w : ℕ) → get_or sets (4 + w) 0 ≡ 0 → ((p : ℕ) → p < 64 * w → member sets hits p ≡ false)
-    → (p : ℕ) → p < 64 * (w + 1) → member sets hits p ≡ false
-none_before sets w e none p h =
-    by-lt p (64 * w) (λ l. none p l)
-    (λ l. let q : p / 64 ≡ w = omega arith in rw (q, e) (bit-zero (p % 64)))
+-- a word of the set, among those looked at
+pub word_in : (sets : List ℕ) (a w : ℕ) → w < length (take a (drop 4 sets)) → get_or (take a (drop 4 sets)) w 0 ≡ get_or sets (4 + w) 0
+word_in sets a w h = get_or-take a (drop 4 sets) w 0 (omega (arith, length-take a (drop 4 sets))) ∙ get_or-drop 4 sets w 0
+
+-- no bit of empty words
+pub none_before : (sets : List ℕ) (a w : ℕ) → w ≤ length (take a (drop 4 sets)) → ((k : ℕ) → k < w → get_or (take a (drop 4 sets)) k 0 ≡ 0)
+    → (p : ℕ) → p < 64 * w → member sets hits p ≡ false
+none_before sets a w here none p h =
+    let e : get_or sets (4 + p / 64) 0 ≡ 0 = sym (word_in sets a (p / 64) (omega arith)) ∙ none (p / 64) (omega arith) in
+    rw e (bit-zero (p % 64))
 
 -- the lowest bit of the first word that is not empty
 pub first-place : (sets : List ℕ) (w z : ℕ) → z < 64 → ((j : ℕ) → j < z → bit (get_or sets (4 + w) 0) j ≡ false) → ((p : ℕ) → p < 64 * w → member sets hits p ≡ false)

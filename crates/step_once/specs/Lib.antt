@@ -1,3 +1,2 @@
--- What a step's answer stands for.
-pub mod Done
+-- What a step chooses by.
 pub mod Choosing

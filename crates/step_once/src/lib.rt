@@ -5,29 +5,20 @@ ghost use Rattle.std.specs.Prelude.{◌≡◌, ℕ, ◌+◌, ◌*◌, ◌≤◌,
 ghost use Rattle.meaning.specs.Base.{same};
 ghost use Rattle.meaning.specs.Model.{Rule};
 ghost use Rattle.meaning.specs.Match.{entry_of};
-ghost use Rattle.meaning.specs.Wait.{soonest};
-ghost use Rattle.meaning.specs.Step.{fire_step, wait_step, step_of};
-ghost use Rattle.layout.specs.StateWords.{buffers_in, state_in};
+ghost use Rattle.meaning.specs.Step.{fire_step, step_of};
+ghost use Rattle.layout.specs.StateWords.{state_in};
 ghost use Rattle.layout.specs.Plans.{facts_on, heads_on, rows_on, model_on, Planned};
 ghost use Rattle.match_rule.specs.Words.{StandsAt};
 ghost use Rattle.match_choice.specs.Chosen.{candidate_at};
 ghost use Rattle.step_retrieve.specs.Chains.{ChainsOn};
-ghost use Rattle.step_once.specs.Done.{placed, StepMet, Joins, Unfired};
+ghost use Rattle.step_made.specs.Made.{placed, StepMet, Joins};
 ghost use Rattle.step_once.specs.Choosing.{rule_on, RankedOn, HittingOn, SureOn};
 ghost use Rattle.match_rest.specs.Rest.{entry_at};
 
-use layout::{ACTIONS_AT, ENTRY_WORDS, HEAD_WORDS, Plan, RULE_WORDS};
+use layout::{ENTRY_WORDS, HEAD_WORDS, Plan, RULE_WORDS};
 use match_beds::SURE_AT;
-use match_best::Chosen;
-use meaning::numbers::{CLOCK_FULL, HALTED, NOT_FRESH, STORE_FULL};
-
-// The number that says why no step was made; the rule that fired, the mark and how many chunks join the store; the ms waited and the mark.
-#[derive(Clone, Copy)]
-pub enum StepDone {
-    Stopped(u8),
-    Fired(u16, u16, usize),
-    Waited(u16, u16),
-}
+use meaning::Reason;
+use step_made::Made;
 
 // Whether nine words are the fresh entry of the rule whose words start at o, with n tests.
 fn is_fresh(nine: &[u16], words: &[u16], o: usize, n: usize, state: &[u16]) -> bool
@@ -74,53 +65,23 @@ fn fire_step(
     tape: &[u16],
     sets: &[u64],
     news: &mut [u16],
-) -> StepDone
+) -> Result<Made, Reason>
     requires { Planned plan tape.now × (k < plan.rules) × (length table.now ≡ 9 * plan.rules) × (88 ≤ length state.old)
         × ChainsOn plan tape.now × SureOn plan tape.now state.old table.now sets.now × (88 ≤ length news.old) }
     ensures step_met { StepMet (placed plan tape.now (state_in state.old clock) (fire_step plan.failure (facts_on plan tape.now) (state_in state.old clock)
         (candidate_at (heads_on plan tape.now) (rows_on plan tape.now) table.now k))) result state.old state.new clock }
     ensures joins { Joins result plan tape.now state.old news.new }
 {
-    let stale = !chosen_fresh(table, sets, k, plan, tape, state);
-    let full = 4294967245 < clock;
-    if stale {
-        return StepDone::Stopped(NOT_FRESH);
+    if !chosen_fresh(table, sets, k, plan, tape, state) {
+        return Err(Reason::NotFresh);
     }
-    if full {
-        return StepDone::Stopped(CLOCK_FULL);
-    }
-    let joined = step_learn::collect(news, state, plan, tape, k);
-    if (plan.places as usize) < plan.facts as usize + joined {
-        return StepDone::Stopped(STORE_FULL);
-    }
-    let heads = plan.heads;
-    let actions = tape[heads + HEAD_WORDS * k + 1] as usize;
-    let o = RULE_WORDS * k + ACTIONS_AT;
     let first = ENTRY_WORDS * k;
     let end = first + ENTRY_WORDS;
-    let mark = step_fire::fire(state, plan, tape, o, actions, &table[first..end]);
-    StepDone::Fired(k as u16, mark, joined)
+    step_made::fire(state, clock, k, plan, tape, &table[first..end], news)
 }
 
-// Waits until the next buffer is visible, unless nothing is pending or the clock would pass its limit.
-fn wait_step(state: &mut [u16], clock: u32) -> StepDone
-    requires { 88 ≤ length state.old }
-    ensures step_met { StepMet (wait_step (state_in state.old clock) (soonest 0 (buffers_in state.old))) result state.old state.new clock }
-    ensures waits { Unfired result }
-{
-    let ms = step_wait::soonest(state);
-    if ms == 0 {
-        return StepDone::Stopped(HALTED);
-    }
-    if 4294967295 - (ms as u32) < clock {
-        return StepDone::Stopped(CLOCK_FULL);
-    }
-    let mark = step_wait::wait(state, ms);
-    StepDone::Waited(ms, mark)
-}
-
-// One step of the model that plan and tape mean, with its table and the set of its matching rules; a step that is refused leaves the state as it is.
-// What a firing adds to the store is in `news`.
+/// One step of the model that plan and tape mean, with its table and the set of its matching rules; a step that is refused leaves the state as it is.
+/// What a firing adds to the store is in `news`.
 pub fn step(
     state: &mut [u16],
     clock: u32,
@@ -129,7 +90,7 @@ pub fn step(
     tape: &[u16],
     sets: &[u64],
     news: &mut [u16],
-) -> StepDone
+) -> Result<Made, Reason>
     requires { Planned plan tape.now × (length table.now ≡ 9 * plan.rules) × (88 ≤ length state.old) × ChainsOn plan tape.now
         × RankedOn plan tape.now × HittingOn plan tape.now table.now sets.now × SureOn plan tape.now state.old table.now sets.now × (88 ≤ length news.old) }
     ensures step_met { StepMet (placed plan tape.now (state_in state.old clock)
@@ -138,7 +99,7 @@ pub fn step(
 {
     let order = plan.order;
     match match_order::pick(sets, &tape[order..], plan.rules as usize) {
-        Chosen::Rule(k) => fire_step(state, clock, table, k, plan, tape, sets, news),
-        Chosen::NoRule => wait_step(state, clock),
+        Some(k) => fire_step(state, clock, table, k, plan, tape, sets, news),
+        None => step_made::wait(state, clock),
     }
 }

@@ -1,3 +1,2 @@
 -- Laws of a run.
 pub mod RunLaws
-pub mod AddLaws

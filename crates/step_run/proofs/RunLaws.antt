@@ -1,49 +1,35 @@
--- One turn of a run: a step more, and what is left gives what the whole gives.
+-- A step with a table, and the run that goes on from it.
 use Rattle.std.specs.Prelude.{if◌then◌else◌}
-use Prim.Native.Nat.{ℕ, suc, ◌+◌, ◌-◌, ◌≤◌, ◌<◌}
+use Prim.Native.Nat.{ℕ, suc, ◌+◌, ◌≤◌}
 use mathlib.Core.Path.{◌≡◌, refl, sym, ap, ◌∙◌}
 use mathlib.Core.Bool.{Bool, true, false}
-use mathlib.Core.List.{List, [], ◌∷◌}
+use mathlib.Core.List.{List}
 use mathlib.Core.Option.{Option, none, some}
 use native.Mathlib.Omega.{arith}
-use borrow.Author.Tests.{eq-eqb, ne_eqb}
+use Rattle.std.specs.Prelude.{Result, Ok, Err, IfOk, IfErr, OnErr}
 use Rattle.meaning.specs.declared.State.{State}
+use Rattle.meaning.specs.declared.reasons.Reason.{Reason}
+use Rattle.meaning.specs.Reasons.{number_of}
 use Rattle.meaning.specs.Numbers.{store_full}
 use Rattle.meaning.specs.Model.{Model, Chunk, Rule}
 use Rattle.meaning.specs.Step.{Event, Step, step_stopped, step_made, step_of}
 use Rattle.meaning.specs.Learning.{knowing, store_after, if_room, step_with}
 use Rattle.meaning.specs.Refresh.{refresh}
-use Rattle.meaning.specs.Run.{Going, going, Timed, go_on, run_from}
-use Rattle.meaning.specs.Calls.{Ran}
+use Rattle.meaning.specs.Run.{Going, going, go_on, run_from}
 use Rattle.layout.specs.declared.Plan.{Plan}
 use Rattle.layout.specs.StateWords.{state_in}
 use Rattle.layout.specs.Plans.{model_on, Planned}
-use Rattle.step_note.specs.Events.{Tells, event_by, noted}
-use Rattle.step_note.proofs.NoteLaws.{worded}
-use Rattle.step_note.proofs.TurnLaws as turns
 use Rattle.step_learn.specs.Joins.{no_place}
-use Rattle.step_learn.specs.Knows.{Knows, Stored}
+use Rattle.step_learn.specs.Knows.{Knows}
 use Rattle.step_learn.proofs.AddsLaws.{room-same}
-use Rattle.step_once.specs.Done.{placed}
-use Rattle.step_run.specs.declared.Told.{Told}
-use Rattle.step_run.specs.Told.{told_in}
-use Rattle.step_run.specs.Went.{ran_with}
-
--- ---- a step, as it was told
-
-abbrev made' : Told → List ℕ → ℕ → Step
-made' t w now = step_made (event_by t.kind t.value) (state_in w (now + t.elapsed)) t.mark
-
-pub made-step : (t : Told) (w : List ℕ) (now : ℕ) (step : Step) → told_in t w now ≡ step → (t.kind ≡ 2 → ⊥) → made' t w now ≡ step
-made-step t w now step e z = sym (ap (λ (x : Bool). if x then step_stopped t.value else made' t w now) (ne_eqb t.kind 2 z)) ∙ e
-
--- no step, as it was told
-stopped-step : (t : Told) (w : List ℕ) (now : ℕ) (step : Step) → told_in t w now ≡ step → t.kind ≡ 2 → step_stopped t.value ≡ step
-stopped-step t w now step e k = sym (ap (λ (x : Bool). if x then step_stopped t.value else made' t w now) (eq-eqb t.kind 2 k)) ∙ e
+use Rattle.step_made.specs.declared.Made.{Made}
+use Rattle.step_made.specs.Made.{event_of, ms_of, placed, step_in, StepMet, Joins}
+use Rattle.step_made.proofs.MadeLaws.{joins-added}
+use Rattle.running.specs.Runs.{Stays, Moves}
 
 -- ---- the step with what the store knows is the step that has its places
 
-pub rules-known : (m : Model) (store : Option (List Chunk)) → (knowing m store).rules ≡ m.rules
+rules-known : (m : Model) (store : Option (List Chunk)) → (knowing m store).rules ≡ m.rules
 rules-known m none = refl
 rules-known m (some cs) = refl
 
@@ -52,7 +38,7 @@ module _ (p : Plan) (tape : List ℕ) (m : Model) (store : Option (List Chunk)) 
   placed-is (step_stopped number) = refl
   placed-is (step_made e s' mark) = ap (λ (b : Bool). if b then step_stopped store_full else (step_made e s' mark)) (room-same p tape m s e planned store knows)
 
-  pub step_is : placed p tape s (step_of (model_on p tape) s table) ≡ step_with m store s table
+  step_is : placed p tape s (step_of (model_on p tape) s table) ≡ step_with m store s table
   step_is = placed-is (step_of (model_on p tape) s table) ∙ ap (λ (x : Model). if_room m store s (step_of x s table)) knows.means
 
 -- a step that is made, where it has its places, is made whether or not they are asked for
@@ -68,52 +54,42 @@ made-anyhow p tape s (step_made e₀ s₀ mark₀) made e s' mark g h = g ∙ ro
     roomy true z = absurd (let q : ◌≡◌ {A = ℕ} 0 1 = ap reason z in omega arith)
     roomy false z = z
 
--- ---- the loop, with the state in words
+-- ---- what a step comes to is what the run goes on from
 
--- what a run gives: number, state, table, count and store
-abbrev answered : ℕ → Going → ℕ → Stored Ran
-answered number g made = record { answer = record { number = number; position = 0; state = g.state; table = g.table; made = made }; store = g.store }
+module _ (p : Plan) (tape : List ℕ) (planned : Planned p tape) (w table : List ℕ) (clock : ℕ) where
+  abbrev s : State
+  s = state_in w clock
 
--- after `made` of n steps: what is left to run from here gives what the whole run gives
-abbrev pub SoFar : Model → ℕ → Going → List ℕ → ℕ → Going → List ℕ → Type 0
-SoFar m n opening lent₀ made here lent = turns.SoFar answered (run_from m) n opening lent₀ made here lent
+  goes : (m : Model) (store : Option (List Chunk)) (n : ℕ) → Knows p tape m store → (st : Step) → st ≡ placed p tape s (step_of (model_on p tape) s table)
+      → run_from m (suc n) (going s table store) ≡ go_on m (going s table store) (λ g'. run_from m n g') st
+  unfolding run_from
+  goes m store n knows st q = ap (go_on m (going s table store) (λ g'. run_from m n g')) (sym (q ∙ step_is p tape m store s table planned knows))
 
-module _ (m : Model) (n : ℕ) (opening : Going) (lent₀ : List ℕ) where
-  pub going_start : SoFar m n opening lent₀ 0 opening lent₀
-  going_start = turns.going_start answered (run_from m) n opening lent₀
+  module _ (w' table' : List ℕ) where
+    -- no step is made
+    pub stays : (r : Result Made Reason) → StepMet (placed p tape s (step_of (model_on p tape) s table)) r w w' clock
+        → IfErr r (λ reason. Stays run_from reason p tape (λ (s : State) store. going s table store) s)
+    stays (Ok made) met = tt
+    stays (Err reason) met = record { rest = λ m store n knows. goes m store n knows (step_stopped (number_of reason)) met.is_step }
 
-  module _ (made : ℕ) (w : List ℕ) (now : ℕ) (table : List ℕ) (store : Option (List Chunk)) (lent : List ℕ)
-      (g : SoFar m n opening lent₀ made (going (state_in w now) table store) lent) where
-    abbrev here : Going
-    here = going (state_in w now) table store
+    -- and all is as it was
+    pub kept : (r : Result Made Reason) → StepMet (placed p tape s (step_of (model_on p tape) s table)) r w w' clock → OnErr r (table' ≡ table)
+        → OnErr r ((w' ≡ w) × (◌≡◌ {A = State → Option (List Chunk) → Going} (λ s store. going s table' store) (λ s store. going s table store)))
+    kept (Ok made) met same = tt
+    kept (Err reason) met same = (met.kept reason refl, ap {B = State → Option (List Chunk) → Going} (λ (t : List ℕ) (s : State) (store : Option (List Chunk)). going s t store) same)
 
-    pub going_end : n ≤ made → Tells ran_with (answered 0 here made) (run_from m n opening) lent₀ lent
-    unfolding run_from
-    going_end h = turns.going_end answered (run_from m) n opening lent₀ made here lent g h 0 refl
-
-    module _ (h : made < n) (t : Told) (w' : List ℕ) (e : told_in t w' now ≡ step_with m store (state_in w now) table) where
-      -- what a step comes to is what the run goes on from
-      goes : (st : Step) → st ≡ step_with m store (state_in w now) table
-          → run_from m (suc (n - (made + 1))) here ≡ go_on m here (λ g'. run_from m (n - (made + 1)) g') st
-      unfolding run_from
-      goes st q = ap (go_on m here (λ g'. run_from m (n - (made + 1)) g')) (sym q)
-
-      -- no step is made: the state's words are as they were
-      pub going-stop : t.kind ≡ 2 → w' ≡ w → (number : ℕ) → number ≡ t.value
-          → Tells ran_with (answered number (going (state_in w' now) table store) made) (run_from m n opening) lent₀ lent
-      going-stop k ew number en =
-          let s : step_stopped number ≡ step_with m store (state_in w now) table = ap step_stopped en ∙ stopped-step t w' now _ e k in
-          rw ew (turns.going-stop answered (run_from m) n opening lent₀ made here lent g h number (goes (step_stopped number) s))
-
-      abbrev event : Event
-      event = event_by t.kind t.value
-
-      pub going-turn : (t.kind ≡ 2 → ⊥) → t.kind ≤ 2 → (table' lent' : List ℕ) → table' ≡ refresh m.rules (state_in w' (now + t.elapsed)) t.mark table
-          → lent' ≡ noted lent made ((now + t.elapsed) ∷ t.kind ∷ t.value ∷ [])
-          → SoFar m n opening lent₀ (made + 1) (going (state_in w' (now + t.elapsed)) table' (store_after m (state_in w now) event store)) lent'
-      going-turn z known table' lent' et el =
-          let s' : State = state_in w' (now + t.elapsed) in
-          let timed : Timed = record { clock = s'.clock; event = event } in
-          let noting = el ∙ ap (noted lent made) (worded (now + t.elapsed) t.kind t.value (omega arith)) in
-          let after = going s' (refresh m.rules s' t.mark table) (store_after m (state_in w now) event store) in
-          rw et (turns.going-turn answered (run_from m) n opening lent₀ made here lent g h timed after lent' (goes (made' t w' now) (made-step t w' now _ e z)) noting)
+    -- a step is made, and the table is renewed by it
+    pub moves : (r : Result Made Reason) → StepMet (placed p tape s (step_of (model_on p tape) s table)) r w w' clock
+        → (news : List ℕ) → Joins r p tape w news → IfOk r (λ made. (later : ℕ) → table' ≡ refresh (model_on p tape).rules (state_in w' later) made.mark table)
+        → IfOk r (λ made. Moves run_from made p tape (λ (s : State) store. going s table store) (λ (s : State) store. going s table' store) w w' news clock)
+    moves (Ok made) met news joins renewed = record {
+      in_time = met.clock_fits;
+      added = joins-added made p tape w news planned.facts_placed joins;
+      rest = λ m store n knows.
+          let later = clock + ms_of made.event in
+          let is = goes m store n knows (step_made (event_of made.event) (state_in w' later) made.mark) met.is_step in
+          let rules : (model_on p tape).rules ≡ m.rules = ap (λ (x : Model). x.rules) knows.means ∙ rules-known m store in
+          let same : table' ≡ refresh m.rules (state_in w' later) made.mark table = renewed later ∙ ap (λ (rs : List Rule). refresh rs (state_in w' later) made.mark table) rules in
+          rw same is;
+    }
+    moves (Err reason) met news joins renewed = tt

@@ -1,3 +1,3 @@
 pub mod Aided
-pub mod Told
+pub mod Turns
 pub mod Went

@@ -7,11 +7,12 @@ use Rattle.meaning.specs.Calls.{Ran, ran_by}
 use Rattle.layout.specs.StateWords.{state_in}
 use Rattle.step_learn.specs.Knows.{Knows, Stored}
 use Rattle.step_note.specs.Events.{Tells}
-use Rattle.step_run.specs.declared.Went.{Went}
+use Rattle.running.specs.declared.Went.{Went}
+use Rattle.running.specs.Runs.{ended_by}
 
 -- what a run answers, with the state's words and the table as they are left: no field is refused any more
 abbrev pub ran_in : Went → List ℕ → List ℕ → Ran
-ran_in r w table = record { number = r.number; position = 0; state = state_in w r.clock; table = table; made = r.made }
+ran_in r w table = record { number = ended_by r.ended; position = 0; state = state_in w r.clock; table = table; made = r.made }
 
 -- what a run gives, and the store that it leaves
 abbrev pub ran_with : Run Going → Stored Ran

@@ -11,7 +11,6 @@ use Rattle.meaning.specs.Choice.{utilities, counts}
 use Rattle.meaning.specs.Fresh.{choose_fresh}
 use Rattle.layout.specs.Rows.{rules_in, rule_in}
 use Rattle.layout.specs.StateWords.{state_in}
-use Rattle.match_best.specs.declared.Chosen.{Chosen}
 use Rattle.match_best.specs.Chosen.{candidate_with}
 use Rattle.match_best.proofs.TurnLaws.{Leads, leads-below, chosen_from, chosen-end, chosen-skip, chosen-turn, chosen-kept}
 use Rattle.match_rule.proofs.MadeLaws.{rule-stands}

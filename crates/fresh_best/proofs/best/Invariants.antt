@@ -1,3 +1,4 @@
+use Rattle.std.specs.Prelude.{Option}
 use Prim.Native.Nat.{ℕ, ◌≤◌, ◌-◌, ◌+◌}
 use mathlib.Core.Path.{◌≡◌, refl, sym, ◌∙◌}
 use mathlib.Core.Bool.{true}
@@ -10,7 +11,6 @@ use Rattle.meaning.specs.Choice.{utilities, counts}
 use Rattle.meaning.specs.Fresh.{choose_fresh}
 use Rattle.layout.specs.Rows.{rules_in, rule_in}
 use Rattle.layout.specs.StateWords.{state_in}
-use Rattle.match_best.specs.declared.Chosen.{Chosen}
 use Rattle.match_best.specs.Chosen.{candidate_with}
 use Rattle.match_best.proofs.TurnLaws.{Leads, leads-below, chosen_from, chosen-end, chosen-skip, chosen-turn, chosen-kept}
 use Rattle.match_rule.proofs.MadeLaws.{rule-stands}
@@ -20,7 +20,7 @@ use Rattle.fresh_best.proofs.FreshLaws.{fresh_start}
 use Rattle.fresh_best.proofs.best.Given as goal
 
 -- after k of n rules: the best so far leads, its entry stands in the nine words, and it and the rules from k on give what all give
-pub record Turning (heads words : List ℕ) (n : ℕ) (state nine trial : List ℕ) (best : Chosen) (top k : ℕ) : Type 0 where
+pub record Turning (heads words : List ℕ) (n : ℕ) (state nine trial : List ℕ) (best : Option ℕ) (top k : ℕ) : Type 0 where
   pub within : k ≤ n
   pub nine_words : length nine ≡ 9
   pub trial_words : length trial ≡ 9

@@ -10,8 +10,7 @@ use Rattle.layout.specs.Plans.{heads_on, rows_on, rules_on}
 use Rattle.laws.specs.PartLaws.{to_end}
 use Rattle.layout.proofs.PlanLaws.{sections}
 use Rattle.fresh_best.specs.Matched.{matched_of, Entered}
-use Rattle.fresh_step.proofs.AddLaws.{unfired-adds}
-use Rattle.fresh_step.proofs.MoveLaws.{rule-below, step-fires, step_waits}
+use Rattle.fresh_step.proofs.MoveLaws.{rule-below, step-fires, step_waits, added-by, added-none}
 use Rattle.fresh_step.proofs.step.Goals as goal
 use Rattle.fresh_step.proofs.step.Goals.{After-best}
 
@@ -24,17 +23,23 @@ chosen c = simp to_end at c.best.ensures.by_index c.args.clock
 entered : (c : After-best) → let a = c.args in Entered (heads_on a.plan a.tape.now) (rows_on a.plan a.tape.now) a.state.now c.best.result (entry c)
 entered c = simp to_end at c.best.ensures.entry
 
-pub returns-in-Rule-clause-move_met : goal.returns-in-Rule-clause-move_met
-returns-in-Rule-clause-move_met c =
+pub returns-in-Some-clause-move_met : goal.returns-in-Some-clause-move_met
+returns-in-Some-clause-move_met c =
     let a = c.args in
-    step-fires a.plan a.tape.now (chosen (goal.at.returns-in-Rule-clause-move_met c).After-best) _ c.in-Rule.is (entry (goal.at.returns-in-Rule-clause-move_met c).After-best) (entered (goal.at.returns-in-Rule-clause-move_met c).After-best) c.fire.ensures.move_met
+    let after = (goal.at.returns-in-Some-clause-move_met c).After-best in
+    step-fires a.plan a.tape.now a.state.now a.clock (chosen after) _ c.in-Some.is (entry after) (entered after) c.fire.ensures.step_met
 
-pub returns-in-NoRule-clause-adds : goal.returns-in-NoRule-clause-adds
-returns-in-NoRule-clause-adds c =
+pub returns-in-Some-clause-adds : goal.returns-in-Some-clause-adds
+returns-in-Some-clause-adds c =
     let a = c.args in
-    unfired-adds a.plan a.tape.now a.state.now a.news.now c.wait.result c.wait.ensures.waits c.requires.0.facts_placed
+    added-by c.fire.result a.plan a.tape.now a.state.now _ c.requires.0.facts_placed c.fire.ensures.joins
 
-pub returns-in-NoRule-clause-move_met : goal.returns-in-NoRule-clause-move_met
-returns-in-NoRule-clause-move_met c =
+pub returns-in-None-clause-move_met : goal.returns-in-None-clause-move_met
+returns-in-None-clause-move_met c =
     let a = c.args in
-    step_waits a.plan a.tape.now (chosen (goal.at.returns-in-NoRule-clause-move_met c).After-best) c.requires.0.facts_placed c.in-NoRule.is c.wait.ensures.move_met
+    step_waits a.plan a.tape.now a.state.now a.clock (chosen (goal.at.returns-in-None-clause-move_met c).After-best) c.requires.0.facts_placed c.in-None.is c.wait.ensures.step_met
+
+pub returns-in-None-clause-adds : goal.returns-in-None-clause-adds
+returns-in-None-clause-adds c =
+    let a = c.args in
+    added-none c.wait.result a.plan a.tape.now a.state.now a.news.now c.requires.0.facts_placed c.wait.ensures.waits

@@ -12,7 +12,7 @@ use lib.Seq.{get_or-drop}
 use Prim.Native.Nat.{◌+◌}
 use Rattle.match_order.specs.Order.{Words16}
 use Rattle.match_order.proofs.PickLaws.{place-below}
-use Rattle.step_once.proofs.StepLaws.{rule-below, step-fires, step_waits, joins-none}
+use Rattle.step_once.proofs.StepLaws.{rule-below, step-fires, step_waits}
 use Rattle.step_once.proofs.step.Goals as goal
 use Rattle.step_once.proofs.step.Goals.{After-pick, After-pick-arg-1}
 
@@ -26,14 +26,14 @@ chosen c =
 
 pub fire_step-requires : goal.fire_step-requires
 fire_step-requires c =
-    (c.requires.0, rule-below c.in-Rule.is (chosen (goal.at.fire_step-requires c).After-pick).1, c.requires.1, c.requires.2, c.requires.3, c.requires.6, c.requires.7)
+    (c.requires.0, rule-below c.in-Some.is (chosen (goal.at.fire_step-requires c).After-pick).1, c.requires.1, c.requires.2, c.requires.3, c.requires.6, c.requires.7)
 
-pub returns-in-Rule-clause-step_met : goal.returns-in-Rule-clause-step_met
-returns-in-Rule-clause-step_met c =
+pub returns-in-Some-clause-step_met : goal.returns-in-Some-clause-step_met
+returns-in-Some-clause-step_met c =
     let a = c.args in
-    step-fires a.plan a.tape.now a.table.now (chosen (goal.at.returns-in-Rule-clause-step_met c).After-pick).0 _ c.in-Rule.is c.fire_step.ensures.step_met
+    step-fires a.plan a.tape.now a.table.now (chosen (goal.at.returns-in-Some-clause-step_met c).After-pick).0 _ c.in-Some.is c.fire_step.ensures.step_met
 
-pub returns-in-NoRule-clause-step_met : goal.returns-in-NoRule-clause-step_met
-returns-in-NoRule-clause-step_met c =
+pub returns-in-None-clause-step_met : goal.returns-in-None-clause-step_met
+returns-in-None-clause-step_met c =
     let a = c.args in
-    step_waits a.plan a.tape.now a.table.now (chosen (goal.at.returns-in-NoRule-clause-step_met c).After-pick).0 c.requires.0.facts_placed c.in-NoRule.is c.wait_step.ensures.step_met
+    step_waits a.plan a.tape.now a.table.now (chosen (goal.at.returns-in-None-clause-step_met c).After-pick).0 c.requires.0.facts_placed c.in-None.is c.wait.ensures.step_met

@@ -1,0 +1,2 @@
+-- What a run is, whichever engine makes its steps.
+pub mod Runs

@@ -1,0 +1,2 @@
+-- Laws of a step, by its cases.
+pub mod MadeLaws

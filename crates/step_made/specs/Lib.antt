@@ -1,0 +1,2 @@
+-- What a step that was made or refused stands for.
+pub mod Made
