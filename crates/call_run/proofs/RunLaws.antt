@@ -17,7 +17,8 @@ use Rattle.layout.specs.StateWords.{buffers_in, state_in}
 use Rattle.layout.specs.declared.Plan.{Plan}
 use Rattle.layout.specs.Plans.{model_on}
 use Rattle.layout_state.proofs.ValueLaws.{state-is}
-use Rattle.step_run.specs.declared.Went.{Went}
+use Rattle.running.specs.declared.Went.{Went}
+use Rattle.running.specs.Runs.{ended_by}
 use Rattle.step_learn.specs.Knows.{Knows, Stored}
 use Rattle.step_note.specs.Events.{inscribed, Tells}
 use Rattle.step_run.specs.Went.{WentMet}
@@ -92,13 +93,13 @@ module _ (s : State) (table : List ℕ) (steps : ℕ) (m : Model) (w : List ℕ)
       → after ≡ state_in w' went.clock
       → (met : WentMet went m (store_of (lent_if lent store)) w w' s.clock table table' steps noted noted' tape')
       → store' ≡ store_left store (extend (store_of (lent_if lent store)) (left-grows went m _ w w' s.clock table table' steps noted noted' tape' met).0)
-      → RunMet (done went.number 0 after went.made) (read_got m 0) s table table' steps noted noted' lent store store'
+      → RunMet (done (ended_by went.ended) 0 after went.made) (read_got m 0) s table table' steps noted noted' lent store store'
   run-went g f went after w' table' noted noted' tape' store' e met back =
       let here = state-is w s stands in
       let grown = left-grows went m _ w w' s.clock table table' steps noted noted' tape' met in
       let kept = back ∙ ap (store_left store) (sym grown.1 ∙ left_is went m _ w w' s.clock table table' steps noted noted' tape' met) in
       let answer = ap (λ (x : Stored Ran). x.answer) met.tells.is_run in
-      let whole : Tells (ran_into 0 store) (with_store (done went.number 0 after went.made) table' store')
+      let whole : Tells (ran_into 0 store) (with_store (done (ended_by went.ended) 0 after went.made) table' store')
       (run_from m steps (going (state_in w s.clock) table (store_of (lent_if lent store)))) noted noted' =
       record { is_run = rw e (ap₂ (λ (a : Ran) (l : List ℕ). record { answer = a; store = l }) answer kept); events = met.tells.events } in
       rw (g, f) (rw here at whole)

@@ -113,7 +113,7 @@ fn run_for(
     );
     call_store::give_back(store, plan, went.plan, tape);
     Ok(RunDone {
-        number: went.number,
+        number: went.number(),
         position: 0,
         state: layout_state::read_state(&now, went.clock),
         made: went.made,

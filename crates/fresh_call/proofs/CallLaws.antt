@@ -23,7 +23,8 @@ use Rattle.layout_state.proofs.ValueLaws.{state-is}
 use Rattle.read_image.specs.Whole.{LaidOut}
 use Rattle.step_learn.specs.Knows.{Knows, Stored}
 use Rattle.step_note.specs.Events.{inscribed, Tells}
-use Rattle.fresh_run.specs.declared.Went.{Went}
+use Rattle.running.specs.declared.Went.{Went}
+use Rattle.running.specs.Runs.{ended_by}
 use Rattle.fresh_run.specs.Went.{WentMet}
 use Rattle.call_store.specs.Lending.{lent_if}
 use Rattle.call_store.proofs.AdmitLaws.{Unfit, ill, misfit}
@@ -84,13 +85,13 @@ module _ (s : State) (steps : ℕ) (m : Model) (w : List ℕ) (stands : buffers_
       → after ≡ state_in w' went.clock
       → (met : WentMet went m (store_of (lent_if lent store)) w w' s.clock steps noted noted' tape')
       → store' ≡ store_left store (extend (store_of (lent_if lent store)) (left-grows went m _ w w' s.clock steps noted noted' tape' met).0)
-      → FreshMet (done went.number 0 after went.made) (read_got m 0) s steps noted noted' lent store store'
+      → FreshMet (done (ended_by went.ended) 0 after went.made) (read_got m 0) s steps noted noted' lent store store'
   fresh-went g f went after w' noted noted' tape' store' e met back =
       let here = state-is w s stands in
       let grown = left-grows went m _ w w' s.clock steps noted noted' tape' met in
       let kept = back ∙ ap (store_left store) (sym grown.1 ∙ left_is went m _ w w' s.clock steps noted noted' tape' met) in
       let answer = ap (λ (x : Stored FreshRan). x.answer) met.tells.is_run in
-      let whole : Tells (fresh_into 0 store) (with_store (done went.number 0 after went.made) store')
+      let whole : Tells (fresh_into 0 store) (with_store (done (ended_by went.ended) 0 after went.made) store')
       (fresh_from m steps (moving (state_in w s.clock) (store_of (lent_if lent store)))) noted noted' =
       record { is_run = rw e (ap₂ (λ (a : FreshRan) (l : List ℕ). record { answer = a; store = l }) answer kept); events = met.tells.events } in
       rw (g, f) (rw here at whole)

@@ -87,7 +87,7 @@ fn run_for(
     let went = set_out(&mut now, state.clock, known, tape, asked.steps, events);
     call_store::give_back(store, plan, went.plan, tape);
     Ok(FreshDone {
-        number: went.number,
+        number: went.number(),
         position: 0,
         state: layout_state::read_state(&now, went.clock),
         made: went.made,

@@ -64,4 +64,4 @@ returns c =
     let left = given_back a.plan c.set_out-went.result.plan _ a.store.now (model (goal.at.returns c).Start) c.set_out-went.ensures.planned (own (goal.at.returns c).Start) (fits (goal.at.returns c).In_ok-known).1 _ (left-known _ (model (goal.at.returns c).Start) _ _ _ _ _ _ _ _ met) in
     let ran = fresh-went a.asked.state a.asked.steps (model (goal.at.returns c).Start) (words (goal.at.returns c).After-admit) c.in_ok-known.ensures.stands a.plan.learns a.store.now (fits (goal.at.returns c).In_ok-known).0 (fits (goal.at.returns c).In_ok-known).1 c.set_out-went.result
     c.read_state.result c.set_out-went.new.state a.events.now _ _ _ c.read_state.ensures met (c.give_back.ensures ∙ left) in
-    lent_same _ (read_got (model (goal.at.returns c).Start) 0) a.asked.state a.asked.steps a.events.now _ a.store.now _ a.plan.learns a.asked.lent c.requires.2 ran
+    rw c.number.ensures (lent_same _ (read_got (model (goal.at.returns c).Start) 0) a.asked.state a.asked.steps a.events.now _ a.store.now _ a.plan.learns a.asked.lent c.requires.2 ran)
