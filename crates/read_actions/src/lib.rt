@@ -50,16 +50,9 @@ pub fn actions(
     let mut least = 0;
     for i in 0..m {
         let o = ROW_WORDS * i;
-        action(
-            reader,
-            sizes,
-            variables,
-            tests,
-            n,
-            least,
-            &mut rows[o..o + ROW_WORDS],
-        )?;
-        least = rows[o] % 8 + 1;
+        let row = &mut rows[o..o + ROW_WORDS];
+        action(reader, sizes, variables, tests, n, least, row)?;
+        least = row[0] % 8 + 1;
     }
     Ok(())
 }

@@ -48,14 +48,9 @@ pub fn tests(
     let mut least = 0;
     for i in 0..n {
         let q = o + ROW_WORDS * i;
-        test(
-            reader,
-            sizes,
-            variables,
-            least,
-            &mut words[q..q + ROW_WORDS],
-        )?;
-        least = words[q] % 8 + 1;
+        let row = &mut words[q..q + ROW_WORDS];
+        test(reader, sizes, variables, least, row)?;
+        least = row[0] % 8 + 1;
     }
     Ok(())
 }

@@ -6,7 +6,7 @@ use Rattle.meaning.specs.Numbers.{finer}
 use Rattle.meaning.specs.Image.{action, actions}
 use Rattle.laws.specs.PartLaws.{part-long}
 use Rattle.layout.specs.Rows.{rows_in, action_in, tests_in, actions_in}
-use Rattle.layout.proofs.WordLaws.{sets-at, lent-sets}
+use Rattle.layout.proofs.WordLaws.{lent-sets}
 use Rattle.layout.proofs.RowLaws.{action-like, in-more}
 use Rattle.layout.proofs.LoopLaws.{onward-start, onward-end, onward-bad, onward-turn}
 use Rattle.read_actions.proofs.ActionLaws.{front-tests, back-actions}
@@ -47,14 +47,12 @@ loop-i-preserved c =
     let room : q + 11 ≤ length l.rows = omega (arith, l.invariant.long, c.split_at_mut-tests.ensures.back_len, c.requires.2, c.requires.3, c.loop-i-test.true) in
     let whole : length row ≡ 11 = c.action.auto.row ∙ part-long q 11 l.rows room in
     let written = lent-sets q 11 l.rows row room whole in
-    let z : q + 0 ≡ q = omega arith in
     let o : 0 + 11 * l.i ≡ q = omega arith in
-    let first = rw z at (sets-at l.rows q row 0 (omega arith) (omega arith)) in
     let more = rw o at (in-more action_in action-like l.rows 0 l.i row whole (omega arith)) in
     let turn =
     onward-turn (action finer a.sizes.now a.variables ts) (λ x. x.buffer) l.reader.image a.m (actions_in l.rows 0 l.i) l.i l.least l.reader.at c.loop-i-test.true (action_in row 0) _ read.row_after in
     record {
-      reads = rw (written, more, first, read.follows) (turn ∙ l.invariant.reads);
+      reads = rw (written, more, read.follows) (turn ∙ l.invariant.reads);
       follows = read.follows ∙ l.invariant.follows;
       long = ap length written ∙ length-sets l.rows q row ∙ l.invariant.long;
     }

@@ -5,7 +5,7 @@ use Rattle.meaning.specs.Numbers.{finer}
 use Rattle.meaning.specs.Image.{test}
 use Rattle.laws.specs.PartLaws.{part-long}
 use Rattle.layout.specs.Rows.{rows_in, test_in, tests_in}
-use Rattle.layout.proofs.WordLaws.{sets-take, sets-at, lent-sets}
+use Rattle.layout.proofs.WordLaws.{sets-take, lent-sets}
 use Rattle.layout.proofs.RowLaws.{test-like, in-more}
 use Rattle.layout.proofs.LoopLaws.{onward-start, onward-end, onward-bad, onward-turn}
 use Rattle.read_tests.proofs.tests.Goals as goal
@@ -35,12 +35,10 @@ loop-i-preserved c =
     let room : q + 11 ≤ length l.words = omega (arith, l.invariant.long, c.requires.1, c.loop-i-test.true) in
     let whole : length row ≡ 11 = c.test.auto.row ∙ part-long q 11 l.words room in
     let written = lent-sets q 11 l.words row room whole in
-    let z : q + 0 ≡ q = omega arith in
-    let first = rw z at (sets-at l.words q row 0 (omega arith) (omega arith)) in
     let turn =
     onward-turn (test finer a.sizes.now a.variables) (λ t. t.buffer) l.reader.image a.n (tests_in l.words a.o l.i) l.i l.least l.reader.at c.loop-i-test.true (test_in row 0) _ read.row_after in
     record {
-      reads = rw (written, in-more test_in test-like l.words a.o l.i row whole room, first, read.follows) (turn ∙ l.invariant.reads);
+      reads = rw (written, in-more test_in test-like l.words a.o l.i row whole room, read.follows) (turn ∙ l.invariant.reads);
       follows = read.follows ∙ l.invariant.follows;
       long = ap length written ∙ length-sets l.words q row ∙ l.invariant.long;
       kept = ap (take a.o) written ∙ sets-take a.o l.words q row (omega arith) ∙ l.invariant.kept;
