@@ -1,3 +1,2 @@
--- Laws of counts, of the slot counts and of the opening state.
-pub mod CountLaws
+-- Laws of the slot counts and of the opening state.
 pub mod OpeningLaws

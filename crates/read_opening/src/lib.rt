@@ -2,9 +2,9 @@
 #![tactic(auto)]
 
 ghost use Rattle.std.specs.Prelude.{◌≡◌, ◌∷◌, ◌+◌, ◌*◌, ◌≤◌, ◌<◌, IfOk, length, take};
-ghost use Rattle.meaning.specs.Read.{times, field, must};
-ghost use Rattle.meaning.specs.Numbers.{finer, bad_number};
-ghost use Rattle.meaning.specs.Image.{between, header, slot_counts, chunk};
+ghost use Rattle.meaning.specs.Read.{times};
+ghost use Rattle.meaning.specs.Numbers.{finer};
+ghost use Rattle.meaning.specs.Image.{header, slot_counts, chunk};
 ghost use Rattle.meaning.specs.State.{opens};
 ghost use Rattle.layout.specs.Walks.{mapped, Small};
 ghost use Rattle.read_ranges.specs.Reading.{told, told_by, Follows};
@@ -12,18 +12,8 @@ ghost use Rattle.read_facts.specs.Made.{a_chunk};
 ghost use Rattle.read_opening.specs.Parts.{header_in, HeaderMet, opening_state};
 
 use layout::Plan;
-use meaning::{Buffer, Reason, Refusal, State};
+use meaning::{Buffer, Refusal, State};
 use read_ranges::Reader;
-
-// A count from `low` to `high`; another is refused as such, where its field begins.
-fn count(reader: &mut Reader, width: usize, low: u16, high: u16) -> Result<u16, Refusal>
-    requires { (width ≤ 16) × (high < 65535) }
-    ensures value { told result reader.new ≡ field width (must bad_number (between low high)) reader.old.image reader.old.at }
-    ensures follows { Follows reader.old reader.new }
-    ensures bounds { IfOk result (λ n. (low ≤ n) × (n ≤ high)) }
-{
-    reader.within(width, low, high + 1, Reason::BadNumber)
-}
 
 /// The six fields of the header, the version (1 or 2) first, as a plan: with places for a store if one is lent.
 #[tactic(auto, unfolding(meaning::specs::Image::header))]
@@ -32,11 +22,11 @@ pub fn header(reader: &mut Reader, learns: bool) -> Result<Plan, Refusal>
     ensures follows { Follows reader.old reader.new }
     ensures met { IfOk result (λ plan. HeaderMet plan learns) }
 {
-    let version = count(reader, 8, 1, 2)?;
-    let buffers = count(reader, 4, 1, 8)?;
-    let declared = count(reader, 6, 0, 63)?;
-    let rules = count(reader, 9, 0, 256)?;
-    let facts = count(reader, 10, 0, 512)?;
+    let version = reader.count(8, 1, 2)?;
+    let buffers = reader.count(4, 1, 8)?;
+    let declared = reader.count(6, 0, 63)?;
+    let rules = reader.count(9, 0, 256)?;
+    let facts = reader.count(10, 0, 512)?;
     let failure = reader.field(16)?;
     Ok(layout::plan_for(version, buffers, declared, rules, facts, failure, learns))
 }
@@ -51,7 +41,7 @@ pub fn slot_counts(reader: &mut Reader, declared: u16) -> Result<[u16; 64], Refu
 {
     let mut types = [0; 64];
     for t in 0..declared as usize {
-        types[t + 1] = count(reader, 4, 0, 8)?;
+        types[t + 1] = reader.count(4, 0, 8)?;
     }
     Ok(types)
 }

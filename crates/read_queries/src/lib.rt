@@ -30,17 +30,18 @@ fn least_queries(tests: u16) -> u16
 // The word of one query, a buffer from `least` to below `buffers` and a kind up to 2.
 #[tactic(auto, unfolding(meaning::specs::Image::query))]
 fn query(reader: &mut Reader, buffers: u16, least: u16) -> Result<u16, Refusal>
+    requires { buffers ≤ 8 }
     ensures value { told_by query_by result reader.new ≡ query finer buffers least reader.old.image reader.old.at }
     ensures follows { Follows reader.old reader.new }
 {
     let buffer = reader.within(3, least, buffers, Reason::BadBuffer)?;
-    let kind = reader.within(2, 0, 3, Reason::BadNumber)?;
+    let kind = reader.count(2, 0, 2)?;
     Ok(buffer + 8 * kind)
 }
 
 // n queries into a rule's words; the buffers rise.
 fn each_query(reader: &mut Reader, n: usize, buffers: u16, own: &mut [u16]) -> Result<(), Refusal>
-    requires { (n ≤ 8) × (97 ≤ length own.old) }
+    requires { (n ≤ 8) × (buffers ≤ 8) × (97 ≤ length own.old) }
     ensures value { told_by (λ u. queries_in own.new 89 n) result reader.new ≡ rising (query finer buffers) (λ q. q.buffer) n 0 reader.old.image reader.old.at }
     ensures follows { Follows reader.old reader.new }
     ensures kept { take 89 own.new ≡ take 89 own.old }
@@ -73,7 +74,7 @@ pub fn queries(
         own[ASKED_AT] = 0;
         return Ok(());
     }
-    let asked = reader.within(4, least_queries(tests), buffers + 1, Reason::BadNumber)?;
+    let asked = reader.count(4, least_queries(tests), buffers)?;
     own[ASKED_AT] = asked;
     each_query(reader, asked as usize, buffers, own)
 }

@@ -1,19 +1,13 @@
 -- By the version, how many queries there are, and then each.
-use Rattle.std.proofs.Common.{rules, ◌≡◌, ◌≤◌, ◌∙◌, arith, sym, refl, true, get_or, set}
+use Rattle.std.proofs.Common.{◌≡◌, ◌∙◌, arith, sym, refl, true, get_or, set}
 use lib.Seq.{get_or-set_same, take-set-le}
 use Rattle.meaning.specs.Image.{has_queries}
 use Rattle.layout.specs.Rows.{rows_in}
 use Rattle.layout.proofs.WordLaws.{below_get}
 use Rattle.layout.proofs.KeptLaws.{begin-alike}
-use Rattle.read_queries.proofs.QueryLaws.{count_most, queries_on, few_if}
+use Rattle.read_queries.proofs.QueryLaws.{queries_on, few_if}
 use Rattle.read_queries.proofs.queries.Goals as goal
-use Rattle.read_queries.proofs.queries.Goals.{In_ok-asked, After-each_query}
-
-few : (c : In_ok-asked) → c.in_ok-asked.asked ≤ 8
-few c =
-    let a = c.args in
-    let e = rw c.least_queries.ensures at c.in_ok-asked.ensures.value in
-    omega (arith, count_most a.version a.buffers a.tests _ _ _ _ e, c.requires.0)
+use Rattle.read_queries.proofs.queries.Goals.{After-each_query}
 
 -- the count stays where it was written
 stays : (c : After-each_query) → get_or c.each_query.new.own 88 0 ≡ c.in_ok-asked.asked
@@ -29,15 +23,12 @@ returns-then-not-has_queries-clause-value c =
 pub returns-then-not-has_queries-clause-kept : goal.returns-then-not-has_queries-clause-kept
 returns-then-not-has_queries-clause-kept c = take-set-le 88 c.args.own.now 88 0 (omega arith)
 
-pub each_query-requires : goal.each_query-requires
-each_query-requires c = (few (goal.at.each_query-requires c).In_ok-asked, search rules)
-
 pub returns-clause-value : goal.returns-clause-value
 returns-clause-value c =
     let a = c.args in
     let e = rw c.least_queries.ensures at c.in_ok-asked.ensures.value in
     let asks : has_queries a.version ≡ true = sym c.has_queries.ensures ∙ c.if-not-has_queries.false in
-    queries_on a.version a.buffers a.tests _ _ _ _ e asks c.each_query.new.own (stays (goal.at.returns-clause-value c).After-each_query) _ _ (rw c.in_ok-asked.ensures.follows at c.each_query.ensures.value)
+    queries_on a.version a.buffers a.tests _ _ _ _ asks e c.each_query.new.own (stays (goal.at.returns-clause-value c).After-each_query) _ _ (rw c.in_ok-asked.ensures.follows at c.each_query.ensures.value)
 
 pub returns-clause-kept : goal.returns-clause-kept
 returns-clause-kept c =
@@ -46,4 +37,4 @@ returns-clause-kept c =
 
 pub returns-clause-few : goal.returns-clause-few
 returns-clause-few c =
-    few_if _ c.each_query.new.own (omega (arith, stays (goal.at.returns-clause-few c).After-each_query, few (goal.at.returns-clause-few c).In_ok-asked))
+    few_if _ c.each_query.new.own (omega (arith, stays (goal.at.returns-clause-few c).After-each_query, c.in_ok-asked.ensures.bounds.1, c.requires.0))
