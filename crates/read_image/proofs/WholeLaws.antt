@@ -27,8 +27,15 @@ use Rattle.layout.specs.Rows.{sizes, rule_in}
 use Rattle.layout.proofs.RowLaws.{rows-length}
 use Rattle.layout.specs.declared.Plan.{Plan}
 use Rattle.layout.specs.Plans.{places_for, plan_of, heads_on, rows_on, model_on}
+use Rattle.read_ranges.specs.Cursors.{Cursor}
+use Rattle.read_ranges.specs.Reading.{told_by}
 use Rattle.read_opening.specs.Parts.{header_in, Placed, opening_state}
 use Rattle.read_image.specs.Whole.{header_of, InBounds, Fitting, Begins, ended_by, verdict, Checked}
+
+-- what is made of an answer is made of what was read
+pub told-mapped : {A B : Type 0} (f : A → B) (r : Result A Refusal) (c : Cursor) → told_by f r c ≡ mapped f (told_by (λ x. x) r c)
+told-mapped f (Ok x) c = refl
+told-mapped f (Err e) c = refl
 
 -- ---- the opening state and its chunks
 

@@ -1,6 +1,6 @@
 // An image of any length and content whose header is read.
 ghost use Rattle.std.specs.Prelude.{◌≡◌, ◌*◌, ◌≤◌, IfOk, length};
-ghost use Rattle.read_image.specs.Whole.{begun_read, header_of, InBounds, Fitting};
+ghost use Rattle.read_image.specs.Whole.{begun_read, header_of, InBounds, Fitting, Begins};
 
 use layout::Plan;
 use meaning::{Reason, Refusal};
@@ -8,6 +8,7 @@ use read_ranges::Reader;
 use std::marker::Model;
 
 /// The bytes of an image whose header is read, where reading goes on, and the plan that the header makes.
+#[derive(Drop)]
 pub struct Begun<'a> {
     image: &'a [u8],
     at: usize,
@@ -36,7 +37,8 @@ impl<'a> Begun<'a> {
 
     /// Reading goes on after the header.
     pub fn reader(&self) -> Reader<'a>
-        ensures { result ≡ record { image = self.now.image; at = self.now.at } }
+        ensures value { result ≡ record { image = self.now.image; at = self.now.at } }
+        ensures begins { Begins self.now.image self.now.at self.now.plan }
     {
         Reader::resume(self.image, self.at)
     }

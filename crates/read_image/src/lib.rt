@@ -41,21 +41,16 @@ fn finish(reader: &Reader) -> Result<(), Refusal>
 {
     let padding = (8 - reader.at() % 8) % 8;
     if reader.ahead(padding) != 0 {
-        return Err(Reason::BadEnd.into());
+        return Err(Refusal::from(Reason::BadEnd));
     }
     if reader.at() + padding != reader.end() {
-        return Err(Reason::BadEnd.into());
+        return Err(Refusal::from(Reason::BadEnd));
     }
     Ok(())
 }
 
 // The facts and rules of a plan and the end: laid on the tape after what is there.
-fn contents(
-    reader: &mut Reader,
-    types: &[u16],
-    plan: Plan,
-    tape: &mut [u16],
-) -> Result<(), Refusal>
+fn contents(reader: &mut Reader, types: &[u16], plan: Plan, tape: &mut [u16]) -> Result<(), Refusal>
     requires { Small types.now × (0 < length types.now) × InBounds plan × (plan.end ≤ length tape.old) }
     ensures tape_after { told_by (λ u. contents_on plan tape.new) result reader.new
         ≡ contents finer plan.version (sizes plan.buffers types.now) plan.facts plan.rules reader.old.image reader.old.at }
@@ -91,9 +86,10 @@ pub fn lay_out(begun: &Begun, tape: &mut [u16]) -> Result<usize, Refusal>
     Ok(reader.at())
 }
 
-// The same on a tape of its own.
+// The same on a tape of its own, which stands on the stack no longer than this.
+#[inline(never)]
 fn check_in<const TAPE: usize>(begun: &Begun) -> Result<usize, Refusal>
-    requires { begun.now.plan.end ≤ TAPE }
+    requires taped { (begun.now.plan.end ≤ TAPE) × (TAPE ≤ 58328) }
     ensures { Checked result begun.now.plan begun.now.image }
 {
     let mut tape = [0u16; TAPE];

@@ -17,6 +17,7 @@ pub use sizes::Sizes;
 use std::marker::Model;
 
 /// The bytes of an image of at most 65,536 bytes, and the bit that is read next, at most its end.
+#[derive(Drop)]
 pub struct Reader<'a> {
     image: &'a [u8],
     at: usize,
@@ -50,9 +51,10 @@ impl<'a> Reader<'a> {
         Reader { image, at }
     }
 
-    /// The bit that is read next.
+    /// The bit that is read next, at most the end, which is bit 524,288 at most.
     pub fn at(&self) -> usize
-        ensures { result ≡ self.now.at }
+        ensures value { result ≡ self.now.at }
+        ensures inside { (result ≤ 8 * length self.now.image) × (length self.now.image ≤ 65536) }
     {
         self.at
     }

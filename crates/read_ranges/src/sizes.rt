@@ -5,6 +5,7 @@ ghost use Rattle.layout.specs.Rows.{sizes};
 use std::marker::Model;
 
 /// At most 8 buffers, and the slot counts of one type at least.
+#[derive(Drop)]
 pub struct Sizes<'a> {
     buffers: u16,
     types: &'a [u16],

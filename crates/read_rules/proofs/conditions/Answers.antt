@@ -22,7 +22,7 @@ returns-then-not-stood c =
     let a = c.args in
     let k : every (stands_in (tests_in c.tests.new.words 0 a.h.tests)) (up_from 0 a.h.variables) ≡ false = search rules in
     let bad = unstood a.version a.sizes.now a.reader.now.image a.reader.now.at a.h _ _ c.in_ok-tests.ensures.n_after k in
-    record { reads = rw c.at.ensures (sym bad); follows = c.tests.ensures.follows; few = search rules }
+    record { reads = rw c.at.ensures.value (sym bad); follows = c.tests.ensures.follows; few = search rules }
 
 pub returns : goal.returns
 returns c =
