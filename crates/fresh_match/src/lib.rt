@@ -54,7 +54,7 @@ fn look(words: &[u16], o: usize, n: usize, state: &[u16]) -> Looked
     Looked::Holds
 }
 
-// Whether a query holds in a state.
+// Whether a query holds in a state. (Not by `match_rule::ask`: this engine shares with the kept one the match of a rule with variables alone, docs/DECISIONS.md, 66.)
 fn answers(query: u16, state: &[u16]) -> bool
     requires { 88 ≤ length state.now }
     ensures { result ≡ answers (ask_of (query / 8)) (buffer_in state.now (query % 8)) }

@@ -25,9 +25,10 @@ pub const SURE_AT: usize = 48;
 
 const BEDS_AT: usize = 52;
 
-/// The words that a run keeps of its rules: of at most 64, which cost little to clear, and of the most that an image can have.
+/// The words that a run keeps of at most 64 rules, which cost little to clear.
 pub const SMALL_SETS: usize = 308;
 
+/// The words that a run keeps of the most rules that an image can have.
 pub const LARGE_SETS: usize = 1076;
 
 // The bed for a word of the state and the value wanted there.

@@ -34,6 +34,7 @@ fn settle(sets: &mut [u64], order: &[u16], k: usize, tried: Tried)
 }
 
 // Rule k is matched again: its entry is made afresh, and what it gave is noted.
+// (`match_table::entry_at` begins alike, but says nothing of why; one function for both would need a contract longer than what they share.)
 fn visit(
     table: &mut [u16],
     sets: &mut [u64],
@@ -68,6 +69,7 @@ fn visit_all(
     ensures { VisitedAll heads.now words.now order.now state.now w todo 64
         table.old table.new sets.old sets.new }
 {
+    // A `while`, for speed: a turn for each rule in the set.
     let mut rest = todo;
     while rest != 0 {
         let k = 64 * w + match_sets::lowest(rest);

@@ -30,8 +30,8 @@ fn with(x: u64, i: usize, on: bool) -> u64
     if on { x | one } else { (x | one) ^ one }
 }
 
-/// Number k goes into the set that starts at word `at`, or out of it.
-pub fn set(sets: &mut [u64], at: usize, k: usize, on: bool)
+// Number k goes into the set that starts at word `at`, or out of it.
+fn set(sets: &mut [u64], at: usize, k: usize, on: bool)
     requires { at + k / 64 < length sets.old }
     ensures { (j i : ℕ) → has sets.new j i ≡ (if on then (has sets.old j i || (eqb j (at + k / 64) && eqb i (k % 64)))
         else (has sets.old j i && not (eqb j (at + k / 64) && eqb i (k % 64)))) }
