@@ -20,6 +20,7 @@ pub const NEWS_WORDS: usize = 88;
 const NIL: [u16; 9] = [0; 9];
 
 // A mask with place b set or unset.
+#[tactic(auto, using(crate::proofs::ClearLaws::placing))]
 fn placed(mask: u16, b: u16, on: bool) -> u16
     requires { b < 8 }
     ensures { (j : ℕ) → bit result j ≡ (if eqb j b then on else bit mask j) }
