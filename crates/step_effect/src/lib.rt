@@ -29,6 +29,7 @@ fn fill(state: &mut [u16], k: usize, isa: u16, from: &[u16], at: usize, delay: u
 }
 
 /// Writes nil over buffer k, visible after some ms, with the word of its error flag.
+#[tactic(auto, unfolding(layout::specs::Rows::rows_in))]
 pub fn nil(state: &mut [u16], k: usize, delay: u16, flag: u16)
     requires { (88 ≤ length state.old) × (k < 8) }
     ensures { Remade state.old state.new k (nil_in delay flag) }

@@ -20,6 +20,7 @@ pub const NEWS_WORDS: usize = 88;
 const NIL: [u16; 9] = [0; 9];
 
 // A mask with place b set or unset.
+#[tactic(auto, using(crate::proofs::ClearLaws::placing))]
 fn placed(mask: u16, b: u16, on: bool) -> u16
     requires { b < 8 }
     ensures { (j : ℕ) → bit result j ≡ (if eqb j b then on else bit mask j) }
@@ -115,17 +116,11 @@ fn join(news: &mut [u16], n: usize, state: &[u16], b: usize, plan: Plan, tape: &
         ++ map learned (joining (chunks_of (facts_on plan tape.now) ++ chunks_of (facts_in news.old n)) (given (buffer_in state.now b)))) }
     ensures more { result ≤ n + 1 }
 {
-    if !gives(state, b) {
-        return n;
+    if gives(state, b) && !known(state, b, plan, tape) && !among(state, b, news, n) {
+        write_row(news, n, state, b);
+        return n + 1;
     }
-    if known(state, b, plan, tape) {
-        return n;
-    }
-    if among(state, b, news, n) {
-        return n;
-    }
-    write_row(news, n, state, b);
-    n + 1
+    n
 }
 
 /// Writes the chunks that the firing of rule k would add to the store, as rows of facts, into `news`; how many they are (none where no store is lent).
