@@ -21,6 +21,8 @@ chosen c = simp to_end at c.best.ensures.by_index c.args.clock
 entered : (c : After-best) → let a = c.args in Entered (heads_on a.plan a.tape.now) (rows_on a.plan a.tape.now) a.state.now c.best.result (entry c)
 entered c = simp to_end at c.best.ensures.entry
 
+-- the rule that is chosen fires
+-- with the nine words of its entry
 pub returns-in-Some-clause-move_met : goal.returns-in-Some-clause-move_met
 returns-in-Some-clause-move_met c =
     let a = c.args in
