@@ -1,12 +1,12 @@
 // Reading an image field by field: its bytes and a place in them are one value, and a field that breaks its rule is an error.
 #![tactic(auto)]
 
-ghost use Rattle.std.specs.Prelude.{◌≡◌, ◌*◌, ◌≤◌, ◌<◌, ℕ, IfOk, length};
+ghost use Rattle.std.specs.Prelude.{◌≡◌, ◌*◌, ◌≤◌, ◌<◌, ◌+◌, ℕ, IfOk, IfSome, length};
 ghost use Rattle.meaning.specs.Bits.{field_at};
 ghost use Rattle.meaning.specs.Numbers.{bad_number};
 ghost use Rattle.meaning.specs.Read.{field, must};
 ghost use Rattle.meaning.specs.Reasons.{number_of};
-ghost use Rattle.meaning.specs.Image.{a_type, anything};
+ghost use Rattle.meaning.specs.Image.{a_type, anything, between};
 ghost use Rattle.layout.specs.Walks.{in_range};
 ghost use Rattle.read_ranges.specs.Reading.{told, told_or, Follows};
 
@@ -40,6 +40,14 @@ impl<'a> Reader<'a> {
         ensures { result ≡ record { image = image.now; at = 0 } }
     {
         Reader { image, at: 0 }
+    }
+
+    /// Goes on at a bit of an image, or at its end.
+    pub fn resume(image: &'a [u8], at: usize) -> Reader<'a>
+        requires { (length image.now ≤ 65536) × (at ≤ 8 * length image.now) }
+        ensures { result ≡ record { image = image.now; at = at } }
+    {
+        Reader { image, at }
     }
 
     /// The bit that is read next.
@@ -88,6 +96,7 @@ impl<'a> Reader<'a> {
         ensures value { (number : ℕ) → 0 < number → told_or number self.old.at result self.new
             ≡ field width (must number (in_range low end)) self.old.image self.old.at }
         ensures follows { Follows self.old self.new }
+        ensures bounds { IfOk result (λ v. IfSome v (λ n. (low ≤ n) × (n < end))) }
     {
         let value = self.field(width)?;
         if value < low || end <= value {
@@ -107,9 +116,20 @@ impl<'a> Reader<'a> {
         requires { width ≤ 16 }
         ensures value { told result self.new ≡ field width (must (number_of reason) (in_range low end)) self.old.image self.old.at }
         ensures follows { Follows self.old self.new }
+        ensures bounds { IfOk result (λ n. (low ≤ n) × (n < end)) }
     {
         let at = self.at;
         self.ranged(width, low, end)?.ok_or(Refusal { reason, at })
+    }
+
+    /// A version, count or kind from `low` to `high`.
+    pub fn count(&mut self, width: usize, low: u16, high: u16) -> Result<u16, Refusal>
+        requires { (width ≤ 16) × (high < 65535) }
+        ensures value { told result self.new ≡ field width (must bad_number (between low high)) self.old.image self.old.at }
+        ensures follows { Follows self.old self.new }
+        ensures bounds { IfOk result (λ n. (low ≤ n) × (n ≤ high)) }
+    {
+        self.within(width, low, high + 1, Reason::BadNumber)
     }
 
     /// A type from `least` (0 or 1) to the last of `types`.

@@ -38,7 +38,7 @@ returns-in_default-clause-value c =
     let a = c.args in
     let r = a.self.now in
     let g = field-got 6 _ r.image r.at _ _ (sym c.in_ok-k.ensures.value) in
-    absurd (omega (arith, g.is, field_at-lt r.image r.at 6, c.in_default.if-k-lt64-own.false))
+    absurd (omega (arith, g.is, field_at-lt r.image r.at 6))
 
 pub returns-else-least-gt0-clause-value : goal.returns-else-least-gt0-clause-value
 returns-else-least-gt0-clause-value c =
