@@ -7,16 +7,14 @@ use mathlib.Core.List.{List, [], ◌∷◌, ◌++◌, map, append-nil, append_as
 use native.Mathlib.Omega.{arith}
 use lib.ListN.{length, set, take}
 use lib.Seq.{get_or-set_same, get_or-set_other}
-use lib.Dec.{eqb, ltb, leb}
-use borrow.Author.Tests.{ltb-false, ltb-true, le-leb}
+use lib.Dec.{eqb, ltb}
+use borrow.Author.Tests.{ltb-false, le-leb}
 use Rattle.meaning.specs.Numbers.{finer, bad_mask, bad_variable}
 use Rattle.meaning.specs.Base.{keep, admit, up_from}
 use Rattle.meaning.specs.Bits.{field_at}
 use Rattle.meaning.specs.Model.{Named, symbol, variable}
 use Rattle.meaning.specs.Read.{Read, read_refused, read_got, follow, field, must}
 use Rattle.meaning.specs.Image.{names, slots_in, terms, term_of, a_term, a_mask, masked}
-use Rattle.laws.specs.BaseLaws.{and_right}
-use Rattle.laws.specs.ReadLaws.{FieldRead, field-got, must-kept}
 use Rattle.layout.specs.Walks.{mapped, in_range}
 use Rattle.layout.specs.Rows.{word_term, named_at, named_by, masked_in}
 use Rattle.layout.proofs.RowLaws.{masked_row}
@@ -51,12 +49,6 @@ word-term variables t h g =
       | true ↦ λ e. refl
       | false ↦ λ e. let l : 4096 ≤ t = ltb-false t 4096 e in ap variable (omega arith)
     ]) refl
-
--- a field that was read in a range is below its end
-pub range-below : (w number low end : ℕ) (s : List ℕ) (p n q : ℕ) → read_got n q ≡ field w (must (suc number) (in_range low end)) s p → n < end
-range-below w number low end s p n q e =
-    let f : FieldRead w (must (suc number) (in_range low end)) s p n q = field-got w _ s p n q (sym e) in
-    ltb-true n end (and_right (leb low n) (ltb n end) (must-kept number _ f.kept))
 
 -- a term is read as a field below an end
 term-range : (variables : ℕ) (s : List ℕ) (p : ℕ) → field 13 (must bad_variable (in_range 0 (4096 + variables))) s p ≡ field 13 (must bad_variable (a_term variables)) s p
@@ -93,11 +85,11 @@ module _ (m variables : ℕ) (s : List ℕ) where
       unfolding on_to terms
       on-bad x y g = rw (rest-on m b h e, ← (g ∙ term-range variables s at))
 
-      pub on-turn : (t q : ℕ) → variables ≤ 8 → length xs ≡ 8 → read_got t q ≡ field 13 (must bad_variable (in_range 0 (4096 + variables))) s at
+      pub on-turn : (t q : ℕ) → variables ≤ 8 → length xs ≡ 8 → t < 4096 + variables → read_got t q ≡ field 13 (must bad_variable (in_range 0 (4096 + variables))) s at
           → on_to m variables s (set xs b t) (b + 1) q ≡ on_to m variables s xs b at
       unfolding on_to terms
-      on-turn t q hn hl g =
-          rw (rest-on m b h e, ← (g ∙ term-range variables s at), passed_on m xs b t e (omega arith), word-term variables t hn (range-below 13 11 0 (4096 + variables) s at t q g)) (go (terms finer variables (rest m (b + 1)) s q))
+      on-turn t q hn hl ht g =
+          rw (rest-on m b h e, ← (g ∙ term-range variables s at), passed_on m xs b t e (omega arith), word-term variables t hn ht) (go (terms finer variables (rest m (b + 1)) s q))
         where
           go : (r : Read (List Named))
               → mapped (λ ns. (map (named_at xs) (below m b) ++ (record { slot = b; term = term_of t } ∷ [])) ++ ns) r

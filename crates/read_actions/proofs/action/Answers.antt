@@ -1,7 +1,5 @@
 -- The row that is written says the action: its buffer, and its deed.
-use Rattle.std.proofs.Common.{◌∙◌, sym, ap, ◌<◌, arith}
-use Rattle.laws.specs.BitsLaws.{field_at-lt}
-use Rattle.laws.specs.ReadLaws.{field-got}
+use Rattle.std.proofs.Common.{◌∙◌, ap, ◌<◌, arith}
 use Rattle.meaning.specs.Model.{Action}
 use Rattle.layout.specs.Rows.{tests_in}
 use Rattle.read_ranges.specs.Reading.{told_by}
@@ -16,8 +14,7 @@ returns-clause-row_after c =
     let b = c.in_ok-buffer.buffer in
     let first = c.in_ok-buffer.ensures in
     let row = c.deed.new.row in
-    let g = field-got 3 _ r.image r.at _ _ (sym first.value) in
-    let small : b < 8 = omega (arith, g.is, field_at-lt r.image r.at 3) in
+    let small : b < 8 = omega (arith, first.bounds, c.buffers.ensures.few) in
     let ts = tests_in a.tests.now 0 a.n in
     let says = λ (x : Action). told_by {A = Unit} (λ u. x) c.deed.result c.deed.new.reader in
     ap says (action-row a.row.now row b c.requires.3 small c.deed.ensures.kept)

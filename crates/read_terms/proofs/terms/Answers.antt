@@ -43,7 +43,7 @@ loop-slot-preserved c =
           let read = w.in_ok-slots.ensures in
           let on : names a.mask l.slot ≡ true = names-on a.mask l.slot w.if-mask-slot-eq1.true in
           let more : length (rest a.mask l.slot) ≡ suc (length (rest a.mask (l.slot + 1))) = ap length (rest-on a.mask l.slot low on) in
-          let turn = on-turn a.mask a.variables l.reader.image l.slots l.slot l.reader.at low on _ _ c.requires.1 h.long read.value in
+          let turn = on-turn a.mask a.variables l.reader.image l.slots l.slot l.reader.at low on _ _ c.requires.1 h.long read.bounds.1 read.value in
           record {
             reads = rw (w.reader-is, w.slots-is, read.follows) (turn ∙ h.reads);
             follows = rw w.reader-is (read.follows ∙ h.follows);

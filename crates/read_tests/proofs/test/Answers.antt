@@ -1,7 +1,5 @@
 -- The row that is written says the test: its buffer, its type, and its mask with the terms.
-use Rattle.std.proofs.Common.{◌∙◌, sym, ap, ◌<◌, arith}
-use Rattle.laws.specs.BitsLaws.{field_at-lt}
-use Rattle.laws.specs.ReadLaws.{field-got}
+use Rattle.std.proofs.Common.{◌∙◌, ap, ◌<◌, arith}
 use Rattle.meaning.specs.Model.{Test}
 use Rattle.layout.specs.Rows.{masked_in}
 use Rattle.read_ranges.specs.Reading.{told_by}
@@ -15,8 +13,7 @@ returns-clause-row_after c =
     let first = c.in_ok-buffer.ensures in
     let second = c.in_ok-isa.ensures in
     let row = c.masked.new.row in
-    let g = field-got 3 _ r.image r.at _ _ (sym first.value) in
-    let small : c.in_ok-buffer.buffer < 8 = omega (arith, g.is, field_at-lt r.image r.at 3) in
+    let small : c.in_ok-buffer.buffer < 8 = omega (arith, first.bounds, c.buffers.ensures.few) in
     let says = λ (t : Test). told_by {A = Unit} (λ u. t) c.masked.result c.masked.new.reader in
     ap says (test-row a.row.now row _ _ c.requires.1 small c.masked.ensures.kept)
     ∙ test_on a.sizes.now a.variables a.least r.image r.at _ _ (rw c.buffers.ensures.value at first.value) _ _ (rw (c.types.ensures.value, first.follows) at second.value)
