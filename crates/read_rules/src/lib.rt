@@ -112,8 +112,7 @@ pub fn rules(
     for k in 0..n {
         let o = rows + RULE_WORDS * k;
         let four = rule(reader, version, sizes, &mut words[o..])?;
-        let at = HEAD_WORDS * k;
-        words[at..at + HEAD_WORDS].copy_from_slice(&four);
+        layout::copy_into(words, HEAD_WORDS * k, &four);
     }
     Ok(())
 }

@@ -6,7 +6,7 @@ use Rattle.meaning.specs.Read.{Read, Reader, read_got}
 use Rattle.meaning.specs.Numbers.{finer}
 use Rattle.meaning.specs.Image.{rule}
 use Rattle.layout.specs.Rows.{rows_in, rules_in}
-use Rattle.layout.proofs.WordLaws.{part-put, lent-sets}
+use Rattle.layout.proofs.WordLaws.{part-put}
 use Rattle.read_rules.specs.Heads.{rule_by}
 use Rattle.layout.proofs.LoopLaws.{along, along-start, along-bad, along-turn, along-end}
 use Rattle.read_rules.proofs.RowsOfRules.{tape-more, tape-laid, laid_none}
@@ -38,18 +38,16 @@ loop-k-preserved c =
     let here : l.k < a.n = omega arith in
     let as_long : length w ≡ length l.words = same_len_mid o (length l.words - o) l.words own c.rule.auto.own in
     let room : a.rows + 185 * a.n ≤ length l.words = omega (arith, c.requires.2, l.invariant.long) in
-    let copied : c.copy_from_slice.new.self ≡ four = search rules in
     let long : length four ≡ 4 = search rules in
     let put = part-put o l.words own in
-    let written = lent-sets (4 * l.k) 4 w four (omega (arith, as_long, room, c.requires.1)) long in
-    let more = tape-more l.words w _ four own a.rows l.k a.n l.invariant.laid here c.requires.1 room long put as_long written in
-    let laid = tape-laid l.words w _ four own a.rows l.k a.n l.invariant.laid here c.requires.1 room long put as_long written c.requires.0 c.in_ok-four.ensures.fits in
+    let more = tape-more l.words w _ four own a.rows l.k a.n l.invariant.laid here c.requires.1 room long put as_long c.copy_into.ensures in
+    let laid = tape-laid l.words w _ four own a.rows l.k a.n l.invariant.laid here c.requires.1 room long put as_long c.copy_into.ensures c.requires.0 c.in_ok-four.ensures.fits in
     let turn = along-turn (one (goal.at.loop-k-preserved c).Start) _ a.n (rules_in l.words (drop a.rows l.words) l.k) l.k _ here (rule_by four own) _ c.in_ok-four.ensures.value in
     record {
-      reads = rw (copied, more, c.in_ok-four.ensures.follows) (turn ∙ l.invariant.reads);
+      reads = rw (more, c.in_ok-four.ensures.follows) (turn ∙ l.invariant.reads);
       follows = search rules;
       long = search rules;
-      laid = rw copied laid;
+      laid = laid;
     }
 
 pub returns-clause-n_after : goal.returns-clause-n_after
