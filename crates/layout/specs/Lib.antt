@@ -4,4 +4,3 @@ pub mod Rows
 pub mod StateWords
 pub mod Plans
 pub mod Growth
-pub mod Prepared

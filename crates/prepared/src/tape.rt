@@ -1,9 +1,10 @@
 // A plan and the tape that an accepted image was laid out on by it, as one value that is read.
 ghost use Rattle.std.specs.Prelude.{◌≡◌, ◌+◌, ◌*◌, ◌≤◌, ◌<◌, get_or, drop};
 ghost use Rattle.layout.specs.Plans.{heads_on, rows_on, order_on, types_on, Planned};
-ghost use Rattle.layout.specs.Prepared.{chains_on};
+ghost use Rattle.prepared.specs.Views.{chains_on};
 
-use crate::{FACTS_AT, HEAD_WORDS, OPENING_AT, Plan, RULE_WORDS, RuleWords};
+use crate::RuleWords;
+use layout::{FACTS_AT, HEAD_WORDS, OPENING_AT, Plan, RULE_WORDS};
 use std::marker::Model;
 
 /// A plan and a tape that mean a model: what the counts say stands in the sections, and no rule has more than eight tests, queries or actions.
@@ -15,7 +16,7 @@ pub struct Prepared<'a> {
 
 impl<'a> Model for Prepared<'a> {
     ghost use Rattle.layout.specs.Plans.{Planned};
-    ghost use Rattle.layout.specs.Prepared.{Laying};
+    ghost use Rattle.prepared.specs.Views.{Laying};
 
     ghost Value = { Laying };
 

@@ -1,7 +1,7 @@
 // The words of a rule, as one value that is read.
 ghost use Rattle.std.specs.Prelude.{◌≡◌, ◌+◌, ◌≤◌, ◌<◌, length, get_or};
 
-use crate::{ASKED_AT, QUERIES_AT};
+use layout::{ASKED_AT, QUERIES_AT};
 use std::marker::Model;
 
 /// Words among which a rule's begin at a place: at most eight tests of eleven words each, and from word 88 on how many queries there are, at most eight, and a word for each.
@@ -14,7 +14,7 @@ pub struct RuleWords<'a> {
 
 impl<'a> Model for RuleWords<'a> {
     ghost use Rattle.std.specs.Prelude.{◌+◌, ◌≤◌, length, get_or};
-    ghost use Rattle.layout.specs.Prepared.{Standing};
+    ghost use Rattle.prepared.specs.Views.{Standing};
 
     ghost Value = { Standing };
 
