@@ -4,14 +4,13 @@
 
 ghost use Rattle.std.specs.Prelude.{◌≡◌};
 ghost use Rattle.meaning.specs.Calls.{needed_of};
-ghost use Rattle.calls.specs.Answers.{needed_in};
+ghost use Rattle.calls.specs.Answers.{answered, needed_in};
 
 pub use call_open::{OpenDone, open};
 pub use call_refresh::{RefreshDone, refresh};
 pub use call_run::{RunDone, run, run_lent, trace};
 pub use fresh_call::{FreshDone, fresh_lent, run_fresh, trace_fresh};
-use layout::Walk;
-use meaning::numbers::ALL_DONE;
+use meaning::{ALL_DONE, Refusal};
 
 /// What the table's length answers: the number, the position of the refused field if there is one, else 0, and the words.
 #[derive(Clone, Copy, Debug, PartialEq, Eq)]
@@ -21,23 +20,36 @@ pub struct LengthDone {
     pub words: u16,
 }
 
+// What the table's length answers of the words needed, or of a refusal.
+fn answered(needed: Result<u16, Refusal>) -> LengthDone
+    ensures { result ≡ answered needed }
+{
+    match needed {
+        Ok(words) => LengthDone {
+            number: ALL_DONE,
+            position: 0,
+            words,
+        },
+        Err(refusal) => LengthDone {
+            number: refusal.reason.number(),
+            position: refusal.at,
+            words: 0,
+        },
+    }
+}
+
+// The words that the table of an image needs, or why the image is refused.
+fn words_needed(image: &[u8]) -> Result<u16, Refusal>
+    ensures { needed_in (answered result) ≡ needed_of image.now }
+{
+    let begun = read_image::begin(image, false)?;
+    read_image::check(&begun)?;
+    Ok(9 * begun.plan().rules)
+}
+
 /// The words that the table of an image needs: nine for each rule; and the number, which tells an image without rules from one that is refused.
 pub fn table_length(image: &[u8]) -> LengthDone
     ensures { needed_in result ≡ needed_of image.now }
 {
-    let begun = read_image::begin(image, false);
-    let plan = begun.plan;
-    let walk = read_image::check(image, begun);
-    if let Walk::Bad(number, at) = walk {
-        return LengthDone {
-            number,
-            position: at,
-            words: 0,
-        };
-    }
-    LengthDone {
-        number: ALL_DONE,
-        position: 0,
-        words: 9 * plan.rules,
-    }
+    answered(words_needed(image))
 }
