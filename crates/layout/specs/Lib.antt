@@ -4,3 +4,4 @@ pub mod Rows
 pub mod StateWords
 pub mod Plans
 pub mod Growth
+pub mod Prepared

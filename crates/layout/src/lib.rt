@@ -10,6 +10,12 @@ ghost use Rattle.std.specs.Prelude.{◌≡◌, ◌+◌, ◌≤◌, length};
 ghost use Rattle.std.proofs.lemmas.List.Edits.{sets};
 ghost use Rattle.layout.specs.Plans.{places_for, plan_of};
 
+mod prepared;
+mod rule;
+
+pub use prepared::Prepared;
+pub use rule::RuleWords;
+
 // How many words stand for one thing: a row; a rule, which has eight tests, how many queries, eight queries and eight actions; a rule's head; an entry of the table.
 pub const ROW_WORDS: usize = 11;
 

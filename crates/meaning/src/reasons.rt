@@ -56,6 +56,8 @@ pub struct Refusal {
 
 /// A refusal that no field of the image is the cause of.
 impl From<Reason> for Refusal {
+    ghost from_gives = { λ reason refusal. refusal ≡ record { reason = reason; at = 0 } };
+
     fn from(reason: Reason) -> Refusal {
         Refusal { reason, at: 0 }
     }
