@@ -1,4 +1,5 @@
 // The lines of a run in letters, one after the other into lent bytes.
+// (Not by `Display`: for all that the contract of `write!` says it may answer `Err`, and here every letter has to come, whatever the line.)
 #![tactic(auto)]
 
 ghost use Rattle.std.specs.Prelude.{◌+◌, ◌*◌, ◌≤◌, length};
@@ -27,7 +28,7 @@ fn put_number(text: &mut [u8], at: usize, n: u32) -> usize
     put(text, at, &room[..k])
 }
 
-// Puts what a step was, by its kind: 0 a firing, else a wait.
+// Puts what a step was, by its kind: 0 a firing, else a wait. (A number, since three words an event are the interface for C.)
 fn put_kind(text: &mut [u8], at: usize, kind: u32) -> usize
     requires { at + 6 ≤ length text.old }
     ensures { Written text.old at text.new result 6 (word kind) }

@@ -1,6 +1,6 @@
 -- Laws of a buffer laid into its eleven words.
-use Prim.Native.Nat.{ℕ, zero, suc, ◌+◌, ◌*◌, ◌≤◌, ◌<◌}
-use mathlib.Core.Path.{◌≡◌, refl, sym, ap, ap₂, subst, ◌∙◌}
+use Prim.Native.Nat.{ℕ, suc, ◌+◌, ◌*◌, ◌≤◌, ◌<◌}
+use mathlib.Core.Path.{◌≡◌, refl, sym, ap, ap₂, ◌∙◌}
 use mathlib.Core.Bool.{Bool, true, false}
 use mathlib.Core.List.{List, [], ◌∷◌, ◌++◌, append_assoc, map}
 use native.Mathlib.Omega.{arith}
@@ -8,19 +8,15 @@ use native.Mathlib.Numerals.{add-one}
 use lib.Dec.{eqb}
 use lib.ListN.{length, get_or, set, take, length-append, length-map, get_or-append}
 use lib.Seq.{sets, take-suc, ext_get_or, get_or_at, get_or-append-add}
-use Rattle.std.specs.Array.{IsFromFnResultFrom}
-use Rattle.std.specs.Fn.{Called}
-use denote.Param.Members.{Mut}
 use Rattle.meaning.specs.declared.Buffer.{Buffer}
 use Rattle.meaning.specs.State.{nothing}
-use Rattle.meaning.specs.Base.{up_from}
 use Rattle.layout.specs.Rows.{rows_in}
-use Rattle.layout.specs.StateWords.{buffer_in, buffers_in}
+use Rattle.layout.specs.StateWords.{buffer_in}
 use Rattle.laws.specs.BaseLaws.{by-lt}
 use Rattle.layout.proofs.WordLaws.{sets-at, sets-take, below_get}
 use Rattle.layout.proofs.RowLaws.{rows_more, rows_same, rows_get, rows-length}
-use Rattle.layout.proofs.StateLaws.{buffer-like, buffer-is}
-use Rattle.layout_state.specs.Words.{flag_word, Flags, buffer_at}
+use Rattle.layout.proofs.StateLaws.{buffer-like}
+use Rattle.layout_state.specs.Words.{flag_word, Flags}
 
 -- one word more after others
 pub sets_last : (w : List ℕ) (q : ℕ) (xs : List ℕ) (y : ℕ) → set (sets w q xs) (q + length xs) y ≡ sets w q (xs ++ (y ∷ []))
@@ -109,36 +105,3 @@ lay-more w w' k bs h before made kept =
 pub flags-more : (w w' : List ℕ) (k : ℕ) → Flags w k → get_or w' (11 * k + 10) 0 ≤ 1 → take (11 * k) w' ≡ take (11 * k) w → Flags w' (k + 1)
 flags-more w w' k before flag kept j h =
     by-lt j k (λ l. rw (below_get (11 * k) w w' kept (11 * j + 10) (omega arith)) (before j l)) (λ l. let e : j ≡ k = omega arith in rw e flag)
-
--- ---- a buffer read from its eleven words
-
--- numbers from 1 on, and the rows one place further
-numbered : {A : Type 0} (f : ℕ → A) (o i n : ℕ) → map (λ b. f (o + b)) (up_from (1 + i) n) ≡ rows_in (λ b. f (o + 1 + b)) i n
-unfolding rows_in
-numbered f o i zero = refl
-numbered {A} f o i (suc n) =
-    let e : 1 + i + 1 ≡ 1 + (i + 1) = omega arith in
-    let g : o + (1 + i) ≡ o + 1 + i = omega arith in
-    ap₂ (λ (x : A) (l : List A). x ∷ l) (ap f g) (ap (λ (j : ℕ). map (λ b. f (o + b)) (up_from j n)) e ∙ numbered f o (i + 1) n)
-
-pub buffer-at : (w : List ℕ) (k : ℕ) → buffer_at w (11 * k) ≡ buffer_in w k
-buffer-at w k =
-    let z : 11 * k + 0 ≡ 11 * k = omega arith in
-    ap (λ (l : List ℕ). record { isa = get_or w (11 * k) 0; slots = l; delay = get_or w (11 * k + 9) 0; error = eqb (get_or w (11 * k + 10) 0) 1 })
-    (numbered (λ j. get_or w j 0) (11 * k) 0 8)
-
--- an array that a function of the number made, where each call leaves the function as it was
-pub made_by : {F B : Type 0} (g : Mut F (ℕ × Unit {0}) B) (f : F) (h : ℕ → B) (d : B) (ys : List B) (i n : ℕ)
-    → ((j : ℕ) (y : B) (q : F) → Called g f (j, tt) y q → (q ≡ f) × (y ≡ h j)) → IsFromFnResultFrom g f ys i n → (k : ℕ) → i ≤ k → k < i + n → get_or ys k d ≡ h k
-made_by g f h d ys i zero e m k a b = absurd (omega arith)
-made_by {F} g f h d ys i (suc n) e m k a b =
-    let t = e i m.1 m.0 m.3 in
-    by-lt i k (λ l. made_by g f h d ys (i + 1) n e (subst (λ (p : F). IsFromFnResultFrom g p ys (i + 1) n) t.0 m.4) k (omega arith) (omega arith))
-    (λ l. let same : k ≡ i = omega arith in rw same (m.2.1 d ∙ t.1))
-
--- eight buffers, each read from its words
-pub buffers-read : (w : List ℕ) (bs : List Buffer) → length bs ≡ 8 → ((k : ℕ) → k < 8 → get_or bs k nothing ≡ buffer_at w (11 * k)) → bs ≡ buffers_in w
-buffers-read w bs e h =
-    ext_get_or nothing bs (buffers_in w) (e ∙ sym (rows-length (buffer_in w) 0 8)) (λ k l.
-    let k8 : k < 8 = omega arith in
-    h k k8 ∙ buffer-at w k ∙ sym (buffer-is w k k8))

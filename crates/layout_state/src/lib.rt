@@ -9,7 +9,6 @@ ghost use Rattle.layout_state.specs.Words.{Flags, buffer_at, stretch, all_well, 
 
 use layout::BUFFER_WORDS;
 use meaning::{Buffer, State};
-use std::array;
 
 // One buffer into its eleven words; those below are kept.
 fn lay_buffer(buffer: Buffer, words: &mut [u16], k: usize)
@@ -40,23 +39,40 @@ fn read_buffer(words: &[u16], o: usize) -> Buffer
     requires { o + 11 ≤ length words.now }
     ensures { result ≡ buffer_at words.now o }
 {
-    let mut slots = [0; 8];
-    slots.copy_from_slice(&words[o + 1..o + 9]);
     Buffer {
         isa: words[o],
-        slots,
+        slots: [
+            words[o + 1],
+            words[o + 2],
+            words[o + 3],
+            words[o + 4],
+            words[o + 5],
+            words[o + 6],
+            words[o + 7],
+            words[o + 8],
+        ],
         delay: words[o + 9],
         error: words[o + 10] == 1,
     }
 }
 
-/// The state that stands in 88 words, at a clock.
+/// The state that stands in 88 words, at a clock. (Written out: by a `for` or by `array::from_fn` a run needs 350 to 600 bytes of stack more,
+/// and so more than include/jirvuntsag.h says.)
 pub fn read_state(words: &[u16], clock: u32) -> State
     requires { 88 ≤ length words.now }
     ensures { result ≡ state_in words.now clock }
 {
     State {
-        buffers: array::from_fn(|k| read_buffer(words, BUFFER_WORDS * k)),
+        buffers: [
+            read_buffer(words, 0),
+            read_buffer(words, 11),
+            read_buffer(words, 22),
+            read_buffer(words, 33),
+            read_buffer(words, 44),
+            read_buffer(words, 55),
+            read_buffer(words, 66),
+            read_buffer(words, 77),
+        ],
         clock,
     }
 }
