@@ -8,8 +8,6 @@ ghost use Rattle.read_fields.specs.Field.{fetched, FetchMet};
 ghost use Rattle.jirvuntsag.specs.Told.{told, open_in};
 ghost use Rattle.bench_fetch.specs.Asked.{in_bounds, value_of, answer_of};
 
-use read_fields::Field;
-
 // What is answered where there is no field: no field of 16 bits is so large.
 const NO_FIELD: u32 = 65536;
 
@@ -35,15 +33,15 @@ pub fn bits_singly(image: &[u8], at: usize, width: usize) -> u16
     value
 }
 
-/// The field of `width` bits at bit `at`, or that it is not wholly there: the contract is that of `read_fields::field_at`. So either may stand for the other.
-pub fn field_singly(image: &[u8], at: usize, width: usize) -> Field
+/// The field of `width` bits at bit `at`, if it is wholly there: the contract is that of `read_fields::field_at`. So either may stand for the other.
+pub fn field_singly(image: &[u8], at: usize, width: usize) -> Option<u16>
     requires { (width ≤ 16) × (at ≤ 2 ^ 32) × (length image.now ≤ 65536) }
     ensures { FetchMet result image.now at width }
 {
     if 8 * image.len() < at + width {
-        return Field::Short;
+        return None;
     }
-    Field::Value(bits_singly(image, at, width))
+    Some(bits_singly(image, at, width))
 }
 
 // Whether a field can be asked for: 1 to 16 bits, of an image that is not too long, at a bit that is not too far.
@@ -54,13 +52,10 @@ fn in_bounds(image: &[u8], at: usize, width: usize) -> bool
 }
 
 // The value of a field, as a word.
-fn value_of(field: Field) -> u32
+fn value_of(field: Option<u16>) -> u32
     ensures { (at width : ℕ) → result ≡ value_of (fetched field at width) }
 {
-    match field {
-        Field::Value(value) => u32::from(value),
-        Field::Short => NO_FIELD,
-    }
+    field.map_or(NO_FIELD, u32::from)
 }
 
 /// A field by the fetch that takes three bytes, to be timed.
