@@ -1,4 +1,5 @@
 -- `call_refresh::refresh_for` meets its contract: the state is judged before the mark.
+use Rattle.std.specs.Prelude.{Err}
 use Prim.Native.Nat.{ℕ, ◌≤◌, ◌+◌, ◌*◌}
 use mathlib.Core.Path.{◌≡◌, refl, sym, ap}
 use mathlib.Core.List.{List}
@@ -23,7 +24,7 @@ returns-then-not-well_formed c =
     let a = c.args in
     refresh-ill a.state a.mark a.table.now (model_on a.plan a.tape.now) _ a.plan.buffers (words (goal.at.returns-then-not-well_formed c).After-lay_state) c.well_formed-2.result c.well_formed-2.ensures
     c.lay_state.ensures.words_after refl refl
-    (c.if-not-well_formed.true) _ (search rules)
+    (c.if-not-well_formed.true) (Err c.into.result) (search rules)
 
 pub returns-then-not-mark_allowed : goal.returns-then-not-mark_allowed
 unfolding model_on
@@ -31,7 +32,7 @@ returns-then-not-mark_allowed c =
     let a = c.args in
     refresh-mark a.state a.mark a.table.now (model_on a.plan a.tape.now) _ a.plan.buffers (words (goal.at.returns-then-not-mark_allowed c).After-lay_state) c.well_formed-2.result
     c.well_formed-2.ensures c.lay_state.ensures.words_after refl refl
-    (c.if-not-well_formed.false) c.mark_allowed.result c.mark_allowed.ensures (c.if-not-mark_allowed.true) _ (search rules)
+    (c.if-not-well_formed.false) c.mark_allowed.result c.mark_allowed.ensures (c.if-not-mark_allowed.true) (Err c.into-then-not-mark_allowed.result) (search rules)
 
 pub returns : goal.returns
 unfolding model_on
