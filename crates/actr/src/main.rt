@@ -33,11 +33,10 @@ fn print_model(image: &[u8], table: &mut [u16], text: &mut [u8]) -> usize
     if opened.number != 0 {
         return put_end(text, 0, opened.number, 0);
     }
-    let state = opened.state;
-    print_run(image, state, table, text)
+    print_run(image, opened.state, table, text)
 }
 
-// Puts the whole output for an image into the text, and answers how many letters it has. (A table has at most nine words for each of 256 rules.)
+/// Puts the whole output for an image into the text, and answers how many letters it has. (A table has at most nine words for each of 256 rules.)
 pub fn print(image: &[u8], text: &mut [u8; 27026]) -> usize
     ensures prefix_len { IsPrefixLen result text.new }
     ensures text_after { take result text.new ≡ lines_text (printed image.now) }

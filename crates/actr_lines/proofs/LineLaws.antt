@@ -66,8 +66,3 @@ pub steps_on : {before after last : List ℕ} {at end final : ℕ} (words : List
     → Written before at after end (27 * k) (lines_text (lines_in words 0 k)) → Written after end last final 27 (letters (line_in words k))
     → Written before at last final (27 * (k + 1)) (lines_text (lines_in words 0 (k + 1)))
 steps_on words k p q = written_as (text-more words k) (omega arith) (written-join p q)
-
--- all lines are put
-pub steps-end : {before after : List ℕ} {at end : ℕ} (words : List ℕ) (k n : ℕ) → k ≡ n
-    → Written before at after end (27 * k) (lines_text (lines_in words 0 k)) → Written before at after end (27 * n) (lines_text (lines_in words 0 n))
-steps-end words k n e w = written_as (ap (λ (i : ℕ). lines_text (lines_in words 0 i)) e) (omega arith) w

@@ -1,11 +1,11 @@
 -- Letters put one after the other.
-use Prim.Native.Nat.{ℕ, suc, ◌+◌, ◌≤◌, ◌<◌}
-use mathlib.Core.Path.{◌≡◌, sym, ap, ◌∙◌}
-use mathlib.Core.List.{List, [], ◌∷◌, ◌++◌, append_assoc, append-nil}
+use Prim.Native.Nat.{ℕ, ◌+◌, ◌≤◌}
+use mathlib.Core.Path.{◌≡◌, refl, sym, ap, ◌∙◌}
+use mathlib.Core.List.{List, [], ◌++◌, append_assoc, append-nil}
 use native.Mathlib.Omega.{arith}
-use native.Mathlib.Numerals.{add-one}
-use lib.ListN.{length, get_or, set, take, length-append, length-take}
-use lib.Seq.{take-suc, take-suc-set, take_all}
+use lib.ListN.{length, take, length-append, length-take}
+use borrow.Rule.Slice.PartMut.{put_mid}
+use Rattle.std.proofs.lemmas.Slice.{take-put_mid}
 use Rattle.io.specs.Counts.{IsPrefixLen}
 use Rattle.actr_lines.specs.Written.{Written}
 
@@ -42,21 +42,9 @@ module _ {before after letters : List ℕ} {end most : ℕ} (w : Written before 
       let l : length (take end after) ≡ length letters = ap length w.reads in
       (omega (arith, w.ends, l, length-take end after), omega (arith, w.ends, l))
 
--- ---- the loop that puts bytes
+-- ---- bytes copied over a part of a text
 
-module _ (text₀ : List ℕ) (at : ℕ) (bytes text : List ℕ) (i : ℕ) (e : take (at + i) text ≡ take at text₀ ++ take i bytes) where
-  pub put_on : at + i < length text → i < length bytes → take (at + (i + 1)) (set text (at + i) (get_or bytes i 0)) ≡ take at text₀ ++ take (i + 1) bytes
-  put_on h l =
-      let n : at + (i + 1) ≡ suc (at + i) = omega arith in
-      rw (n, add-one i)
-      (take-suc-set text (at + i) (get_or bytes i 0) h
-      ∙ ap (λ (l : List ℕ). l ++ (get_or bytes i 0 ∷ [])) e
-      ∙ append_assoc (take at text₀) (take i bytes) (get_or bytes i 0 ∷ [])
-      ∙ ap (λ (l : List ℕ). take at text₀ ++ l) (sym (take-suc bytes i 0 l)))
-
-  pub put-end : length bytes ≤ i → i ≤ length bytes → Written text₀ at text (at + i) (length bytes) bytes
-  put-end h l =
-      record { ends = omega arith; fits = omega arith; reads = e ∙ ap (λ (l : List ℕ). take at text₀ ++ l) (take_all i bytes h) }
-
-pub put-start : (text : List ℕ) (at : ℕ) (bytes : List ℕ) → take (at + 0) text ≡ take at text ++ take 0 bytes
-put-start text at bytes = let e : at + 0 ≡ at = omega arith in rw e (sym (append-nil (take at text)))
+pub put-copied : (text : List ℕ) (at n : ℕ) (bytes own : List ℕ) → own ≡ bytes → at + length bytes ≤ length text
+    → Written text at (put_mid at n text own) (at + length bytes) (length bytes) bytes
+put-copied text at n bytes own e h =
+    rw e (record { ends = refl; fits = omega arith; reads = take-put_mid at n text bytes (at + length bytes) refl (omega arith) })

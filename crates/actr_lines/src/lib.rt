@@ -1,4 +1,5 @@
 // The lines of a run in letters, one after the other into lent bytes.
+// (Not by `Display`: for all that the contract of `write!` says it may answer `Err`, and here every letter has to come, whatever the line.)
 #![tactic(auto)]
 
 ghost use Rattle.std.specs.Prelude.{◌+◌, ◌*◌, ◌≤◌, length};
@@ -12,12 +13,9 @@ fn put(text: &mut [u8], at: usize, bytes: &[u8]) -> usize
     requires { at + length bytes.now ≤ length text.old }
     ensures { Written text.old at text.new result (length bytes.now) bytes.now }
 {
-    let mut i = 0;
-    while i < bytes.len() {
-        text[at + i] = bytes[i];
-        i += 1;
-    }
-    at + i
+    let end = at + bytes.len();
+    text[at..end].copy_from_slice(bytes);
+    end
 }
 
 // Puts a number's decimal digits.
@@ -25,12 +23,12 @@ fn put_number(text: &mut [u8], at: usize, n: u32) -> usize
     requires { at + 10 ≤ length text.old }
     ensures { Written text.old at text.new result 10 (decimal n) }
 {
-    let mut room = [0u8; 20];
-    let k = io::decimal(n as u64, &mut room);
+    let mut room = [0; 20];
+    let k = io::decimal(u64::from(n), &mut room);
     put(text, at, &room[..k])
 }
 
-// Puts what a step was, by its kind: 0 a firing, else a wait.
+// Puts what a step was, by its kind: 0 a firing, else a wait. (A number, since three words an event are the interface for C.)
 fn put_kind(text: &mut [u8], at: usize, kind: u32) -> usize
     requires { at + 6 ≤ length text.old }
     ensures { Written text.old at text.new result 6 (word kind) }
@@ -53,15 +51,13 @@ fn put_step(text: &mut [u8], at: usize, clock: u32, kind: u32, value: u32) -> us
     put(text, after_value, b"\n")
 }
 
-// Puts the lines of the first `made` steps of those that three words each tell.
+/// Puts the lines of the first `made` steps of those that three words each tell.
 pub fn put_steps(text: &mut [u8], at: usize, events: &[u32], made: u16) -> usize
     requires { (3 * made ≤ length events.now) × (at + 27 * made ≤ length text.old) }
     ensures { Written text.old at text.new result (27 * made) (lines_text (lines_in events.now 0 made)) }
 {
-    let many = made as usize;
     let mut end = at;
-    let mut k = 0;
-    while k < many {
+    for k in 0..usize::from(made) {
         end = put_step(
             text,
             end,
@@ -69,19 +65,18 @@ pub fn put_steps(text: &mut [u8], at: usize, events: &[u32], made: u16) -> usize
             events[3 * k + 1],
             events[3 * k + 2],
         );
-        k += 1;
     }
     end
 }
 
-// Puts the last line: the number and the steps made.
+/// Puts the last line: the number and the steps made.
 pub fn put_end(text: &mut [u8], at: usize, number: u8, made: u16) -> usize
     requires { at + 26 ≤ length text.old }
     ensures { Written text.old at text.new result 26 (letters (end number made)) }
 {
     let after_word = put(text, at, b"end ");
-    let after_number = put_number(text, after_word, number as u32);
+    let after_number = put_number(text, after_word, u32::from(number));
     let after_blank = put(text, after_number, b" ");
-    let after_made = put_number(text, after_blank, made as u32);
+    let after_made = put_number(text, after_blank, u32::from(made));
     put(text, after_made, b"\n")
 }

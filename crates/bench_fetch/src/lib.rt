@@ -17,29 +17,25 @@ const NO_FIELD: u32 = 65536;
 fn bit_at(image: &[u8], at: usize) -> u16
     ensures { result ≡ bit_at image.now at }
 {
-    let i = at / 8;
-    if i < image.len() {
-        return ((image[i] >> (7 - at % 8)) % 2) as u16;
-    }
-    0
+    let Some(&byte) = image.get(at / 8) else {
+        return 0;
+    };
+    u16::from((byte >> (7 - at % 8)) & 1)
 }
 
-// The bits from `at` on, one a turn, the first the most significant: the contract is that of `read_fields::bits`.
+/// The bits from `at` on, one a turn, the first the most significant: the contract is that of `read_fields::bits`.
 pub fn bits_singly(image: &[u8], at: usize, width: usize) -> u16
     requires { (width ≤ 16) × (at ≤ 2 ^ 32) }
     ensures { result ≡ field_at image.now at width }
 {
-    let mut value = 0u16;
-    let mut i = 0;
-    while i < width {
-        let bit = bit_at(image, at + i);
-        value = value * 2 + bit;
-        i += 1;
+    let mut value = 0;
+    for i in 0..width {
+        value = value * 2 + bit_at(image, at + i);
     }
     value
 }
 
-// The field of `width` bits at bit `at`, or that it is not wholly there: the contract is that of `read_fields::field_at`. So either may stand for the other.
+/// The field of `width` bits at bit `at`, or that it is not wholly there: the contract is that of `read_fields::field_at`. So either may stand for the other.
 pub fn field_singly(image: &[u8], at: usize, width: usize) -> Field
     requires { (width ≤ 16) × (at ≤ 2 ^ 32) × (length image.now ≤ 65536) }
     ensures { FetchMet result image.now at width }
@@ -54,16 +50,7 @@ pub fn field_singly(image: &[u8], at: usize, width: usize) -> Field
 fn in_bounds(image: &[u8], at: usize, width: usize) -> bool
     ensures { result ≡ in_bounds image.now at width }
 {
-    if width < 1 {
-        return false;
-    }
-    if 16 < width {
-        return false;
-    }
-    if 4294967296 < at {
-        return false;
-    }
-    image.len() <= 65536
+    1 <= width && width <= 16 && at <= 4294967296 && image.len() <= 65536
 }
 
 // The value of a field, as a word.
@@ -71,12 +58,12 @@ fn value_of(field: Field) -> u32
     ensures { (at width : ℕ) → result ≡ value_of (fetched field at width) }
 {
     match field {
-        Field::Value(value) => value as u32,
+        Field::Value(value) => u32::from(value),
         Field::Short => NO_FIELD,
     }
 }
 
-// A field by the fetch that takes three bytes, to be timed.
+/// A field by the fetch that takes three bytes, to be timed.
 pub fn jirvuntsag_bench_field(image: &[u8], at: usize, width: usize) -> u32
     ensures { result ≡ answer_of image.now at width }
 {
@@ -86,7 +73,7 @@ pub fn jirvuntsag_bench_field(image: &[u8], at: usize, width: usize) -> u32
     value_of(read_fields::field_at(image, at, width))
 }
 
-// The same by the fetch that takes one bit at a time.
+/// The same by the fetch that takes one bit at a time.
 pub fn jirvuntsag_bench_field_singly(image: &[u8], at: usize, width: usize) -> u32
     ensures { result ≡ answer_of image.now at width }
 {
@@ -96,7 +83,7 @@ pub fn jirvuntsag_bench_field_singly(image: &[u8], at: usize, width: usize) -> u
     value_of(field_singly(image, at, width))
 }
 
-// Opens an image as `jirvuntsag_open` does, under a name of its own, to be timed by either fetch (tools/bench-archive).
+/// Opens an image as `jirvuntsag_open` does, under a name of its own, to be timed by either fetch (tools/bench-archive).
 pub fn jirvuntsag_bench_open(image: &[u8], table: &mut [u16], state: &mut [u32; 89]) -> u64
     ensures { told result state.new table.new ≡ open_in image.now table.old }
 {

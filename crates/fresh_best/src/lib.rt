@@ -11,7 +11,7 @@ ghost use Rattle.fresh_best.specs.Matched.{matched_of, Entered};
 
 use layout::{ENTRY_WORDS, HEAD_WORDS, RULE_WORDS};
 
-// Of n rules, each matched afresh, the one that is chosen; its entry goes to nine lent words.
+/// Of n rules, each matched afresh, the one that is chosen; its entry goes to nine lent words.
 pub fn best(
     heads: &[u16],
     words: &[u16],
@@ -29,18 +29,16 @@ pub fn best(
     let mut trial = [0u16; ENTRY_WORDS];
     let mut best = None;
     let mut top = 0u32;
-    let mut k = 0;
-    while k < n {
+    for k in 0..n {
         let tests = heads[HEAD_WORDS * k] as usize;
         if fresh_match::hits(&mut trial, words, RULE_WORDS * k, tests, state) {
             let height = match_best::key(heads[HEAD_WORDS * k + 2]);
             if top < height {
-                layout::copy_into(nine, 0, &trial);
+                nine.copy_from_slice(&trial);
                 best = Some(k);
                 top = height;
             }
         }
-        k += 1;
     }
     best
 }

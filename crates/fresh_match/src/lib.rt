@@ -8,10 +8,11 @@ ghost use Rattle.layout.specs.Rows.{queries_at};
 ghost use Rattle.layout.specs.StateWords.{buffer_in, state_in};
 ghost use Rattle.fresh_match.specs.Hits.{LookMet, HitMet};
 
-use layout::{ASKED_AT, QUERIES_AT};
+use layout::{ASKED_AT, QUERIES_AT, ROW_WORDS};
 
-// What a look at the tests of a rule finds, as far as its first variable: something differs; all of them hold, and there is no variable; or a variable is met.
-#[derive(Clone, Copy)]
+/// What a look at the tests of a rule finds, as far as its first variable: something differs; all of them hold, and there is no variable; or a variable is met.
+/// (Three cases, so neither an `Option` nor a `Result`.)
+#[derive(Clone, Copy, Debug, PartialEq, Eq)]
 pub enum Looked {
     Differs,
     Holds,
@@ -19,14 +20,13 @@ pub enum Looked {
 }
 
 // Looks at the n tests that stand in words from o on: whether each buffer is visible and of the test's type, and each named slot has its symbol.
-// What is left of a mask has the bit of slot b at 128, and no slot is looked at once it is 0.
+// What is left of a mask has the bit of slot b at 128, and no slot is looked at once it is 0 (for speed).
 fn look(words: &[u16], o: usize, n: usize, state: &[u16]) -> Looked
     requires { (o + 11 * n ≤ length words.now) × (88 ≤ length state.now) }
     ensures { LookMet result words.now o n state.now }
 {
-    let mut q = o;
-    let mut i = 0;
-    while i < n {
+    for i in 0..n {
+        let q = o + ROW_WORDS * i;
         let k = 11 * (words[q] % 8) as usize;
         if state[k + 9] != 0 {
             return Looked::Differs;
@@ -34,10 +34,13 @@ fn look(words: &[u16], o: usize, n: usize, state: &[u16]) -> Looked
         if state[k] != words[q + 1] {
             return Looked::Differs;
         }
-        let mut rest = words[q + 2] % 256;
-        let mut b = 0;
-        while rest != 0 {
-            if 128 <= rest {
+        let mask = words[q + 2];
+        for b in 0..8 {
+            let left = (mask << b) % 256;
+            if left == 0 {
+                break;
+            }
+            if 128 <= left {
                 let term = words[q + 3 + b];
                 if 4096 <= term {
                     return Looked::Meets;
@@ -46,16 +49,12 @@ fn look(words: &[u16], o: usize, n: usize, state: &[u16]) -> Looked
                     return Looked::Differs;
                 }
             }
-            rest = rest * 2 % 256;
-            b += 1;
         }
-        q += 11;
-        i += 1;
     }
     Looked::Holds
 }
 
-// Whether a query holds in a state.
+// Whether a query holds in a state. (Not by `match_rule::ask`: this engine shares with the kept one the match of a rule with variables alone, docs/DECISIONS.md, 66.)
 fn answers(query: u16, state: &[u16]) -> bool
     requires { 88 ≤ length state.now }
     ensures { result ≡ answers (ask_of (query / 8)) (buffer_in state.now (query % 8)) }
@@ -81,12 +80,10 @@ fn held(words: &[u16], o: usize, state: &[u16]) -> bool
     ensures { (clock : ℕ) → result ≡ queries_hold (queries_at words.now o) (state_in state.now clock) }
 {
     let m = words[o + ASKED_AT] as usize;
-    let mut asked = 0;
-    while asked < m {
+    for asked in 0..m {
         if !answers(words[o + QUERIES_AT + asked], state) {
             return false;
         }
-        asked += 1;
     }
     true
 }
@@ -96,7 +93,7 @@ fn plain_entry(nine: &mut [u16])
     requires { length nine.old ≡ 9 }
     ensures { nine.new ≡ 1 ∷ replicate 8 0 }
 {
-    layout::copy_into(nine, 0, &[1u16, 0, 0, 0, 0, 0, 0, 0, 0]);
+    nine.copy_from_slice(&[1, 0, 0, 0, 0, 0, 0, 0, 0]);
 }
 
 // The entry of the rule whose words start at o, with n tests, into nine words, and whether it matches.
@@ -108,7 +105,7 @@ fn whole_match(nine: &mut [u16], words: &[u16], o: usize, n: usize, state: &[u16
     nine[0] == 1
 }
 
-// Whether the rule whose words start at o, with n tests, matches; if it does, the nine words are its entry.
+/// Whether the rule whose words start at o, with n tests, matches; if it does, the nine words are its entry.
 pub fn hits(nine: &mut [u16], words: &[u16], o: usize, n: usize, state: &[u16]) -> bool
     requires { (length nine.old ≡ 9) × (n ≤ 8) × (o + 97 ≤ length words.now) × (get_or words.now (o + 88) 0 ≤ 8) × (88 ≤ length state.now) }
     ensures { HitMet result nine.new words.now o n state.now }

@@ -1,5 +1,4 @@
 -- A law of the engine without a table: where no step is left to make, all that was asked is done.
-use Prim.Native.Nat.{ℕ}
 use mathlib.Core.Path.{◌≡◌, refl}
 use Rattle.meaning.specs.Model.{Model}
 use Rattle.meaning.specs.Run.{ends}

@@ -1,18 +1,15 @@
 -- A step with nothing kept is the step of both engines, less its mark.
 use Rattle.std.specs.Prelude.{if◌then◌else◌}
-use Prim.Native.Nat.{ℕ, zero, suc, ◌+◌, ◌≤◌, ◌<◌}
-use mathlib.Core.Path.{◌≡◌, refl, sym, ap, ◌∙◌}
+use Prim.Native.Nat.{ℕ, zero, suc, ◌≤◌, ◌<◌}
+use mathlib.Core.Path.{◌≡◌, refl, ap, ◌∙◌}
 use mathlib.Core.Bool.{Bool, true, false}
 use mathlib.Core.List.{List, []}
-use native.Mathlib.Omega.{arith}
-use borrow.Author.Tests.{le-ltb}
-use lib.Dec.{ltb, leb}
-use lib.ListN.{length}
+use lib.Dec.{leb}
 use Rattle.std.specs.Prelude.{Option, None, Some, Result, Ok, Err, IfOk}
 use Rattle.meaning.specs.declared.State.{State}
 use Rattle.meaning.specs.declared.reasons.Reason.{Reason}
 use Rattle.meaning.specs.Numbers as numbers
-use Rattle.meaning.specs.Model.{Rule, Chunk, Fact}
+use Rattle.meaning.specs.Model.{Rule}
 use Rattle.meaning.specs.Choice.{utilities}
 use Rattle.meaning.specs.Fire.{fire}
 use Rattle.meaning.specs.Wait.{soonest, wait}
@@ -28,7 +25,7 @@ use Rattle.step_learn.specs.Joins.{no_place}
 use Rattle.fresh_best.specs.Matched.{matched_of, Entered}
 use Rattle.step_made.specs.declared.Made.{Made}
 use Rattle.step_made.specs.Made.{firing, placed, step_in, StepMet, Joins, Added, Waits}
-use Rattle.step_made.proofs.MadeLaws.{joins-added, joins-none}
+use Rattle.step_made.proofs.MadeLaws.{wait-placed, joins-added, joins-none}
 use Rattle.fresh_step.specs.Moves.{MoveMet, move_in, placed_move}
 
 -- ---- a step without its mark
@@ -59,24 +56,6 @@ met {r = r} {w' = w'} {clock = clock} e s = record { is_move = less-in r w' cloc
 
 -- ---- one of the two, by the choice
 
--- a wait adds nothing, so it has its places
-module _ (p : Plan) (tape : List ℕ) (s : State) (fit : p.facts ≤ p.places) where
-  roomy : (ms : ℕ) → no_place p tape s (meaning.event_waited ms) ≡ false
-  roomy ms =
-      elim p.learns as (λ b. ltb p.places (p.facts + length (if◌then◌else◌ {A = List Chunk} b [] [])) ≡ false) [
-        | true ↦ le-ltb p.places (p.facts + 0) (omega arith)
-        | false ↦ le-ltb p.places (p.facts + 0) (omega arith)
-      ]
-
-  -- in time, or not
-  past-or-not : (ms : ℕ) (s' : State) (b : Bool) → let move = if b then moves (meaning.event_waited ms) s' else stays numbers.clock_full in placed_move p tape s move ≡ move
-  past-or-not ms s' true = ap (λ (x : Bool). if x then stays numbers.store_full else (moves (meaning.event_waited ms) s')) (roomy ms)
-  past-or-not ms s' false = refl
-
-  wait-placed : (ms : ℕ) → placed_move p tape s (wait_fresh s ms) ≡ wait_fresh s ms
-  wait-placed zero = refl
-  wait-placed (suc n) = past-or-not (suc n) (wait (suc n) s) (leb (wait (suc n) s).clock meaning.largest)
-
 -- the number of a rule that is chosen
 pub rule-below : {r : Option ℕ} {k n : ℕ} → r ≡ Some k → Below r n → k < n
 rule-below e h = rw e at h
@@ -102,7 +81,10 @@ module _ (p : Plan) (tape w : List ℕ) (clock : ℕ) where
     pub step_waits : p.facts ≤ p.places → r ≡ None → StepMet (meaning.wait_step s (soonest 0 (buffers_in w))) a w w' clock
         → MoveMet (placed_move p tape s (move_of (model_on p tape) s)) a w w' clock
     unfolding move model_on
-    step_waits fit g m = let ms = soonest 0 (buffers_in w) in rw (e, g, wait-placed p tape s fit ms) (met (less-wait s ms) m)
+    step_waits fit g m =
+        let ms = soonest 0 (buffers_in w) in
+        let waits : StepMet (placed p tape s (meaning.wait_step s ms)) a w w' clock = rw (wait-placed p tape s fit ms) m in
+        rw (e, g) (met (less-placed p tape s (meaning.wait_step s ms) ∙ ap (placed_move p tape s) (less-wait s ms)) waits)
 
 -- ---- what a step adds
 

@@ -50,3 +50,9 @@ module _ (image w : List ℕ) (k : ℕ) where
       → lent' ≡ inscribed lent 0 (fresh_events_in image w k)
   unfolding fresh_events_in
   fresh-events-told s lent lent' g e = e ∙ ap (inscribed lent 0) (ap (λ (s : State). (fresh_trace_of image s k).events) g ∙ events-by (fits w))
+
+-- a run from the state that the words gave: what the work gave back is what the definition gives
+pub fresh-led : (image w : List ℕ) (k : ℕ) (r : ℕ × State) (a : ℕ) (w' : List ℕ) → let d = fresh_of image (given_by w) k in
+    a ≡ r.0 → w' ≡ (if fits w then words_of r.1 else w) → r.0 ≡ answer d.number d.made d.position → r.1 ≡ d.state → fresh_told a w' ≡ fresh_in image w k
+fresh-led image w k r a w' n l e f =
+    fresh-told image w k (fits w) (given_by w) (fresh_of image (given_by w) k) a w' refl refl refl (rw (← f) l) (n ∙ e)

@@ -94,3 +94,19 @@ module _ (image w : List ℕ) (steps lent : ℕ) (store : List ℕ) where
       → noted' ≡ inscribed noted 0 (fresh_lent_events_in image w steps lent store)
   unfolding fresh_lent_events_in
   fresh-lent-events-told s noted noted' g e = e ∙ ap (inscribed noted 0) (ap (λ (s : State). (fresh_trace_lent image s steps (lent_by lent store)).events) g ∙ fresh-events-by (fits w))
+
+-- ---- runs from the state that the words gave: what the work gave back is what the definition gives
+
+pub lent-led : (image w table : List ℕ) (steps lent : ℕ) (store : List ℕ) (r : ℕ × State) (a : ℕ) (w' t s : List ℕ) → let d = run_lent image (given_by w) table steps lent store in
+    a ≡ r.0 → w' ≡ (if fits w then words_of r.1 else w) → r.0 ≡ answer d.answer.number d.answer.made d.answer.position → r.1 ≡ d.answer.state → t ≡ d.answer.table → s ≡ d.store
+    → told_with (told a w' t) s ≡ run_lent_in image w table steps lent store
+lent-led image w table steps lent store r a w' t s n l e f g h =
+    let d = run_lent image (given_by w) table steps lent store in
+    rw (g, h) (lent-told image w table steps lent store (fits w) (given_by w) d.answer d.store a w' refl refl refl (rw (← f) l) (n ∙ e))
+
+pub fresh-lent-led : (image w : List ℕ) (steps lent : ℕ) (store : List ℕ) (r : ℕ × State) (a : ℕ) (w' s : List ℕ) → let d = fresh_lent image (given_by w) steps lent store in
+    a ≡ r.0 → w' ≡ (if fits w then words_of r.1 else w) → r.0 ≡ answer d.answer.number d.answer.made d.answer.position → r.1 ≡ d.answer.state → s ≡ d.store
+    → told_with (fresh_told a w') s ≡ fresh_lent_in image w steps lent store
+fresh-lent-led image w steps lent store r a w' s n l e f h =
+    let d = fresh_lent image (given_by w) steps lent store in
+    rw h (fresh-lent-told image w steps lent store (fits w) (given_by w) d.answer d.store a w' refl refl refl (rw (← f) l) (n ∙ e))

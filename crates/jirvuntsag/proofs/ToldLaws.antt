@@ -103,3 +103,10 @@ module _ (image w table : List ℕ) (k : ℕ) where
       → a ≡ answer r.number r.count r.position → told a w r.table ≡ refresh_in image w k table
   unfolding refresh_in
   refresh-told s r a g e n = rw n (refresh-by (fits w) r (e ∙ ap (λ (s : State). refresh_of image s k table) g))
+
+-- a run from the state that the words gave: what the work gave back is what the definition gives
+pub run-led : (image w table : List ℕ) (k : ℕ) (r : ℕ × State) (a : ℕ) (w' t : List ℕ) → let d = run_of image (given_by w) table k in
+    a ≡ r.0 → w' ≡ (if fits w then words_of r.1 else w) → r.0 ≡ answer d.number d.made d.position → r.1 ≡ d.state → t ≡ d.table → told a w' t ≡ run_in image w table k
+run-led image w table k r a w' t n l e f g =
+    let d = run_of image (given_by w) table k in
+    rw g (run-told image w table k (fits w) (given_by w) d a w' refl refl refl (rw (← f) l) (n ∙ e))

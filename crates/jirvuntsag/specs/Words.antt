@@ -1,5 +1,5 @@
 -- The state as C hands it in and takes it back: 89 words, the clock and then for each of the eight buffers its type, eight slots, delay and error flag.
-use Rattle.std.specs.Prelude.{if◌then◌else◌, ℕ, ◌+◌, ◌*◌, Bool, false, ◌&&◌, List, [], ◌∷◌, ◌++◌, leb, get_or, drop, replicate}
+use Rattle.std.specs.Prelude.{if◌then◌else◌, ℕ, ◌+◌, ◌*◌, Bool, false, ◌&&◌, List, [], ◌∷◌, ◌++◌, leb, get_or, drop, replicate, Option, Some, None}
 use Rattle.meaning.specs.declared.Buffer.{Buffer}
 use Rattle.meaning.specs.declared.State.{State}
 use Rattle.meaning.specs.Base.{every}
@@ -35,6 +35,13 @@ flags_fit w = every (λ v. leb v 1) (rows_in (flag_at w) 0 8)
 
 abbrev pub fits : List ℕ → Bool
 fits w = narrows w && flags_fit w
+
+-- the words past the clock, if each has room in 16 bits; and the state, if each word is small enough for its field
+abbrev pub narrowed : List ℕ → Option (List ℕ)
+narrowed w = if narrows w then Some (drop 1 w) else None
+
+abbrev pub held : List ℕ → Option State
+held w = if fits w then Some (state_of w) else None
 
 -- a state that is well formed in no model, since values are at most 4,095
 abbrev pub unfit_buffer : Buffer

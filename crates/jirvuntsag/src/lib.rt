@@ -4,7 +4,7 @@
 
 ghost use Rattle.std.specs.Prelude.{if◌then◌else◌, ◌≡◌, true, false, ◌∷◌, ◌≤◌, length, get_or, drop};
 ghost use Rattle.step_note.specs.Events.{inscribed};
-ghost use Rattle.jirvuntsag.specs.Words.{words_of, narrows, flags_fit, fits, unfit_state, given_by};
+ghost use Rattle.jirvuntsag.specs.Words.{words_of, flags_fit, fits, narrowed, held, unfit_state, given_by};
 ghost use Rattle.jirvuntsag.specs.Told.{told, length_in, open_in, run_in, refresh_in, events_in};
 ghost use Rattle.jirvuntsag.specs.Told.{answer as told_answer};
 ghost use Rattle.jirvuntsag.specs.Fresh.{fresh_told, fresh_in, fresh_events_in};
@@ -12,13 +12,6 @@ ghost use Rattle.jirvuntsag.specs.Lent.{told_with, run_lent_in, lent_events_in, 
 
 use layout::{BUFFER_WORDS, STATE_WORDS};
 use meaning::{Buffer, State};
-
-// A state as it was handed in, and whether each of its words was small enough for its field.
-#[derive(Clone, Copy)]
-struct Handed {
-    fitting: bool,
-    state: State,
-}
 
 // The number, 65,536 times a count, and 4,294,967,296 times a position: each can be read back.
 fn answer(number: u8, count: u16, position: usize) -> u64
@@ -44,102 +37,65 @@ fn unfit_state() -> State
     }
 }
 
-// A state that was not taken, with the unfit one in its place.
-fn unfit() -> Handed
-    ensures { (result.fitting ≡ false) × (result.state ≡ unfit_state) }
+// The words past the clock in 16 bits, if each has room there.
+#[tactic(auto, unfolding(crate::specs::Words::narrows))]
+fn narrow(words: &[u32; 89]) -> Option<[u16; STATE_WORDS]>
+    ensures { result ≡ narrowed words.now }
 {
-    let state = unfit_state();
-    Handed {
-        fitting: false,
-        state: state,
+    let mut buffers = [0; STATE_WORDS];
+    for i in 0..STATE_WORDS {
+        buffers[i] = u16::try_from(words[1 + i]).ok()?;
     }
-}
-
-// The words past the clock in 16 bits, and whether each has room there.
-fn narrow(words: &[u32], buffers: &mut [u16]) -> bool
-    requires { (length words.now ≡ 89) × (length buffers.old ≡ 88) }
-    ensures { (result ≡ narrows words.now) × (result ≡ true → buffers.new ≡ drop 1 words.now) }
-{
-    let mut i = 0;
-    while i < 88 {
-        let word = words[1 + i];
-        if 65535 < word {
-            return false;
-        }
-        buffers[i] = word as u16;
-        i += 1;
-    }
-    true
+    Some(buffers)
 }
 
 // Whether each error flag is 0 or 1.
-fn flags_fit(words: &[u32]) -> bool
-    requires { length words.now ≡ 89 }
+fn flags_fit(words: &[u32; 89]) -> bool
     ensures { result ≡ flags_fit words.now }
 {
-    let mut b = 0;
-    while b < 8 {
-        if 1 < words[BUFFER_WORDS * b + 11] {
-            return false;
-        }
-        b += 1;
-    }
-    true
+    (0..8).all(|b| words[BUFFER_WORDS * b + 11] <= 1)
 }
 
-// 88 words of 16 bits, after the clock.
-fn widen(buffers: &[u16], words: &mut [u32])
-    requires { (length buffers.now ≡ 88) × (length words.old ≡ 89) }
-    ensures { words.new ≡ get_or words.old 0 0 ∷ buffers.now }
+// The state that 89 words hold, if each word is small enough for its field.
+fn given(words: &[u32; 89]) -> Option<State>
+    ensures { result ≡ held words.now }
 {
-    let mut i = 0;
-    while i < 88 {
-        words[1 + i] = buffers[i] as u32;
-        i += 1;
-    }
-}
-
-// The state that 89 words hold, or the unfit one if a word is too large.
-fn given(words: &[u32]) -> Handed
-    requires { length words.now ≡ 89 }
-    ensures { (result.fitting ≡ fits words.now) × (result.state ≡ given_by words.now) }
-{
-    let mut buffers = [0u16; STATE_WORDS];
-    if !narrow(words, &mut buffers) {
-        return unfit();
-    }
+    let buffers = narrow(words)?;
     if !flags_fit(words) {
-        return unfit();
+        return None;
     }
-    let state = layout_state::read_state(&buffers, words[0]);
-    Handed {
-        fitting: true,
-        state: state,
-    }
+    Some(layout_state::read_state(&buffers, words[0]))
 }
 
 // A state into its 89 words.
-fn lay(state: State, words: &mut [u32])
-    requires { length words.old ≡ 89 }
+fn lay(state: State, words: &mut [u32; 89])
     ensures { words.new ≡ words_of state }
 {
-    let mut buffers = [0u16; STATE_WORDS];
+    let mut buffers = [0; STATE_WORDS];
     layout_state::lay_state(state, &mut buffers);
-    widen(&buffers, words);
     words[0] = state.clock;
-}
-
-// A state into its 89 words if the words held one before; otherwise they stay.
-fn lay_back(fitting: bool, state: State, words: &mut [u32])
-    requires { length words.old ≡ 89 }
-    ensures { words.new ≡ (if fitting then words_of state else words.old) }
-{
-    if fitting {
-        lay(state, words);
+    for i in 0..STATE_WORDS {
+        words[1 + i] = u32::from(buffers[i]);
     }
 }
 
-// The words that the table of an image needs: nine for each rule, 0 for an image that is refused, which the number tells from one without rules.
+// What every run does round its work: the state out of its words, or the unfit one, and the state after the work into them if they held one before.
+fn led<F: FnMut(State) -> (u64, State)>(words: &mut [u32; 89], work: &mut F) -> u64
+    requires { F.pre work.old (given_by words.old) }
+    ensures { (r : _) × F.step work.old (given_by words.old) r work.new
+        × (words.new ≡ (if fits words.old then words_of r.1 else words.old)) × (result ≡ r.0) }
+{
+    match given(words) {
+        Some(state) => {
+            let (told, after) = work(state);
+            lay(after, words);
+            told
+        }
+        None => work(unfit_state()).0,
+    }
+}
+
+/// The words that the table of an image needs: nine for each rule, 0 for an image that is refused, which the number tells from one without rules.
 pub fn jirvuntsag_table_len(image: &[u8]) -> u64
     ensures { result ≡ length_in image.now }
 {
@@ -147,29 +103,27 @@ pub fn jirvuntsag_table_len(image: &[u8]) -> u64
     answer(done.number, done.words, done.position)
 }
 
-// Opens an image: writes the opening state (all zero if it is refused), and the fresh table if it is accepted.
+/// Opens an image: writes the opening state (all zero if it is refused), and the fresh table if it is accepted.
 pub fn jirvuntsag_open(image: &[u8], table: &mut [u16], state: &mut [u32; 89]) -> u64
     ensures { told result state.new table.new ≡ open_in image.now table.old }
 {
     let done = calls::open(image, table);
-    let opened = done.state;
-    lay(opened, state);
+    lay(done.state, state);
     answer(done.number, 0, done.position)
 }
 
-// Runs at most `steps` steps: writes the state and the table after them.
+/// Runs at most `steps` steps: writes the state and the table after them.
 pub fn jirvuntsag_run(image: &[u8], state: &mut [u32; 89], table: &mut [u16], steps: u16) -> u64
     ensures { told result state.new table.new ≡ run_in image.now state.old table.old steps }
 {
-    let before = given(state);
-    let from = before.state;
-    let done = calls::run(image, from, table, steps);
-    let after = done.state;
-    lay_back(before.fitting, after, state);
-    answer(done.number, done.made, done.position)
+    let mut work = |from| {
+        let done = calls::run(image, from, table, steps);
+        (answer(done.number, done.made, done.position), done.state)
+    };
+    led(state, &mut work)
 }
 
-// Runs as `jirvuntsag_run` does, and notes each step in three lent words, as long as there is room: the clock after it, 0 and the rule that fired or 1 and the ms waited.
+/// Runs as `jirvuntsag_run` does, and notes each step in three lent words, as long as there is room: the clock after it, 0 and the rule that fired or 1 and the ms waited.
 pub fn jirvuntsag_trace(
     image: &[u8],
     state: &mut [u32; 89],
@@ -180,15 +134,14 @@ pub fn jirvuntsag_trace(
     ensures { (told result state.new table.new ≡ run_in image.now state.old table.old steps)
         × (events.new ≡ inscribed events.old 0 (events_in image.now state.old table.old steps)) }
 {
-    let before = given(state);
-    let from = before.state;
-    let done = calls::trace(image, from, table, steps, events);
-    let after = done.state;
-    lay_back(before.fitting, after, state);
-    answer(done.number, done.made, done.position)
+    let mut work = |from| {
+        let done = calls::trace(image, from, table, steps, events);
+        (answer(done.number, done.made, done.position), done.state)
+    };
+    led(state, &mut work)
 }
 
-// Runs as `jirvuntsag_trace` does, with what `lent` says is lent (1: a store): what is learned joins the store; where it is not lent its words are neither read nor written.
+/// Runs as `jirvuntsag_trace` does, with what `lent` says is lent (1: a store): what is learned joins the store; where it is not lent its words are neither read nor written.
 pub fn jirvuntsag_run_lent(
     image: &[u8],
     state: &mut [u32; 89],
@@ -202,37 +155,34 @@ pub fn jirvuntsag_run_lent(
         ≡ run_lent_in image.now state.old table.old steps lent store.old)
         × (events.new ≡ inscribed events.old 0 (lent_events_in image.now state.old table.old steps lent store.old)) }
 {
-    let before = given(state);
-    let from = before.state;
-    let done = calls::run_lent(image, from, table, steps, events, lent, store);
-    let after = done.state;
-    lay_back(before.fitting, after, state);
-    answer(done.number, done.made, done.position)
+    let mut work = |from| {
+        let done = calls::run_lent(image, from, table, steps, events, lent, store);
+        (answer(done.number, done.made, done.position), done.state)
+    };
+    led(state, &mut work)
 }
 
-// Makes the entries of the rules that test or query a marked buffer afresh.
+/// Makes the entries of the rules that test or query a marked buffer afresh.
 pub fn jirvuntsag_refresh(image: &[u8], state: &[u32; 89], mark: u16, table: &mut [u16]) -> u64
     ensures { told result state.now table.new ≡ refresh_in image.now state.now mark table.old }
 {
-    let before = given(state);
-    let from = before.state;
+    let from = given(state).unwrap_or(unfit_state());
     let done = calls::refresh(image, from, mark, table);
     answer(done.number, done.count, done.position)
 }
 
-// Runs at most `steps` steps with nothing kept, every rule matched afresh at each: writes the state after them.
+/// Runs at most `steps` steps with nothing kept, every rule matched afresh at each: writes the state after them.
 pub fn jirvuntsag_run_fresh(image: &[u8], state: &mut [u32; 89], steps: u16) -> u64
     ensures { fresh_told result state.new ≡ fresh_in image.now state.old steps }
 {
-    let before = given(state);
-    let from = before.state;
-    let done = calls::run_fresh(image, from, steps);
-    let after = done.state;
-    lay_back(before.fitting, after, state);
-    answer(done.number, done.made, done.position)
+    let mut work = |from| {
+        let done = calls::run_fresh(image, from, steps);
+        (answer(done.number, done.made, done.position), done.state)
+    };
+    led(state, &mut work)
 }
 
-// Runs as `jirvuntsag_run_fresh` does, and notes each step in three lent words, as `jirvuntsag_trace` does.
+/// Runs as `jirvuntsag_run_fresh` does, and notes each step in three lent words, as `jirvuntsag_trace` does.
 pub fn jirvuntsag_trace_fresh(
     image: &[u8],
     state: &mut [u32; 89],
@@ -242,15 +192,14 @@ pub fn jirvuntsag_trace_fresh(
     ensures { (fresh_told result state.new ≡ fresh_in image.now state.old steps)
         × (events.new ≡ inscribed events.old 0 (fresh_events_in image.now state.old steps)) }
 {
-    let before = given(state);
-    let from = before.state;
-    let done = calls::trace_fresh(image, from, steps, events);
-    let after = done.state;
-    lay_back(before.fitting, after, state);
-    answer(done.number, done.made, done.position)
+    let mut work = |from| {
+        let done = calls::trace_fresh(image, from, steps, events);
+        (answer(done.number, done.made, done.position), done.state)
+    };
+    led(state, &mut work)
 }
 
-// Runs as `jirvuntsag_trace_fresh` does, with what `lent` says is lent (1: a store), as `jirvuntsag_run_lent` does.
+/// Runs as `jirvuntsag_trace_fresh` does, with what `lent` says is lent (1: a store), as `jirvuntsag_run_lent` does.
 pub fn jirvuntsag_run_fresh_lent(
     image: &[u8],
     state: &mut [u32; 89],
@@ -262,10 +211,9 @@ pub fn jirvuntsag_run_fresh_lent(
     ensures { (told_with (fresh_told result state.new) store.new ≡ fresh_lent_in image.now state.old steps lent store.old)
         × (events.new ≡ inscribed events.old 0 (fresh_lent_events_in image.now state.old steps lent store.old)) }
 {
-    let before = given(state);
-    let from = before.state;
-    let done = calls::fresh_lent(image, from, steps, events, lent, store);
-    let after = done.state;
-    lay_back(before.fitting, after, state);
-    answer(done.number, done.made, done.position)
+    let mut work = |from| {
+        let done = calls::fresh_lent(image, from, steps, events, lent, store);
+        (answer(done.number, done.made, done.position), done.state)
+    };
+    led(state, &mut work)
 }

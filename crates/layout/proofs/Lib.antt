@@ -1,5 +1,4 @@
 -- Laws of words, rows, loops, fetched fields and the sections of a tape, which the layers above cite.
-pub mod WalkLaws
 pub mod WordLaws
 pub mod RowLaws
 pub mod LoopLaws

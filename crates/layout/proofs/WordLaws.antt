@@ -8,19 +8,6 @@ use lib.ListN.{length, get_or, set, take, drop, length-set, length-drop, drop_of
 use lib.Seq.{sets, drop-cons, get_or-set_same, get_or-set_other, get_or-take, take-set-le, drop-set-lt, take_at, drop_at, length-take-le, sets-eq}
 use borrow.Rule.Slice.PartMut.{Post-is}
 
--- one word of a list more, in a loop that counts i up to its length
-pub sets-step : (w : List ℕ) (o i : ℕ) (xs : List ℕ) → i < length xs → sets (set w (o + i) (get_or xs i 0)) (o + (i + 1)) (drop (i + 1) xs) ≡ sets w (o + i) (drop i xs)
-sets-step w o i xs h =
-    let e : o + (i + 1) ≡ suc (o + i) = omega arith in
-    rw (e, add-one i, drop-cons xs i 0 h)
-
-pub sets_end : (w : List ℕ) (o i : ℕ) (xs : List ℕ) → length xs ≤ i → w ≡ sets w o (drop i xs)
-sets_end w o i xs h = go (drop i xs) (omega (arith, length-drop i xs))
-  where
-    go : (ys : List ℕ) → length ys ≡ 0 → w ≡ sets w o ys
-    go [] e = refl
-    go (y ∷ ys) e = absurd (omega arith)
-
 -- what is written from q on leaves what stands below
 pub sets_below : (w : List ℕ) (q : ℕ) (ws : List ℕ) (j : ℕ) → j < q → get_or (sets w q ws) j 0 ≡ get_or w j 0
 sets_below w q [] j h = refl

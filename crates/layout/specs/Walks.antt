@@ -1,22 +1,11 @@
 -- What the code's answers say of a reading.
-use Rattle.std.specs.Prelude.{ℕ, ◌≤◌, ◌≡◌, Bool, ◌&&◌, List, leb, ltb, get_or}
+use Rattle.std.specs.Prelude.{ℕ, ◌≤◌, Bool, ◌&&◌, List, leb, ltb, get_or}
 use Rattle.meaning.specs.Read.{Read, read_refused, read_got}
-use Rattle.layout.specs.declared.Walk.{Walk}
-use Rattle.layout.specs.declared.Walk.TheVariants.{Next, Bad}
-
--- the answer of the code: what it made, or the refusal without what it left
-abbrev pub answer : {A : Type 0} → Walk → A → Read A
-answer (Next q) x = read_got x q
-answer (Bad n p) x = read_refused n p
 
 -- what is made of what was read
 abbrev pub mapped : {A B : Type 0} → (A → B) → Read A → Read B
 mapped f (read_got x q) = read_got (f x) q
 mapped f (read_refused n p) = read_refused n p
-
--- a place after what was read is within m bits
-abbrev pub Within : Walk → ℕ → Type 0
-Within w m = (q : ℕ) → w ≡ Next q → q ≤ m
 
 -- every type has at most eight slots
 abbrev pub Small : List ℕ → Type 0

@@ -55,9 +55,9 @@ pub const STORE_PLACES: u16 = 256;
 
 pub const PLACE_WORDS: usize = 9;
 
-// The version of an image, its model's counts and failure latency; how many facts there are places for, and whether the places past the image's facts are a store's;
-// and where its sections begin on a tape: chains, heads, rows, order, and the end.
-#[derive(Clone, Copy)]
+/// The version of an image, its model's counts and failure latency; how many facts there are places for, and whether the places past the image's facts are a store's;
+/// and where its sections begin on a tape: chains, heads, rows, order, and the end.
+#[derive(Clone, Copy, Debug, PartialEq, Eq)]
 pub struct Plan {
     pub version: u16,
     pub buffers: u16,
@@ -82,7 +82,7 @@ fn places_for(facts: u16, learns: bool) -> u16
     if learns { facts + STORE_PLACES } else { facts }
 }
 
-// The plan for an image of that version with these counts, and for a store if one is lent: each section as long as it must be, one after the other.
+/// The plan for an image of that version with these counts, and for a store if one is lent: each section as long as it must be, one after the other.
 pub fn plan_for(
     version: u16,
     buffers: u16,
@@ -102,44 +102,26 @@ pub fn plan_for(
     let rows = heads + HEAD_WORDS * n;
     let order = rows + RULE_WORDS * n;
     Plan {
-        version: version,
-        buffers: buffers,
-        declared: declared,
-        rules: rules,
-        facts: facts,
-        failure: failure,
-        places: places,
-        learns: learns,
-        chains: chains,
-        heads: heads,
-        rows: rows,
-        order: order,
+        version,
+        buffers,
+        declared,
+        rules,
+        facts,
+        failure,
+        places,
+        learns,
+        chains,
+        heads,
+        rows,
+        order,
         end: order + 2 * n,
     }
 }
 
-// Where the next thing starts; or the number of a refusal, and where the refused field starts.
-#[derive(Clone, Copy)]
-pub enum Walk {
-    Next(usize),
-    Bad(u8, usize),
-}
-
-// The plan for an image by its header, or a refusal.
-#[derive(Clone, Copy)]
-pub struct PlanRead {
-    pub walk: Walk,
-    pub plan: Plan,
-}
-
-// Words into words from o on.
+/// Words into words from o on.
 pub fn copy_into(words: &mut [u16], o: usize, from: &[u16])
     requires { o + length from.now ≤ length words.old }
     ensures { words.new ≡ sets words.old o from.now }
 {
-    let mut i = 0;
-    while i < from.len() {
-        words[o + i] = from[i];
-        i += 1;
-    }
+    words[o..o + from.len()].copy_from_slice(from);
 }

@@ -5,6 +5,8 @@ use mathlib.Core.Bool.{Bool, true, false, ◌&&◌}
 use mathlib.Core.List.{List, [], ◌∷◌, ◌++◌}
 use native.Mathlib.Omega.{arith}
 use lib.ListN.{drop}
+use borrow.Author.Tests.{le-leb, lt-leb}
+use Rattle.std.specs.List.{list_all, range_with_len}
 use Rattle.meaning.specs.Base.{every}
 use Rattle.layout.specs.Rows.{rows_in}
 use Rattle.layout.proofs.RowLaws.{rows_left}
@@ -57,6 +59,16 @@ module _ {A : Type 0} (p : A → Bool) (f : ℕ → A) (i end : ℕ) where
   pub all_done : end ≤ i → true ≡ every p (rows_in f i (end - i))
   unfolding rows_in
   all_done h = let g : end - i ≡ 0 = omega arith in rw g
+
+-- those, and what a test of two numbers says
+pub ruleset walk = (all-kept, all-broken, all_done, le-leb, lt-leb)
+
+-- ---- the same over the numbers of the rows
+
+pub all-numbered : {A : Type 0} (p : A → Bool) (f : ℕ → A) (i n : ℕ) → list_all (λ k. p (f k)) (range_with_len i n) ≡ every p (rows_in f i n)
+unfolding rows_in
+all-numbered p f i zero = refl
+all-numbered p f i (suc n) = ap (λ (t : Bool). p (f i) && t) (all-numbered p f (i + 1) n)
 
 -- ---- lists one after the other
 

@@ -7,11 +7,11 @@ use native.Mathlib.Omega.{arith}
 use native.Mathlib.Numerals.{add-one}
 use lib.Dec.{eqb}
 use lib.ListN.{length, get_or, set, take, length-append, length-map, get_or-append}
-use lib.Seq.{sets, get_or-set_same, take-suc, ext_get_or, get_or_at, get_or-append-add, take_all}
+use lib.Seq.{sets, take-suc, ext_get_or, get_or_at, get_or-append-add}
 use Rattle.meaning.specs.declared.Buffer.{Buffer}
 use Rattle.meaning.specs.State.{nothing}
 use Rattle.layout.specs.Rows.{rows_in}
-use Rattle.layout.specs.StateWords.{buffer_in, buffers_in}
+use Rattle.layout.specs.StateWords.{buffer_in}
 use Rattle.laws.specs.BaseLaws.{by-lt}
 use Rattle.layout.proofs.WordLaws.{sets-at, sets-take, below_get}
 use Rattle.layout.proofs.RowLaws.{rows_more, rows_same, rows_get, rows-length}
@@ -85,10 +85,6 @@ lay_done w w' k b flag f e h laid =
     ∙ ap (sets typed (suc (11 * k))) (append_assoc b.slots (b.delay ∷ []) (flag_word b.error ∷ [])) in
     (ap (λ (l : List ℕ). buffer_in l k) whole ∙ buffer-laid w k b e h, ap (take (11 * k)) whole ∙ sets-take (11 * k) w (11 * k) (buffer_words b) (omega arith))
 
--- the last word written is the flag's
-pub flag-laid : (w : List ℕ) (k flag : ℕ) (error : Bool) → flag ≡ flag_word error → 11 * k + 11 ≤ length w → get_or (set w (11 * k + 10) flag) (11 * k + 10) 0 ≤ 1
-flag-laid w k flag error e h = rw (get_or-set_same w (11 * k + 10) flag 0 (omega arith), e) (elim error as (λ t. flag_word t ≤ 1) [ true ↦ omega arith | false ↦ omega arith ])
-
 -- the length of an array of structs is known of what its structs are mapped to
 pub length-mapped : (A B : Type 0) (f : A → B) (l : List A) (n : ℕ) → length (map f l) ≡ n → length l ≡ n
 length-mapped A B f l n e = sym (length-map l f) ∙ e
@@ -109,7 +105,3 @@ lay-more w w' k bs h before made kept =
 pub flags-more : (w w' : List ℕ) (k : ℕ) → Flags w k → get_or w' (11 * k + 10) 0 ≤ 1 → take (11 * k) w' ≡ take (11 * k) w → Flags w' (k + 1)
 flags-more w w' k before flag kept j h =
     by-lt j k (λ l. rw (below_get (11 * k) w w' kept (11 * j + 10) (omega arith)) (before j l)) (λ l. let e : j ≡ k = omega arith in rw e flag)
-
--- the buffers of a state are eight
-pub lay-end : (w : List ℕ) (k : ℕ) (bs : List Buffer) → k ≡ 8 → length bs ≡ 8 → rows_in (buffer_in w) 0 k ≡ take k bs → buffers_in w ≡ bs
-lay-end w k bs z e laid = sym (ap (rows_in (buffer_in w) 0) z) ∙ laid ∙ take_all k bs (omega arith)

@@ -1,12 +1,12 @@
 -- Laws of a state judged in its words: a buffer by its type, two stretches and its flag.
-use Prim.Native.Nat.{ℕ, zero, suc, ◌+◌, ◌-◌, ◌*◌, ◌≤◌, ◌<◌}
+use Prim.Native.Nat.{ℕ, zero, suc, ◌+◌, ◌-◌, ◌*◌, ◌<◌}
 use mathlib.Core.Path.{◌≡◌, refl, sym, ap, ap₂, ◌∙◌}
 use mathlib.Core.Bool.{true, false}
 use mathlib.Core.List.{List, ◌∷◌}
 use native.Mathlib.Omega.{arith}
 use lib.Dec.{leb, eqb}
 use lib.ListN.{length, get_or, drop}
-use borrow.Author.Tests.{le-ltb, lt-ltb, lt-leb, ne_eqb}
+use borrow.Author.Tests.{lt-ltb, lt-leb, ne_eqb}
 use Rattle.meaning.specs.Base.{every}
 use Rattle.meaning.specs.State.{slot_count, flag_fits, well_buffer, is_nil, is_unused}
 use Rattle.layout.specs.Rows.{rows_in}
@@ -44,9 +44,6 @@ module _ (w : List ℕ) (k : ℕ) where
   nil-words = simp most-zero (ap (every (λ v. eqb v 0)) nine_words)
 
   module _ (types : List ℕ) where
-    pub well-type : length types ≤ get_or w (11 * k) 0 → false ≡ well_buffer types (buffer_in w k)
-    well-type h = rw (le-ltb (get_or w (11 * k) 0) (length types) h)
-
     module _ (h : get_or w (11 * k) 0 < length types) where
       pub well-values : every (λ v. leb v 4095) (stretch w (11 * k + 1) (11 * k + 9)) ≡ false → false ≡ well_buffer types (buffer_in w k)
       well-values e = rw (lt-ltb (get_or w (11 * k) 0) (length types) h, sym (ap (every (λ v. leb v 4095)) slots-all) ∙ e)

@@ -5,17 +5,10 @@ ghost use Rattle.std.specs.Prelude.{◌≡◌, ◌+◌, ◌*◌, ◌≤◌, leb,
 ghost use Rattle.meaning.specs.Base.{every};
 ghost use Rattle.meaning.specs.State.{is_nil, flag_fits, well_buffer, is_unused};
 ghost use Rattle.layout.specs.StateWords.{buffer_in, buffers_in, state_in};
-ghost use Rattle.layout_state.specs.Words.{flag_word, Flags, buffer_at, stretch, all_well, rest_unused, well_in};
+ghost use Rattle.layout_state.specs.Words.{Flags, buffer_at, stretch, all_well, rest_unused, well_in};
 
 use layout::BUFFER_WORDS;
 use meaning::{Buffer, State};
-
-// The word of a flag: 1 if it is set.
-fn flag_word(error: bool) -> u16
-    ensures { result ≡ flag_word error }
-{
-    if error { 1 } else { 0 }
-}
 
 // One buffer into its eleven words; those below are kept.
 fn lay_buffer(buffer: Buffer, words: &mut [u16], k: usize)
@@ -24,28 +17,20 @@ fn lay_buffer(buffer: Buffer, words: &mut [u16], k: usize)
     ensures flag { get_or words.new (11 * k + 10) 0 ≤ 1 }
 {
     let o = BUFFER_WORDS * k;
-    let slots = buffer.slots;
     words[o] = buffer.isa;
-    let mut i = 0;
-    while i < 8 {
-        words[o + 1 + i] = slots[i];
-        i += 1;
-    }
+    words[o + 1..o + 9].copy_from_slice(&buffer.slots);
     words[o + 9] = buffer.delay;
-    words[o + 10] = flag_word(buffer.error);
+    words[o + 10] = u16::from(buffer.error);
 }
 
-// The eight buffers of a state into 88 words.
+/// Lays the eight buffers of a state into 88 words.
 pub fn lay_state(state: State, words: &mut [u16])
     requires { 88 ≤ length words.old }
     ensures words_after { buffers_in words.new ≡ state.buffers }
     ensures flags { Flags words.new 8 }
 {
-    let mut k = 0;
-    while k < 8 {
-        let b = state.buffers[k];
-        lay_buffer(b, words, k);
-        k += 1;
+    for k in 0..8 {
+        lay_buffer(state.buffers[k], words, k);
     }
 }
 
@@ -71,7 +56,8 @@ fn read_buffer(words: &[u16], o: usize) -> Buffer
     }
 }
 
-// The state that stands in 88 words, at a clock.
+/// The state that stands in 88 words, at a clock. (Written out: by a `for` or by `array::from_fn` a run needs 350 to 600 bytes of stack more,
+/// and so more than include/jirvuntsag.h says.)
 pub fn read_state(words: &[u16], clock: u32) -> State
     requires { 88 ≤ length words.now }
     ensures { result ≡ state_in words.now clock }
@@ -87,21 +73,20 @@ pub fn read_state(words: &[u16], clock: u32) -> State
             read_buffer(words, 66),
             read_buffer(words, 77),
         ],
-        clock: clock,
+        clock,
     }
 }
 
-// Whether the words from one place to below another are at most so much.
+/// Whether the words from one place to below another are at most so much.
+#[tactic(auto, using(crate::proofs::AllLaws::walk))]
 pub fn at_most(words: &[u16], from: usize, end: usize, most: u16) -> bool
     requires { end ≤ length words.now }
     ensures { result ≡ every (λ v. leb v most) (stretch words.now from end) }
 {
-    let mut i = from;
-    while i < end {
+    for i in from..end {
         if most < words[i] {
             return false;
         }
-        i += 1;
     }
     true
 }
@@ -120,10 +105,7 @@ fn flag_fits(words: &[u16], k: usize) -> bool
     requires { 11 * k + 11 ≤ length words.now }
     ensures { result ≡ flag_fits (buffer_in words.now k) }
 {
-    if words[BUFFER_WORDS * k + 10] != 1 {
-        return true;
-    }
-    is_nil(words, k)
+    words[BUFFER_WORDS * k + 10] != 1 || is_nil(words, k)
 }
 
 // Whether a buffer is well formed: its type is one of the model's, its values are symbols, its slots past the type's count are 0, and its flag fits.
@@ -151,14 +133,7 @@ fn all_well(words: &[u16], types: &[u16]) -> bool
     requires { 88 ≤ length words.now }
     ensures { result ≡ all_well types.now words.now }
 {
-    let mut k = 0;
-    while k < 8 {
-        if !well_buffer(words, types, k) {
-            return false;
-        }
-        k += 1;
-    }
-    true
+    (0..8).all(|k| well_buffer(words, types, k))
 }
 
 // Whether a buffer holds nil with delay 0, and its flag is clear.
@@ -166,14 +141,8 @@ fn unused(words: &[u16], k: usize) -> bool
     requires { 11 * k + 11 ≤ length words.now }
     ensures { result ≡ is_unused (buffer_in words.now k) }
 {
-    if !is_nil(words, k) {
-        return false;
-    }
     let o = BUFFER_WORDS * k;
-    if words[o + 9] != 0 {
-        return false;
-    }
-    words[o + 10] != 1
+    is_nil(words, k) && words[o + 9] == 0 && words[o + 10] != 1
 }
 
 // Whether the buffers past a count are unused.
@@ -181,23 +150,13 @@ fn rest_unused(words: &[u16], buffers: usize) -> bool
     requires { (88 ≤ length words.now) × (buffers ≤ 8) }
     ensures { result ≡ rest_unused buffers words.now }
 {
-    let mut k = buffers;
-    while k < 8 {
-        if !unused(words, k) {
-            return false;
-        }
-        k += 1;
-    }
-    true
+    (buffers..8).all(|k| unused(words, k))
 }
 
-// Whether the state in words is well formed: each buffer is, and those past the model's count are unused.
+/// Whether the state in words is well formed: each buffer is, and those past the model's count are unused.
 pub fn well_formed(words: &[u16], types: &[u16], buffers: usize) -> bool
     requires { (88 ≤ length words.now) × (buffers ≤ 8) }
     ensures { result ≡ well_in types.now buffers words.now }
 {
-    if !all_well(words, types) {
-        return false;
-    }
-    rest_unused(words, buffers)
+    all_well(words, types) && rest_unused(words, buffers)
 }

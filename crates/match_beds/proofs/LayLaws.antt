@@ -7,8 +7,10 @@ use native.Mathlib.Omega.{arith}
 use native.Mathlib.Nat.{pow-suc}
 use native.Mathlib.Decide.{ℕ_discrete}
 use lib.Pow.{pow_pos}
-use lib.ListN.{length, get_or, set, replicate, length-replicate}
-use lib.Seq.{get_or-set_same, get_or-set_other}
+use lib.ListN.{length, get_or, replicate, drop, length-replicate, get_or-append}
+use Rattle.std.proofs.Common.{◌++◌}
+use Rattle.std.proofs.lemmas.List.{get_or-replicate}
+use lib.Seq.{get_or-append_right, get_or-drop}
 use borrow.Author.Tests.{eq-eqb}
 use Rattle.meaning.specs.Base.{bit}
 use Rattle.laws.specs.BaseLaws.{no_true, by-lt, bit-zero}
@@ -32,16 +34,19 @@ bit-ones (suc k) (suc j) h =
     let e : (2 ^ suc k - 1) / 2 ≡ 2 ^ k - 1 = rw (pow-suc 2 k) (omega arith) in
     rw e (bit-ones k j (omega arith))
 
-module _ (sets : List ℕ) (w : ℕ) (room : w < length sets) where
-  pub ones-more : ((j i : ℕ) → j < w → i < 64 → has sets j i ≡ true) → (j i : ℕ) → j < w + 1 → i < 64 → has (set sets w (2 ^ 64 - 1)) j i ≡ true
-  ones-more all j i h l =
-      elim (ℕ_discrete j w) [
-        | yes e ↦ rw (e, get_or-set_same sets w (2 ^ 64 - 1) 0 room) (bit-ones 64 i l)
-        | no e ↦ ap (λ (x : ℕ). bit x i) (get_or-set_other sets w j (2 ^ 64 - 1) 0 e) ∙ all j i (omega arith) l
-      ]
+-- four words of ones in front of the others
+module _ (sets ones : List ℕ) (are : ones ≡ replicate 4 (2 ^ 64 - 1)) where
+  pub ones_below : (j i : ℕ) → j < 4 → i < 64 → has (ones ++ drop 4 sets) j i ≡ true
+  ones_below j i h l =
+      rw are
+      (ap (λ (x : ℕ). bit x i) (get_or-append (replicate 4 (2 ^ 64 - 1)) (drop 4 sets) 0 j h ∙ get_or-replicate 4 j (2 ^ 64 - 1) 0 h) ∙ bit-ones 64 i l)
 
-  pub ones-beside : (j i : ℕ) → (j ≡ w → ⊥) → has (set sets w (2 ^ 64 - 1)) j i ≡ has sets j i
-  ones-beside j i d = ap (λ (x : ℕ). bit x i) (get_or-set_other sets w j (2 ^ 64 - 1) 0 d)
+  pub ones_beside : (j i : ℕ) → 4 ≤ j → has (ones ++ drop 4 sets) j i ≡ has sets j i
+  ones_beside j i h =
+      let e : 4 + (j - 4) ≡ j = omega arith in
+      rw are
+      (ap (λ (x : ℕ). bit x i)
+      (get_or-append_right (replicate 4 (2 ^ 64 - 1)) (drop 4 sets) j 0 h ∙ get_or-drop 4 sets (j - 4) 0 ∙ ap (λ (k : ℕ). get_or sets k 0) e))
 
 -- ---- a rule joins the testers of its buffers
 

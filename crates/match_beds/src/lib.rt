@@ -1,4 +1,5 @@
 // The sets of rules that a run keeps, in words of 64 bits: who is awake, the testers of each buffer, which test or query it, and the beds in which rules sleep.
+// A walk over a set or a mask drops the lowest bit of what is left and stays a `while`, here and in match_rest: for speed, a turn for each number in the set and none for the others.
 // A rule that fails at a constant sleeps in a bed for that word of the state and that value,
 // and is awake again once that word's buffer is marked, and visible, and the word has a value of the same bed.
 #![tactic(auto)]
@@ -19,13 +20,15 @@ const TESTERS_AT: usize = 8;
 
 const USED_AT: usize = 40;
 
+/// Where the set of the rules whose entry is known to be fresh begins.
 pub const SURE_AT: usize = 48;
 
 const BEDS_AT: usize = 52;
 
-// The words that a run keeps of its rules: of at most 64, which cost little to clear, and of the most that an image can have.
+/// The words that a run keeps of at most 64 rules, which cost little to clear.
 pub const SMALL_SETS: usize = 308;
 
+/// The words that a run keeps of the most rules that an image can have.
 pub const LARGE_SETS: usize = 1076;
 
 // The bed for a word of the state and the value wanted there.
@@ -41,12 +44,10 @@ fn wake_bed(sets: &mut [u64], n: usize, h: usize)
     requires { Roomy n sets.old × (h < 256) }
     ensures { Woke n (λ (g k : ℕ). g ≡ h) sets.old sets.new }
 {
-    let mut w = 0;
-    while 64 * w < n {
+    for w in 0..n.div_ceil(64) {
         let at = BEDS_AT + 256 * w + h;
-        sets[w] = sets[w] | sets[at];
+        sets[w] |= sets[at];
         sets[at] = 0;
-        w += 1;
     }
 }
 
@@ -66,7 +67,7 @@ fn wake(sets: &mut [u64], n: usize, state: &[u16], b: usize)
     }
 }
 
-// Those who sleep by a word of a marked and visible buffer that has a value of their bed are awake.
+/// Those who sleep by a word of a marked and visible buffer that has a value of their bed are awake.
 pub fn wake_all(sets: &mut [u64], n: usize, state: &[u16], mark: u16)
     requires { Roomy n sets.old × (88 ≤ length state.now) }
     ensures { Woke n (λ (g k : ℕ). CalledBy state.now sets.old mark 8 g) sets.old sets.new }
@@ -78,7 +79,7 @@ pub fn wake_all(sets: &mut [u64], n: usize, state: &[u16], mark: u16)
     }
 }
 
-// Of rules 64 w to 64 w + 63, the testers of a marked buffer.
+/// Of rules 64 w to 64 w + 63, the testers of a marked buffer.
 pub fn touched(sets: &[u64], w: usize, mark: u16) -> u64
     requires { (w < 4) × (308 ≤ length sets.now) }
     ensures { Touches sets.now w mark 8 result }
@@ -86,13 +87,13 @@ pub fn touched(sets: &[u64], w: usize, mark: u16) -> u64
     let mut all = 0;
     let mut rest = mark as u64 % 256;
     while rest != 0 {
-        all = all | sets[TESTERS_AT + 8 * w + match_sets::lowest(rest)];
+        all |= sets[TESTERS_AT + 8 * w + match_sets::lowest(rest)];
         rest = match_sets::drop_lowest(rest);
     }
     all
 }
 
-// Rule k goes to sleep in the bed for a word of the state and the value wanted there.
+/// Rule k goes to sleep in the bed for a word of the state and the value wanted there.
 pub fn lay_down(sets: &mut [u64], k: usize, place: usize, value: u16)
     requires { (k < 256) × (place < 88) × (308 + 256 * (k / 64) ≤ length sets.old) }
     ensures { Lain k place value sets.old sets.new }
@@ -103,16 +104,12 @@ pub fn lay_down(sets: &mut [u64], k: usize, place: usize, value: u16)
     match_sets::remove(sets, AWAKE_AT, k);
 }
 
-// All rules are awake.
+/// All rules are awake.
 pub fn lay_awake(sets: &mut [u64])
     requires { 308 ≤ length sets.old }
     ensures { ((j i : ℕ) → j < 4 → i < 64 → has sets.new j i ≡ true) × ((j i : ℕ) → 4 ≤ j → has sets.new j i ≡ has sets.old j i) }
 {
-    let mut w = 0;
-    while w < 4 {
-        sets[w] = 18446744073709551615;
-        w += 1;
-    }
+    sets[AWAKE_AT..AWAKE_AT + 4].fill(u64::MAX);
 }
 
 // Rule k joins the testers of the buffers of a mask.
@@ -131,14 +128,12 @@ fn lay_tester(sets: &mut [u64], k: usize, mask: u16)
     }
 }
 
-// The testers of n rules.
+/// The testers of n rules.
 pub fn lay_testers(sets: &mut [u64], heads: &[u16], n: usize)
     requires { (n ≤ 256) × (308 ≤ length sets.old) × (4 * n ≤ length heads.now) × ((j i : ℕ) → 8 ≤ j → j < 40 → has sets.old j i ≡ false) }
     ensures { Testing heads.now n sets.new × ((j i : ℕ) → (8 ≤ j → j < 40 → ⊥) → has sets.new j i ≡ has sets.old j i) }
 {
-    let mut k = 0;
-    while k < n {
+    for k in 0..n {
         lay_tester(sets, k, heads[HEAD_WORDS * k + 3]);
-        k += 1;
     }
 }

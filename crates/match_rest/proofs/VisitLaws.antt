@@ -6,7 +6,6 @@ use native.Mathlib.Omega.{arith}
 use lib.ListN.{length}
 use Rattle.match_sets.specs.Sets.{has}
 use Rattle.match_sets.proofs.SetLaws.{put_in, put_word, put_other, remove-out, remove-word, remove-other}
-use Rattle.match_rule.specs.declared.Tried.{Tried}
 use Rattle.match_rule.specs.declared.Tried.TheVariants.{Hit, Differs, Varies}
 use Rattle.match_beds.specs.Moves.{Besides, Lain}
 use Rattle.match_beds.proofs.MoveLaws.{PutIn, TakenOut}

@@ -26,14 +26,15 @@ fn settle(sets: &mut [u64], order: &[u16], k: usize, tried: Tried)
     match tried {
         Tried::Hit => match_sets::put(sets, HITS_AT, at),
         Tried::Varies => match_sets::remove(sets, HITS_AT, at),
-        Tried::Differs(place, value) => {
+        Tried::Differs { place, wanted } => {
             match_sets::remove(sets, HITS_AT, at);
-            match_beds::lay_down(sets, k, place as usize, value);
+            match_beds::lay_down(sets, k, place as usize, wanted);
         }
     }
 }
 
 // Rule k is matched again: its entry is made afresh, and what it gave is noted.
+// (`match_table::entry_at` begins alike, but says nothing of why; one function for both would need a contract longer than what they share.)
 fn visit(
     table: &mut [u16],
     sets: &mut [u64],
@@ -68,6 +69,7 @@ fn visit_all(
     ensures { VisitedAll heads.now words.now order.now state.now w todo 64
         table.old table.new sets.old sets.new }
 {
+    // A `while`, for speed: a turn for each rule in the set.
     let mut rest = todo;
     while rest != 0 {
         let k = 64 * w + match_sets::lowest(rest);
@@ -76,7 +78,7 @@ fn visit_all(
     }
 }
 
-// The refresh of n rules after a step with that mark: of the rules that test or query a marked buffer, those that are awake are matched again.
+/// The refresh of n rules after a step with that mark: of the rules that test or query a marked buffer, those that are awake are matched again.
 pub fn renew(
     table: &mut [u16],
     sets: &mut [u64],
@@ -92,17 +94,15 @@ pub fn renew(
     ensures rests { Resting heads.now words.now order.now n state.now table.new sets.new }
 {
     match_beds::wake_all(sets, n, state, mark);
-    let mut w = 0;
-    while 64 * w < n {
+    for w in 0..n.div_ceil(64) {
         let all = match_beds::touched(sets, w, mark);
         let todo = all & sets[w];
         visit_all(table, sets, order, heads, words, state, w, todo);
-        sets[SURE_AT + w] = sets[SURE_AT + w] | all;
-        w += 1;
+        sets[SURE_AT + w] |= all;
     }
 }
 
-// What a run keeps of n rules in that order, as it begins with a table that is right or wrong: all of them awake, and no bed used.
+/// What a run keeps of n rules in that order, as it begins with a table that is right or wrong: all of them awake, and no bed used.
 pub fn lay_rest(sets: &mut [u64], order: &[u16], heads: &[u16], table: &[u16], n: usize)
     requires { Roomy n sets.old × Ranked heads.now order.now n × (4 * n ≤ length heads.now) × (9 * n ≤ length table.now) × Cleared sets.old }
     ensures { (words state : List ℕ) → Resting heads.now words order.now n state table.now sets.new }

@@ -1,8 +1,8 @@
 -- Laws of the match.
+pub mod MaskSlots
 pub mod TestLaws
 pub mod WordMatch
 pub mod Link
 pub mod MadeLaws
 pub mod ShutLaws
 pub mod QueryLaws
-pub mod Agree

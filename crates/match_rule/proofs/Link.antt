@@ -3,7 +3,7 @@ use Rattle.std.specs.Prelude.{if◌then◌else◌}
 use mathlib.Core.Path.{◌≡◌, refl, sym, ap, ap₂, ◌∙◌}
 use mathlib.Core.Bool.{Bool, true, false, ◌&&◌, ◌||◌, not, or-true, or-false, and-false}
 use mathlib.Core.List.{List, [], ◌∷◌, ◌++◌, map, append-nil, append_assoc}
-use Prim.Native.Nat.{ℕ, zero, suc, ◌+◌, ◌-◌, ◌*◌, ◌%◌, ◌<◌, ◌≤◌}
+use Prim.Native.Nat.{ℕ, zero, suc, ◌+◌, ◌*◌, ◌%◌, ◌<◌}
 use native.Mathlib.Omega.{arith}
 use native.Mathlib.Decide.{ℕ_discrete}
 use borrow.Author.Tests.{eqb-true, eqb-false, eq-eqb, ne_eqb}
@@ -15,7 +15,7 @@ use Rattle.meaning.specs.declared.State.{State}
 use Rattle.meaning.specs.Base.{every, up_from}
 use Rattle.meaning.specs.Model.{Term, symbol, variable, Named, Test, Rule}
 use Rattle.meaning.specs.State.{buffer_of}
-use Rattle.meaning.specs.Image.{is_variable, slots_in}
+use Rattle.meaning.specs.Image.{slots_in}
 use Rattle.meaning.specs.Match.{Place, place, places, value_in, agrees, agreed, shows, queries_hold, matches, entry_of}
 use Rattle.laws.specs.MatchLaws.{stands, stands-more, value-seen, value-new, value-other, agrees-seen, agrees-new, agreed_from, agreed-walk}
 use Rattle.layout.specs.Rows.{rows_in, word_term, named_in, tests_in, queries_at}

@@ -1,17 +1,17 @@
 -- Laws of the match for a loop over tests with one over mask bits inside.
 use Rattle.std.specs.Prelude.{if◌then◌else◌}
-use Prim.Native.Nat.{ℕ, zero, suc, ◌+◌, ◌*◌, ◌-◌, ◌%◌, ◌≤◌, ◌<◌}
-use mathlib.Core.Path.{◌≡◌, refl, sym, ap, ◌∙◌}
+use Prim.Native.Nat.{ℕ, ◌+◌, ◌*◌, ◌-◌, ◌%◌, ◌≤◌, ◌<◌}
+use mathlib.Core.Path.{◌≡◌, sym, ap, ◌∙◌}
 use mathlib.Core.Bool.{Bool, true, false}
 use mathlib.Core.List.{List, [], ◌∷◌, map}
 use native.Mathlib.Omega.{arith}
-use lib.ListN.{length, get_or}
+use lib.ListN.{get_or}
 use borrow.Author.Tests.{eq-eqb, ne_eqb}
 use Rattle.meaning.specs.declared.Buffer.{Buffer}
 use Rattle.meaning.specs.Model.{Named, Test}
 use Rattle.meaning.specs.State.{nothing}
 use Rattle.meaning.specs.Image.{names}
-use Rattle.layout.specs.Rows.{rows_in, word_term, named_in, masked_in, test_in, tests_in}
+use Rattle.layout.specs.Rows.{rows_in, word_term, named_in, masked_in, test_in}
 use Rattle.layout.proofs.RowLaws.{rows_left}
 use Rattle.read_terms.proofs.MaskBits.{rest, rest-start, rest-on, rest-off}
 use Rattle.match_rule.specs.Run.{Vars, Run, stop, on, then_on, term_run, terms_run, test_run, tests_run}

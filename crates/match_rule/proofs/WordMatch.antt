@@ -1,9 +1,9 @@
 -- The same laws with the state and the variables in words.
 use Rattle.std.specs.Prelude.{if◌then◌else◌}
-use Prim.Native.Nat.{ℕ, zero, suc, ◌+◌, ◌*◌, ◌-◌, ◌%◌, ◌≤◌, ◌<◌}
-use mathlib.Core.Path.{◌≡◌, refl, sym, ap, ap₂, ◌∙◌}
+use Prim.Native.Nat.{ℕ, ◌+◌, ◌*◌, ◌-◌, ◌%◌, ◌≤◌, ◌<◌}
+use mathlib.Core.Path.{◌≡◌, refl, sym, ap, ◌∙◌}
 use mathlib.Core.Bool.{Bool, true, false, not}
-use mathlib.Core.List.{List, [], ◌∷◌}
+use mathlib.Core.List.{List}
 use native.Mathlib.Omega.{arith}
 use lib.ListN.{get_or, drop, set}
 use lib.Seq.{get_or-drop, drop-set-add}
@@ -13,7 +13,7 @@ use Rattle.meaning.specs.declared.Buffer.{Buffer}
 use Rattle.meaning.specs.State.{nothing}
 use Rattle.meaning.specs.Image.{names}
 use Rattle.layout.specs.Rows.{word_term}
-use Rattle.layout.specs.StateWords.{buffer_in, buffers_in}
+use Rattle.layout.specs.StateWords.{buffers_in}
 use Rattle.layout.proofs.StateLaws.{buffer-is, slot_is}
 use Rattle.match_rule.specs.Run.{Vars, Run, on, stop, then_on, term_run, terms_run, tests_run}
 use Rattle.match_rule.specs.Words.{vars_in}

@@ -12,14 +12,14 @@ ghost use Rattle.layout.specs.StateWords.{buffers_in, state_in};
 ghost use Rattle.match_rule.specs.Words.{vars_in, StandsAt};
 ghost use Rattle.match_rule.specs.Shut.{is_hit, why_of, asked, Because, Made};
 
-use layout::{ASKED_AT, QUERIES_AT};
+use layout::{ASKED_AT, QUERIES_AT, ROW_WORDS};
 
-// What trying to match a rule gives: it matches; a word of the state, by its number, has another value than the one wanted;
-// or a variable has two values, or none, or a buffer that must be busy is not.
-#[derive(Clone, Copy)]
+/// What trying to match a rule gives: it matches; a word of the state, by its number, has another value than the one wanted;
+/// or a variable has two values, or none, or a buffer that must be busy is not. (Three cases, so neither an `Option` nor a `Result`.)
+#[derive(Clone, Copy, Debug, PartialEq, Eq)]
 pub enum Tried {
     Hit,
-    Differs(u16, u16),
+    Differs { place: u16, wanted: u16 },
     Varies,
 }
 
@@ -48,11 +48,14 @@ fn why(place: u16, term: u16) -> Tried
     if 4096 <= term {
         return Tried::Varies;
     }
-    Tried::Differs(place, term)
+    Tried::Differs {
+        place,
+        wanted: term,
+    }
 }
 
 // Whether the n tests that stand in words from o on hold in a state, with the variables in bound and nine, and why not;
-// at the first slot that differs the whole rule is given up. What is left of a mask has the bit of slot b at 128, and no slot is looked at once it is 0.
+// at the first slot that differs the whole rule is given up. What is left of a mask has the bit of slot b at 128, and no slot is looked at once it is 0 (for speed).
 fn match_tests(
     words: &[u16],
     o: usize,
@@ -65,34 +68,38 @@ fn match_tests(
     ensures stop_after { (if is_hit result then on (vars_in bound.new nine.new) else stop) ≡ tests_run (buffers_in state.now) (tests_in words.now o n) no_vars }
     ensures because { Because result words.now o n state.now }
 {
-    let mut q = o;
-    let mut i = 0;
     let mut tried = Tried::Hit;
-    'tests: while i < n {
+    'tests: for i in 0..n {
+        let q = o + ROW_WORDS * i;
         let p = 11 * (words[q] % 8);
         let k = p as usize;
         if state[k + 9] != 0 {
-            tried = Tried::Differs(p + 9, 0);
+            tried = Tried::Differs {
+                place: p + 9,
+                wanted: 0,
+            };
             break;
         }
         if state[k] != words[q + 1] {
-            tried = Tried::Differs(p, words[q + 1]);
+            tried = Tried::Differs {
+                place: p,
+                wanted: words[q + 1],
+            };
             break;
         }
-        let mut rest = words[q + 2] % 256;
-        let mut b = 0;
-        while rest != 0 {
-            if 128 <= rest {
+        let mask = words[q + 2];
+        for b in 0..8 {
+            let left = (mask << b) % 256;
+            if left == 0 {
+                break;
+            }
+            if 128 <= left {
                 if !match_term(bound, nine, state[k + 1 + b], words[q + 3 + b]) {
                     tried = why(p + 1 + b as u16, words[q + 3 + b]);
                     break 'tests;
                 }
             }
-            rest = rest * 2 % 256;
-            b += 1;
         }
-        q += 11;
-        i += 1;
     }
     tried
 }
@@ -113,13 +120,19 @@ fn ask(query: u16, state: &[u16]) -> Tried
         return Tried::Hit;
     }
     if delay != 0 {
-        return Tried::Differs(p + 9, 0);
+        return Tried::Differs {
+            place: p + 9,
+            wanted: 0,
+        };
     }
     if kind == 1 {
         return Tried::Hit;
     }
     if state[k + 10] != 1 {
-        return Tried::Differs(p + 10, 1);
+        return Tried::Differs {
+            place: p + 10,
+            wanted: 1,
+        };
     }
     Tried::Hit
 }
@@ -131,12 +144,9 @@ fn match_queries(words: &[u16], o: usize, state: &[u16]) -> Tried
     ensures because { (n : ℕ) → Because result words.now o n state.now }
 {
     let m = words[o + ASKED_AT] as usize;
-    let mut i = 0;
-    while i < m {
+    for i in 0..m {
         let tried = ask(words[o + QUERIES_AT + i], state);
-        if let Tried::Hit = tried {
-            i += 1;
-        } else {
+        if tried != Tried::Hit {
             return tried;
         }
     }
@@ -165,15 +175,15 @@ fn match_words(
     tried
 }
 
-// The entry of a rule that does not match, into nine words.
+/// The entry of a rule that does not match, into nine words.
 pub fn no_entry(nine: &mut [u16])
     requires { length nine.old ≡ 9 }
     ensures { nine.new ≡ replicate 9 0 }
 {
-    layout::copy_into(nine, 0, &[0u16; 9]);
+    nine.fill(0);
 }
 
-// The fresh entry of the rule whose words start at o, with n tests, into nine words; and why it does not match.
+/// The fresh entry of the rule whose words start at o, with n tests, into nine words; and why it does not match.
 pub fn try_into(nine: &mut [u16], words: &[u16], o: usize, n: usize, state: &[u16]) -> Tried
     requires { (length nine.old ≡ 9) × (n ≤ 8) × (o + 97 ≤ length words.now) × (get_or words.now (o + 88) 0 ≤ 8) × (88 ≤ length state.now) }
     ensures { Made result nine.new words.now o n state.now }
@@ -189,7 +199,7 @@ pub fn try_into(nine: &mut [u16], words: &[u16], o: usize, n: usize, state: &[u1
     tried
 }
 
-// The same, for whoever does not ask why.
+/// The same, for whoever does not ask why.
 pub fn entry_into(nine: &mut [u16], words: &[u16], o: usize, n: usize, state: &[u16])
     requires { (length nine.old ≡ 9) × (n ≤ 8) × (o + 97 ≤ length words.now) × (get_or words.now (o + 88) 0 ≤ 8) × (88 ≤ length state.now) }
     ensures { (r : Rule) (clock : ℕ) → StandsAt r words.now o n → nine.new ≡ entry_of r (state_in state.now clock) }
@@ -197,17 +207,10 @@ pub fn entry_into(nine: &mut [u16], words: &[u16], o: usize, n: usize, state: &[
     try_into(nine, words, o, n, state);
 }
 
-// Whether two entries are the same, word for word.
+/// Whether two entries are the same, word for word.
 pub fn same_entry(nine: &[u16], other: &[u16]) -> bool
     requires { (length nine.now ≡ 9) × (length other.now ≡ 9) }
     ensures { result ≡ same nine.now other.now }
 {
-    let mut i = 0;
-    while i < 9 {
-        if nine[i] != other[i] {
-            return false;
-        }
-        i += 1;
-    }
-    true
+    nine == other
 }

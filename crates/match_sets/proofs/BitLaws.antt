@@ -9,14 +9,10 @@ use native.Mathlib.Decide.{ℕ_discrete}
 use lib.Bits.{bit_and, bit_or, bit_xor, differ, or_step, xor_step, and_le_r}
 use lib.Count.{under, count_trailing_zeros}
 use lib.Pow.{shr-shr, shr_lt, shl_exact}
-use lib.ListN.{length, get_or, set}
-use lib.Seq.{get_or-set_same, get_or-set_other}
-use mathlib.Core.List.{List}
 use lib.Dec.{eqb}
 use borrow.Author.Tests.{eqb-true, eq-eqb, ne_eqb}
 use Rattle.meaning.specs.Base.{bit}
 use Rattle.laws.specs.BaseLaws.{bit-and, bit-zero, no_true}
-use Rattle.match_sets.specs.Sets.{has}
 
 -- ---- one digit
 
@@ -206,17 +202,7 @@ module _ (x i : ℕ) (h : i < 64) where
       ∙ ap₂ (λ (a b : Bool). differs a b) (bit-or x (2 ^ i) j ∙ ap (λ (b : Bool). bit x j || b) (bit-power i j)) (bit-power i j)
       ∙ elim (eqb j i) as (λ b. differs (bit x j || b) b ≡ (bit x j && not b)) [ true ↦ or_same (bit x j) | false ↦ or-other (bit x j) ])
 
--- ---- one word of a run of words
-
-module _ (f : Bool → Bool → Bool) (keeps : (b : Bool) → f b false ≡ b) where
-  -- word j is changed in one bit, and the others in none
-  pub one_word : (l : List ℕ) (at r i : ℕ) → at < length l → ((k : ℕ) → bit r k ≡ f (bit (get_or l at 0) k) (eqb k i))
-      → (j k : ℕ) → has (set l at r) j k ≡ f (has l j k) (eqb j at && eqb k i)
-  one_word l at r i room e j k =
-      elim (ℕ_discrete j at) [
-        | yes q ↦ rw (q, get_or-set_same l at r 0 room, eq-eqb at at refl) (e k)
-        | no q ↦ rw (get_or-set_other l at j r 0 q, ne_eqb j at q) (sym (keeps (has l j k)))
-      ]
+-- ---- a bit with none, or with all
 
 pub or-none : (b : Bool) → (b || false) ≡ b
 or-none true = refl
@@ -229,10 +215,3 @@ but-none false = refl
 pub but-all : (b : Bool) → (b && not true) ≡ false
 but-all true = refl
 but-all false = refl
-
-module _ (l : List ℕ) (at r i : ℕ) (room : at < length l) where
-  pub word-with : ((k : ℕ) → bit r k ≡ (bit (get_or l at 0) k || eqb k i)) → (j k : ℕ) → has (set l at r) j k ≡ (has l j k || (eqb j at && eqb k i))
-  word-with e j k = one_word (λ a b. a || b) or-none l at r i room e j k
-
-  pub word-without : ((k : ℕ) → bit r k ≡ (bit (get_or l at 0) k && not (eqb k i))) → (j k : ℕ) → has (set l at r) j k ≡ (has l j k && not (eqb j at && eqb k i))
-  word-without e j k = one_word (λ a b. a && not b) but-none l at r i room e j k

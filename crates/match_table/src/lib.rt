@@ -21,19 +21,17 @@ fn entry_at(table: &mut [u16], k: usize, heads: &[u16], words: &[u16], n: usize,
     match_rule::entry_into(&mut table[a..e], words, RULE_WORDS * k, tests, state);
 }
 
-// The fresh table of n rules.
+/// The fresh table of n rules.
 pub fn fresh(table: &mut [u16], heads: &[u16], words: &[u16], n: usize, state: &[u16])
     requires { Laid heads.now words.now n × (length table.old ≡ 9 * n) × (88 ≤ length state.now) }
     ensures { (clock : ℕ) → table.new ≡ fresh_table (rules_in heads.now words.now n) (state_in state.now clock) }
 {
-    let mut k = 0;
-    while k < n {
+    for k in 0..n {
         entry_at(table, k, heads, words, n, state);
-        k += 1;
     }
 }
 
-// The entries of the rules that test or query a marked buffer, made afresh, and how many these are; no other entry is touched.
+/// The entries of the rules that test or query a marked buffer, made afresh, and how many these are; no other entry is touched.
 pub fn refresh(
     table: &mut [u16],
     heads: &[u16],
@@ -47,13 +45,11 @@ pub fn refresh(
     ensures counted { result ≡ refresh_count (rules_in heads.now words.now n) mark }
 {
     let mut count = 0;
-    let mut k = 0;
-    while k < n {
+    for k in 0..n {
         if heads[HEAD_WORDS * k + 3] & mark != 0 {
             entry_at(table, k, heads, words, n, state);
             count += 1;
         }
-        k += 1;
     }
     count
 }

@@ -1,4 +1,4 @@
--- What document 01 says, as definitions that compute: one file for one notion, in its order.
+-- What a model, a step and a call mean, as definitions that compute: one file for one notion, in the order of docs/MEANING.md.
 pub mod Base
 pub mod Highest
 pub mod Numbers

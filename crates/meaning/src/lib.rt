@@ -1,13 +1,12 @@
-// The state that every call takes and gives back, by value (document 01, "Words and sizes").
+// The state that every call takes and gives back, by value (docs/MEANING.md says what each part of it means).
 #![tactic(auto)]
 
 ghost use Rattle.std.specs.Prelude.{◌≡◌};
 ghost use Rattle.meaning.specs.State.{nil_after, zero_state};
 
-pub mod numbers;
 mod reasons;
 
-pub use reasons::{Reason, Refusal};
+pub use reasons::{ALL_DONE, Reason, Refusal};
 
 // One buffer: the type of its chunk, eight slot values, the ms until it is visible, and whether the last action on it was a request that found no fact.
 // (`isa` is ACT-R's own word for a chunk's type; Rattle keeps the word `type` for itself.)

@@ -2,6 +2,9 @@
 ghost use Rattle.std.specs.Prelude.{◌≡◌};
 ghost use Rattle.meaning.specs.Reasons.{number_of};
 
+/// The number of a call that has done all that was asked.
+pub const ALL_DONE: u8 = 0;
+
 /// Why a call is refused or a run ends early. docs/NUMBERS.md says when each is given.
 #[derive(Clone, Copy, Debug, PartialEq, Eq)]
 pub enum Reason {
@@ -23,7 +26,7 @@ pub enum Reason {
 }
 
 impl Reason {
-    /// The number that a call answers for it, 1 to 15. (0 says that all that was asked is done.)
+    /// The number that a call answers for it, 1 to 15.
     pub fn number(self) -> u8
         ensures { result ≡ number_of self }
     {

@@ -1,2 +1,2 @@
--- Laws of actions, their rows and the loop over them.
+-- Laws of actions, their rows and the words of a rule.
 pub mod ActionLaws

@@ -1,5 +1,5 @@
 -- The type that tests name for a buffer: test by test, and what an answer says of it.
-use Rattle.std.specs.Prelude.{if◌then◌else◌}
+use Rattle.std.specs.Prelude.{if◌then◌else◌, Option, Some, None}
 use Prim.Native.Nat.{ℕ, ◌+◌, ◌-◌, ◌≤◌, ◌<◌}
 use mathlib.Core.Path.{◌≡◌, refl}
 use mathlib.Core.Bool.{Bool, true, false}
@@ -10,26 +10,24 @@ use Rattle.meaning.specs.Model.{Test}
 use Rattle.meaning.specs.Image.{is_tested, tested_type}
 use Rattle.layout.specs.Rows.{rows_in}
 use Rattle.layout.proofs.RowLaws.{rows_left}
-use Rattle.read_deeds.specs.declared.Tested.{Tested}
-use Rattle.read_deeds.specs.declared.Tested.TheVariants.{Isa, Untested}
 use Rattle.read_deeds.specs.Deeds.{tested_of}
 
 -- ---- the loop over tests: those that are left at i say what all n say
 
 module _ (test : ℕ → Test) (n b : ℕ) where
-  unfoldable pub tested_from : ℕ → Tested
+  unfoldable pub tested_from : ℕ → Option ℕ
   tested_from i = tested_of (rows_in test i (n - i)) b
 
   pub tested-start : tested_from 0 ≡ tested_of (rows_in test 0 n) b
   unfolding tested_from
   tested-start = let e : n - 0 ≡ n = omega arith in rw e
 
-  pub tested-end : (i : ℕ) → n ≤ i → Untested ≡ tested_from i
+  pub tested-end : (i : ℕ) → n ≤ i → None ≡ tested_from i
   unfolding tested_from rows_in
   tested-end i h = let e : n - i ≡ 0 = omega arith in rw e
 
   module _ (i : ℕ) (h : i < n) where
-    pub tested-here : (test i).buffer ≡ b → Isa (test i).isa ≡ tested_from i
+    pub tested-here : (test i).buffer ≡ b → Some (test i).isa ≡ tested_from i
     unfolding tested_from
     tested-here e = rw (rows_left test i n h (n - i) (omega arith), eq-eqb (test i).buffer b e)
 
@@ -39,20 +37,20 @@ module _ (test : ℕ → Test) (n b : ℕ) where
 
 -- ---- what an answer says
 
-type-says : (t : Bool) (x k : ℕ) → Isa k ≡ (if t then Isa x else Untested) → (t ≡ true) × (x ≡ k)
+type-says : (t : Bool) (x k : ℕ) → Some k ≡ (if t then Some x else None) → (t ≡ true) × (x ≡ k)
 type-says true x k e = (refl, cc)
-type-says false x k e = let z : ◌≡◌ {A = ℕ} 0 1 = cc in absurd (omega arith)
+type-says false x k e = cc
 
-none-says : (t : Bool) (x : ℕ) → Untested ≡ (if t then Isa x else Untested) → t ≡ false
+none-says : (t : Bool) (x : ℕ) → None ≡ (if t then Some x else None) → t ≡ false
 none-says true x e = cc
 none-says false x e = refl
 
 module _ (ts : List Test) (b : ℕ) where
-  pub is-tested : (k : ℕ) → Isa k ≡ tested_of ts b → is_tested ts b ≡ true
+  pub is-tested : (k : ℕ) → Some k ≡ tested_of ts b → is_tested ts b ≡ true
   is-tested k e = (type-says (is_tested ts b) (tested_type ts b) k e).0
 
-  pub tested-is : (k : ℕ) → Isa k ≡ tested_of ts b → tested_type ts b ≡ k
+  pub tested-is : (k : ℕ) → Some k ≡ tested_of ts b → tested_type ts b ≡ k
   tested-is k e = (type-says (is_tested ts b) (tested_type ts b) k e).1
 
-  pub not_tested : Untested ≡ tested_of ts b → is_tested ts b ≡ false
+  pub not_tested : None ≡ tested_of ts b → is_tested ts b ≡ false
   not_tested e = none-says (is_tested ts b) (tested_type ts b) e

@@ -6,13 +6,6 @@ ghost use Rattle.meaning.specs.Bits.{field_at};
 ghost use Rattle.laws.specs.BitsLaws.{window};
 ghost use Rattle.read_fields.specs.Field.{FetchMet};
 
-// A field, or that it is not wholly there.
-#[derive(Clone, Copy)]
-pub enum Field {
-    Value(u16),
-    Short,
-}
-
 // The byte at i, and 0 past the end.
 fn byte_or_zero(bytes: &[u8], i: usize) -> u32
     ensures { (result ≡ get_or bytes.now i 0) × (result < 256) }
@@ -52,7 +45,7 @@ fn three_bytes(image: &[u8], i: usize) -> u32
     0
 }
 
-// The bits from `at` on, out of the three bytes that hold them: fetched, shifted and cut. Bytes past the end count as zeros.
+/// The bits from `at` on, out of the three bytes that hold them: fetched, shifted and cut. Bytes past the end count as zeros.
 pub fn bits(image: &[u8], at: usize, width: usize) -> u16
     requires { (width ≤ 16) × (at ≤ 2 ^ 32) }
     ensures { result ≡ field_at image.now at width }
@@ -62,15 +55,15 @@ pub fn bits(image: &[u8], at: usize, width: usize) -> u16
     ((bytes >> (24 - skipped - width)) & ((1u32 << width) - 1)) as u16
 }
 
-// The field of `width` bits at bit `at`, or that it is not wholly there. Where the three bytes that can hold it are all there, so is the field.
-pub fn field_at(image: &[u8], at: usize, width: usize) -> Field
+/// The field of `width` bits at bit `at`, if it is wholly there. (Where the three bytes that can hold it are all there, so is the field.)
+pub fn field_at(image: &[u8], at: usize, width: usize) -> Option<u16>
     requires { (width ≤ 16) × (at ≤ 2 ^ 32) × (length image.now ≤ 65536) }
     ensures { FetchMet result image.now at width }
 {
     if image.len() <= at / 8 + 2 {
         if 8 * image.len() < at + width {
-            return Field::Short;
+            return None;
         }
     }
-    Field::Value(bits(image, at, width))
+    Some(bits(image, at, width))
 }

@@ -8,9 +8,9 @@ use lib.ListN.{get_or}
 use lib.Bits.{bit_and, bit_or, and_mask}
 use lib.Pow.{pow_mono}
 use lib.Dec.{eqb}
-use borrow.Author.Tests.{lt-ltb, le-ltb}
+use borrow.Author.Tests.{le-ltb}
 use Rattle.meaning.specs.Base.{every, any_of, up_from, bit}
-use Rattle.meaning.specs.Image.{is_variable, names, is_tested}
+use Rattle.meaning.specs.Image.{is_variable, names, stands_in, is_tested}
 use Rattle.laws.specs.BaseLaws.{bit-zero}
 use Rattle.laws.specs.RefreshLaws.{is_queried}
 use Rattle.layout.specs.Rows.{rows_in, word_term, named_in, test_in, tests_in, query_by, queries_in, queries_at}
@@ -25,21 +25,18 @@ any_last p (y ∷ xs) x = ap (λ (t : Bool). p y || t) (any_last p xs x) ∙ sym
 
 -- ---- one number more, as the machine adds it
 
-pub one-is : (k : ℕ) → k ≤ 8 → 1 * 2 ^ k % 65536 ≡ 2 ^ k
-one-is k h = omega (arith, pow_mono {i = k} {j = 8} h)
+pub one_is : (k : ℕ) → k ≤ 8 → 1 * 2 ^ k % 65536 ≡ 2 ^ k
+one_is k h = omega (arith, pow_mono {i = k} {j = 8} h)
 
 module _ (mask k : ℕ) (h : k < 8) where
   one_more : Holds (λ b. bit mask b || eqb b k) (bit_or mask (1 * 2 ^ k % 65536))
-  one_more b = ap (λ (n : ℕ). bit (bit_or mask n) b) (one-is k (omega arith)) ∙ bit-or mask (2 ^ k) b ∙ ap (λ (t : Bool). bit mask b || t) (bit-power k b)
+  one_more b = ap (λ (n : ℕ). bit (bit_or mask n) b) (one_is k (omega arith)) ∙ bit-or mask (2 ^ k) b ∙ ap (λ (t : Bool). bit mask b || t) (bit-power k b)
 
 -- ---- a term
 
 module _ (mask t : ℕ) where
-  pub with-symbol : t < 4096 → Holds (λ v. bit mask v || is_variable v (word_term t)) mask
-  with-symbol h v = rw (lt-ltb t 4096 h) (sym (or-false (bit mask v)))
-
-  pub with-variable : 4096 ≤ t → Holds (λ v. bit mask v || is_variable v (word_term t)) (bit_or mask (1 * 2 ^ (t % 8) % 65536))
-  with-variable h v = rw (le-ltb t 4096 h) (one_more mask (t % 8) (omega arith) v)
+  pub with_variable : 4096 ≤ t → Holds (λ v. bit mask v || is_variable v (word_term t)) (bit_or mask (1 * 2 ^ (t % 8) % 65536))
+  with_variable h v = rw (le-ltb t 4096 h) (one_more mask (t % 8) (omega arith) v)
 
 -- ---- the loop over the slots of a row: the variables of the slots below b
 
@@ -47,21 +44,21 @@ abbrev pub stands_below : List ℕ → ℕ → ℕ → ℕ → Bool
 stands_below w q b v = any_of (λ n. is_variable v n.term) (map (named_in w q) (below (get_or w (q + 2) 0) b))
 
 module _ (w : List ℕ) (q mask : ℕ) where
-  pub slots-start : Holds (λ v. bit mask v || stands_below w q 0 v) mask
+  pub slots_start : Holds (λ v. bit mask v || stands_below w q 0 v) mask
   unfolding below
-  slots-start v = sym (or-false (bit mask v))
+  slots_start v = sym (or-false (bit mask v))
 
   pub slots_end : (seen : ℕ) → Holds (λ v. bit mask v || stands_below w q 8 v) seen → Holds (λ v. bit mask v || stands_at w q v) seen
   unfolding rest
   slots_end seen h v = h v ∙ ap (λ (l : List ℕ). bit mask v || any_of (λ n. is_variable v n.term) (map (named_in w q) l)) (below_all (get_or w (q + 2) 0) 8 (omega arith) refl)
 
   module _ (b seen seen' : ℕ) (h : Holds (λ v. bit mask v || stands_below w q b v) seen) where
-    pub slots-skip : names (get_or w (q + 2) 0) b ≡ false → seen' ≡ seen → Holds (λ v. bit mask v || stands_below w q (b + 1) v) seen'
-    slots-skip e z v = rw (z, below-off (get_or w (q + 2) 0) b e) (h v)
+    pub slots_skip : names (get_or w (q + 2) 0) b ≡ false → seen' ≡ seen → Holds (λ v. bit mask v || stands_below w q (b + 1) v) seen'
+    slots_skip e z v = rw (z, below-off (get_or w (q + 2) 0) b e) (h v)
 
-    pub slots-turn : names (get_or w (q + 2) 0) b ≡ true → Holds (λ v. bit seen v || is_variable v (word_term (get_or w (q + 3 + b) 0))) seen'
+    pub slots_turn : names (get_or w (q + 2) 0) b ≡ true → Holds (λ v. bit seen v || is_variable v (word_term (get_or w (q + 3 + b) 0))) seen'
         → Holds (λ v. bit mask v || stands_below w q (b + 1) v) seen'
-    slots-turn e g v =
+    slots_turn e g v =
         g v
         ∙ ap (λ (t : Bool). t || is_variable v (word_term (get_or w (q + 3 + b) 0))) (h v)
         ∙ or_assoc (bit mask v) (stands_below w q b v) (is_variable v (word_term (get_or w (q + 3 + b) 0)))
@@ -76,18 +73,33 @@ module _ {A : Type 0} (p : ℕ → A → Bool) (thing : ℕ → A) where
   unfolding rows_in
   rows_start v = bit-zero v
 
-  pub rows-turn : (i m m' : ℕ) → Holds (λ v. any_of (p v) (rows_in thing 0 i)) m → Holds (λ v. bit m v || p v (thing i)) m'
+  pub rows_turn : (i m m' : ℕ) → Holds (λ v. any_of (p v) (rows_in thing 0 i)) m → Holds (λ v. bit m v || p v (thing i)) m'
       → Holds (λ v. any_of (p v) (rows_in thing 0 (i + 1))) m'
-  rows-turn i m m' h g v =
+  rows_turn i m m' h g v =
       let z : 0 + i ≡ i = omega arith in
       g v
       ∙ ap (λ (t : Bool). t || p v (thing i)) (h v)
       ∙ sym (any_last (p v) (rows_in thing 0 i) (thing i))
       ∙ ap (any_of (p v)) (ap (λ (k : ℕ). rows_in thing 0 i ++ (thing k ∷ [])) (sym z) ∙ sym (rows_more thing 0 i))
 
--- a word names its buffer
-pub buffer-more : (word m : ℕ) → Holds (λ b. bit m b || eqb (word % 8) b) (bit_or m (1 * 2 ^ (word % 8) % 65536))
-buffer-more word m b = one_more m (word % 8) (omega arith) b ∙ ap (λ (t : Bool). bit m b || t) (eqb_swap b (word % 8))
+-- the variables of one test more
+module _ (w : List ℕ) (o : ℕ) where
+  pub no_test : Holds (stands_in (tests_in w o 0)) 0
+  no_test = rows_start (λ v t. any_of (λ n. is_variable v n.term) t.named) (λ k. test_in w (o + 11 * k))
+
+  pub one_test : (i m m' : ℕ) → Holds (stands_in (tests_in w o i)) m → Holds (λ v. bit m v || stands_at w (o + 11 * i) v) m' → Holds (stands_in (tests_in w o (i + 1))) m'
+  one_test = rows_turn (λ v t. any_of (λ n. is_variable v n.term) t.named) (λ k. test_in w (o + 11 * k))
+
+-- the buffer of one word more
+module _ (w : List ℕ) (o step : ℕ) where
+  pub no_buffer : Holds (names_buffer w o step 0) 0
+  no_buffer = rows_start (λ b x. eqb x b) (λ k. get_or w (o + step * k) 0 % 8)
+
+  pub one_buffer : (i m : ℕ) → Holds (names_buffer w o step i) m → Holds (names_buffer w o step (i + 1)) (bit_or m (1 * 2 ^ (get_or w (o + step * i) 0 % 8) % 65536))
+  one_buffer i m h =
+      let word : ℕ = get_or w (o + step * i) 0 % 8 in
+      rows_turn (λ b x. eqb x b) (λ k. get_or w (o + step * k) 0 % 8) i m _ h
+      (λ b. one_more m word (omega arith) b ∙ ap (λ (t : Bool). bit m b || t) (eqb_swap b word))
 
 -- ---- the buffers of tests and of queries, by their words
 
@@ -113,5 +125,5 @@ both_hold w o n tested queried h g b =
     bit-or tested queried b ∙ ap₂ (λ (x y : Bool). x || y) (h b ∙ tests-on w o n b) (g b ∙ queries-on w (o + 89) (get_or w (o + 88) 0) b)
 
 -- whether the mask has every number below k, as the machine tests it
-pub holds-every : (m k : ℕ) (p : ℕ → Bool) → k ≤ 8 → Holds p m → eqb (bit_and m (1 * 2 ^ k % 65536 - 1)) (1 * 2 ^ k % 65536 - 1) ≡ every p (up_from 0 k)
-holds-every m k p h g = rw (one-is k h) (ap (λ (n : ℕ). eqb n (2 ^ k - 1)) (and_mask m k) ∙ ones-all k m ∙ ap (λ (f : ℕ → Bool). every f (up_from 0 k)) (fun_ext g))
+pub holds_every : (m k : ℕ) (p : ℕ → Bool) → k ≤ 8 → Holds p m → eqb (bit_and m (1 * 2 ^ k % 65536 - 1)) (1 * 2 ^ k % 65536 - 1) ≡ every p (up_from 0 k)
+holds_every m k p h g = rw (one_is k h) (ap (λ (n : ℕ). eqb n (2 ^ k - 1)) (and_mask m k) ∙ ones-all k m ∙ ap (λ (f : ℕ → Bool). every f (up_from 0 k)) (fun_ext g))

@@ -1,3 +1,2 @@
--- Laws of the header, of the slot counts and of the opening state.
-pub mod HeaderLaws
+-- Laws of the slot counts and of the opening state.
 pub mod OpeningLaws

@@ -1,20 +1,15 @@
 -- Slot counts and opening chunks, stored one after the other.
-use Prim.Native.Nat.{ℕ, zero, suc, ◌+◌, ◌-◌, ◌≤◌, ◌<◌}
+use Prim.Native.Nat.{ℕ, zero, suc, ◌+◌, ◌-◌, ◌≤◌}
 use mathlib.Core.Path.{◌≡◌, ap, ◌∙◌}
 use mathlib.Core.List.{List, [], ◌∷◌, ◌++◌, map, map-id}
 use native.Mathlib.Omega.{arith}
-use lib.ListN.{length, get_or, set, take, drop, replicate, length-map}
+use lib.ListN.{length, set, take, drop, replicate, length-map}
 use lib.Seq.{sets, sets-eq, take_at}
 use Rattle.meaning.specs.declared.Buffer.{Buffer}
 use Rattle.meaning.specs.declared.State.{State}
 use Rattle.meaning.specs.Model.{Chunk}
 use Rattle.meaning.specs.State.{nil_after, opens}
-use Rattle.meaning.specs.Read.{read_got, field, times}
-use Rattle.meaning.specs.Image.{a_type, anything, eight, chunk}
-use Rattle.laws.specs.BitsLaws.{field_at-lt}
-use Rattle.laws.specs.ReadLaws.{field-got, split}
 use Rattle.layout.specs.Walks.{Small}
-use Rattle.read_facts.specs.Made.{a_chunk}
 use Rattle.read_facts.proofs.StoreLaws.{sets-fresh}
 use Rattle.read_opening.specs.Parts.{opening_state}
 

@@ -1,2 +1,2 @@
--- Laws of readings one after the other.
-pub mod AfterLaws
+-- A field that was read whatever its value, and then judged.
+pub mod Judged

@@ -7,22 +7,15 @@ use mathlib.Core.List.{List}
 use native.Mathlib.Omega.{arith}
 use lib.ListN.{get_or, take}
 use Rattle.meaning.specs.Base.{every, up_from}
-use Rattle.meaning.specs.Model.{Sizes, Test, Query, Action}
-use Rattle.meaning.specs.Read.{read_refused, read_got}
+use Rattle.meaning.specs.Model.{Sizes, Test, Query}
+use Rattle.meaning.specs.Read.{read_refused, read_got, follow}
 use Rattle.meaning.specs.Numbers.{finer, bad_variable}
-use Rattle.meaning.specs.Image.{Head, head, tests, stands_in, queries, actions, body, rule}
-use Rattle.laws.specs.ReadLaws.{no-got}
-use Rattle.layout.specs.declared.Walk.{Walk}
-use Rattle.layout.specs.declared.Walk.TheVariants.{Next, Bad}
-use Rattle.layout.specs.Walks.{answer, Within}
+use Rattle.meaning.specs.Image.{Head, head, tests, stands_in, queries, body, rule}
 use Rattle.layout.specs.Rows.{test_in, tests_in, query_by, queries_at}
-use Rattle.layout.proofs.WalkLaws.{answer-next}
 use Rattle.layout.proofs.WordLaws.{below_get}
 use Rattle.layout.proofs.RowLaws.{rows_same, in-same, test-like}
-use Rattle.read_ranges.specs.After.{after}
-use Rattle.read_ranges.proofs.AfterLaws.{follow-answer, after-step, after-end}
-use Rattle.read_rules.specs.declared.HeadRead.{HeadRead}
-use Rattle.read_rules.specs.Heads.{head_in, all_stood, a_rule, rule_left}
+use Rattle.read_rules.specs.declared.RuleHead.{RuleHead}
+use Rattle.read_rules.specs.Heads.{head_in, rule_left}
 
 -- ---- a rule by its head, and what is left after its tests and queries
 
@@ -35,29 +28,21 @@ module _ (version : ℕ) (z : Sizes) (s : List ℕ) (p : ℕ) where
   unfolding rule
   rule-on h q e = rw (← e)
 
-  -- tests, the check on the variables and queries, each from where the one before it ended
-  pub conditions-on : (h : HeadRead) (w₁ w₂ w₃ : Walk) (ts : List Test) (qs : List Query) → answer w₁ ts ≡ tests finer z h.variables h.tests s p
-      → answer w₂ tt ≡ after w₁ (all_stood ts h.variables) → answer w₃ qs ≡ after w₂ (queries finer version z.buffers h.tests s)
-      → body finer version z (head_in h) s p ≡ after w₃ (rule_left z h ts qs s)
+-- tests, the check on the variables and queries, each from where the one before it ended
+module _ (version : ℕ) (z : Sizes) (s : List ℕ) (p : ℕ) (h : RuleHead) where
+  pub tests-bad : (x y : ℕ) → read_refused x y ≡ tests finer z h.variables h.tests s p → read_refused x y ≡ body finer version z (head_in h) s p
   unfolding body
-  conditions-on h w₁ w₂ w₃ ts qs e₁ e₂ e₃ =
-      follow-answer w₁ ts (tests finer z h.variables h.tests s p) _ e₁
-      ∙ after-step w₁ w₂ tt (all_stood ts h.variables) _ e₂
-      ∙ after-step w₂ w₃ qs (queries finer version z.buffers h.tests s) _ e₃
+  tests-bad x y e = rw (← e)
 
--- where the variables have stood, the place is the one before
-pub stood-within : (ts : List Test) (variables m : ℕ) (w w' : Walk) → answer w' (tt {0}) ≡ after w (all_stood ts variables) → Within w m → Within w' m
-stood-within ts variables m (Bad n p) w' e h q g = absurd (no-got n p (tt {0}) q (sym e ∙ answer-next w' (tt {0}) q g))
-stood-within ts variables m (Next p) w' e h q g =
-    (elim (every (stands_in ts) (up_from 0 variables)) as (λ t. read_got (tt {0}) q ≡ (if t then read_got (tt {0}) p else read_refused bad_variable p) → q ≤ m) [
-      | true ↦ λ x. let z : q ≡ p = cc in rw z (h p refl)
-      | false ↦ λ x. absurd (no-got bad_variable p (tt {0}) q (sym x))
-    ]) (sym (answer-next w' (tt {0}) q g) ∙ e)
+  module _ (ts : List Test) (q : ℕ) (e : read_got ts q ≡ tests finer z h.variables h.tests s p) where
+    pub unstood : every (stands_in ts) (up_from 0 h.variables) ≡ false → read_refused bad_variable q ≡ body finer version z (head_in h) s p
+    unfolding body
+    unstood k = rw (← e, k)
 
--- the actions, and the rule that is made of all
-pub left-on : (z : Sizes) (h : HeadRead) (ts : List Test) (qs : List Query) (s : List ℕ) (q : ℕ) (w : Walk) (as' : List Action)
-    → answer w as' ≡ actions finer z h.variables ts h.actions s q → answer w (a_rule h.utility ts qs as') ≡ rule_left z h ts qs s q
-left-on z h ts qs s q w as' e = sym (follow-answer w as' (actions finer z h.variables ts h.actions s q) _ e ∙ after-end w (a_rule h.utility ts qs as'))
+    pub stood : every (stands_in ts) (up_from 0 h.variables) ≡ true
+        → body finer version z (head_in h) s p ≡ follow (queries finer version z.buffers h.tests s q) (λ qs at. rule_left z h ts qs s at)
+    unfolding body
+    stood k = rw (← e, k)
 
 -- ---- what stays where words after it have changed
 

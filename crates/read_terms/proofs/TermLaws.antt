@@ -1,22 +1,21 @@
 -- The loop over the terms: what was read stands at its slots, and what is left is read from here.
 use Rattle.std.specs.Prelude.{if◌then◌else◌}
-use Prim.Native.Nat.{ℕ, zero, suc, ◌+◌, ◌*◌, ◌-◌, ◌%◌, ◌^◌, ◌≤◌, ◌<◌}
+use Prim.Native.Nat.{ℕ, zero, suc, ◌+◌, ◌-◌, ◌%◌, ◌^◌, ◌≤◌, ◌<◌}
 use mathlib.Core.Path.{◌≡◌, refl, sym, ap, ap₂, ◌∙◌}
 use mathlib.Core.Bool.{Bool, true, false, not}
 use mathlib.Core.List.{List, [], ◌∷◌, ◌++◌, map, append-nil, append_assoc}
 use native.Mathlib.Omega.{arith}
-use lib.ListN.{length, get_or, set, take}
+use lib.ListN.{length, set, take}
 use lib.Seq.{get_or-set_same, get_or-set_other}
 use lib.Dec.{eqb, ltb}
-use borrow.Author.Tests.{ltb-false}
+use borrow.Author.Tests.{ltb-false, le-leb}
 use Rattle.meaning.specs.Numbers.{finer, bad_mask, bad_variable}
 use Rattle.meaning.specs.Base.{keep, admit, up_from}
-use Rattle.meaning.specs.Model.{Named, Term, symbol, variable}
+use Rattle.meaning.specs.Bits.{field_at}
+use Rattle.meaning.specs.Model.{Named, symbol, variable}
 use Rattle.meaning.specs.Read.{Read, read_refused, read_got, follow, field, must}
 use Rattle.meaning.specs.Image.{names, slots_in, terms, term_of, a_term, a_mask, masked}
-use Rattle.layout.specs.declared.Walk.{Walk}
-use Rattle.layout.specs.declared.Walk.TheVariants.{Next, Bad}
-use Rattle.layout.specs.Walks.{answer, mapped}
+use Rattle.layout.specs.Walks.{mapped, in_range}
 use Rattle.layout.specs.Rows.{word_term, named_at, named_by, masked_in}
 use Rattle.layout.proofs.RowLaws.{masked_row}
 use Rattle.read_terms.proofs.MaskBits.{rest, below, rest-start, rest-on, rest-off, below_on, below-off, below_all}
@@ -51,6 +50,11 @@ word-term variables t h g =
       | false ↦ λ e. let l : 4096 ≤ t = ltb-false t 4096 e in ap variable (omega arith)
     ]) refl
 
+-- a term is read as a field below an end
+term-range : (variables : ℕ) (s : List ℕ) (p : ℕ) → field 13 (must bad_variable (in_range 0 (4096 + variables))) s p ≡ field 13 (must bad_variable (a_term variables)) s p
+unfolding field
+term-range variables s p = rw (le-leb 0 (field_at s p 13) (omega arith))
+
 -- ---- the loop over slots: what was passed, and what is left to read from here
 
 unfoldable pub on_to : ℕ → ℕ → List ℕ → List ℕ → ℕ → ℕ → Read (List Named)
@@ -70,27 +74,23 @@ module _ (m variables : ℕ) (s : List ℕ) where
   unfolding on_to terms
   on-end xs b at h e = rw (e, below_all m b h e) (ap (λ (l : List Named). read_got l at) (sym (append-nil (named_by m xs))))
 
-  module _ (xs xs' : List ℕ) (b at at' : ℕ) (h : b < 8) where
+  module _ (xs : List ℕ) (b at : ℕ) (h : b < 8) where
     -- a slot that is not named is passed
-    pub on-skip : names m b ≡ false → xs' ≡ xs → at' ≡ at → on_to m variables s xs' (b + 1) at' ≡ on_to m variables s xs b at
+    pub on-skip : names m b ≡ false → on_to m variables s xs (b + 1) at ≡ on_to m variables s xs b at
     unfolding on_to
-    on-skip e ex ea = rw (ex, ea, below-off m b e, rest-off m b h e)
+    on-skip e = rw (below-off m b e, rest-off m b h e)
 
     module _ (e : names m b ≡ true) where
-      pub on-bad : (x y : ℕ) → field 13 (must bad_variable (a_term variables)) s at ≡ read_refused x y → read_refused x y ≡ on_to m variables s xs b at
+      pub on-bad : (x y : ℕ) → read_refused x y ≡ field 13 (must bad_variable (in_range 0 (4096 + variables))) s at → read_refused x y ≡ on_to m variables s xs b at
       unfolding on_to terms
-      on-bad x y g = rw (rest-on m b h e, g)
+      on-bad x y g = rw (rest-on m b h e, ← (g ∙ term-range variables s at))
 
-      pub on-turn : (t q : ℕ) → variables ≤ 8 → t < 4096 + variables → length xs ≡ 8
-          → field 13 (must bad_variable (a_term variables)) s at ≡ read_got t q → xs' ≡ set xs b t → at' ≡ q
-          → on_to m variables s xs' (b + 1) at' ≡ on_to m variables s xs b at
+      pub on-turn : (t q : ℕ) → variables ≤ 8 → length xs ≡ 8 → t < 4096 + variables → read_got t q ≡ field 13 (must bad_variable (in_range 0 (4096 + variables))) s at
+          → on_to m variables s (set xs b t) (b + 1) q ≡ on_to m variables s xs b at
       unfolding on_to terms
-      on-turn t q hn ht hl g ex ea =
-          rw (ex, ea, rest-on m b h e, g, passed_on m xs b t e (omega arith), word-term variables t hn ht) (go (terms finer variables (rest m (b + 1)) s q))
+      on-turn t q hn hl ht g =
+          rw (rest-on m b h e, ← (g ∙ term-range variables s at), passed_on m xs b t e (omega arith), word-term variables t hn ht) (go (terms finer variables (rest m (b + 1)) s q))
         where
-          x : Named
-          x = record { slot = b; term = term_of t }
-
           go : (r : Read (List Named))
               → mapped (λ ns. (map (named_at xs) (below m b) ++ (record { slot = b; term = term_of t } ∷ [])) ++ ns) r
               ≡ mapped (λ ns. map (named_at xs) (below m b) ++ ns) (follow r (λ ns z. read_got (record { slot = b; term = term_of t } ∷ ns) z))
@@ -99,39 +99,27 @@ module _ (m variables : ℕ) (s : List ℕ) where
 
 -- ---- a mask and its terms
 
-past-broken : (t r : Bool) → r ≡ not t → r ≡ true → ◌≡◌ {A = ℕ} (if t then 0 else bad_mask) bad_mask
-past-broken true r e g = let z : false ≡ true = cc in cc
-past-broken false r e g = refl
+mask-rule : (t r : Bool) (n : ℕ) → r ≡ not t → (if r then n else 0) ≡ (if t then 0 else n)
+mask-rule true r n e = rw e
+mask-rule false r n e = rw e
 
-past-kept : (t r : Bool) → r ≡ not t → r ≡ false → ◌≡◌ {A = ℕ} (if t then 0 else bad_mask) 0
-past-kept true r e g = refl
-past-kept false r e g = let z : true ≡ false = cc in cc
-
-pub mask-past : (slots m : ℕ) (r : Bool) → r ≡ not (eqb (m % 2 ^ (8 - slots)) 0) → r ≡ true → must bad_mask (a_mask slots) m ≡ bad_mask
-mask-past slots m r e g = past-broken (eqb (m % 2 ^ (8 - slots)) 0) r e g
-
-pub mask-kept : (slots m : ℕ) (r : Bool) → r ≡ not (eqb (m % 2 ^ (8 - slots)) 0) → r ≡ false → must bad_mask (a_mask slots) m ≡ 0
-mask-kept slots m r e g = past-kept (eqb (m % 2 ^ (8 - slots)) 0) r e g
+-- what the code finds of a mask is what its rule says
+pub mask-judged : (slots m : ℕ) (r : Bool) → r ≡ not (eqb (m % 2 ^ (8 - slots)) 0) → (if r then bad_mask else 0) ≡ must bad_mask (a_mask slots) m
+mask-judged slots m r e = mask-rule (eqb (m % 2 ^ (8 - slots)) 0) r bad_mask e
 
 module _ (variables slots : ℕ) (s : List ℕ) (p : ℕ) where
-  pub masked-bad : (x y : ℕ) → field 8 (must bad_mask (a_mask slots)) s p ≡ read_refused x y → read_refused x y ≡ masked finer variables slots s p
+  pub masked-bad : (x y : ℕ) → read_refused x y ≡ field 8 (must bad_mask (a_mask slots)) s p → read_refused x y ≡ masked finer variables slots s p
   unfolding masked
-  masked-bad x y e = rw e
+  masked-bad x y e = rw (← e)
 
-  pub masked_on : (m q : ℕ) → field 8 (must bad_mask (a_mask slots)) s p ≡ read_got m q → terms finer variables (slots_in m) s q ≡ masked finer variables slots s p
+  pub masked_on : (m q : ℕ) → read_got m q ≡ field 8 (must bad_mask (a_mask slots)) s p → terms finer variables (slots_in m) s q ≡ masked finer variables slots s p
   unfolding masked
-  masked_on m q e = rw e
+  masked_on m q e = rw (← e)
 
--- ---- a row whose third word is a mask and whose last eight were lent for its terms: what it says, and that its first two words stay
+-- ---- a row whose third word is a mask and whose last eight were lent for its terms: what it says
 
 pub lent_row : (row slots : List ℕ) (m : ℕ) → length row ≡ 11 → masked_in (take 3 (set row 2 m) ++ slots) 0 ≡ named_by m slots
 lent_row [] slots m e = absurd (omega arith)
 lent_row (x ∷ []) slots m e = absurd (omega arith)
 lent_row (x ∷ y ∷ []) slots m e = absurd (omega arith)
 lent_row (x ∷ y ∷ z ∷ row) slots m e = masked_row x y m slots
-
-pub lent-kept : (row slots : List ℕ) (m : ℕ) → length row ≡ 11 → take 2 (take 3 (set row 2 m) ++ slots) ≡ take 2 row
-lent-kept [] slots m e = absurd (omega arith)
-lent-kept (x ∷ []) slots m e = absurd (omega arith)
-lent-kept (x ∷ y ∷ []) slots m e = absurd (omega arith)
-lent-kept (x ∷ y ∷ z ∷ row) slots m e = refl

@@ -8,7 +8,7 @@ use Rattle.meaning.specs.Numbers.{all_done}
 use Rattle.meaning.specs.Model.{Model, Chunk}
 use Rattle.meaning.specs.Step.{largest}
 use Rattle.meaning.specs.Learning.{store_after}
-use Rattle.meaning.specs.Run.{Timed, Run, ends, before}
+use Rattle.meaning.specs.Run.{Run, ends, before}
 use Rattle.layout.specs.declared.Plan.{Plan}
 use Rattle.layout.specs.StateWords.{state_in}
 use Rattle.step_note.specs.Events.{Tells}

@@ -18,7 +18,7 @@ ghost use Rattle.step_made.specs.Made.{event_of};
 ghost use Rattle.running.specs.Runs.{Moves, Stays, RunMet, ended_by};
 
 use layout::Plan;
-use meaning::numbers::ALL_DONE;
+use meaning::ALL_DONE;
 use meaning::{Event, Reason};
 use step_learn::NEWS_WORDS;
 use step_made::Made;

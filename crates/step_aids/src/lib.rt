@@ -18,12 +18,13 @@ fn lay_order(plan: Plan, tape: &mut [u16])
         match_order::lay_same(&mut tape[order..], n);
         return;
     }
+    // The ranks stand in words of their own: each is worked out once, and compared with every other.
     let mut ranks = [0u32; 256];
     match_order::lay_ranks(&mut ranks, &tape[heads..], n);
     match_order::lay_counted(&mut tape[order..], &ranks, n);
 }
 
-// Both, one after the other, so that neither touches what stands.
+/// Both, one after the other, so that neither touches what stands.
 pub fn lay_aids(plan: Plan, tape: &mut [u16])
     requires { Planned plan tape.old }
     ensures { AidsLaid plan tape.old tape.new }

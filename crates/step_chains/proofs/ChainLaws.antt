@@ -1,15 +1,16 @@
 -- Chains as they are laid on the tape, and that the model stays.
-use Prim.Native.Nat.{ℕ, ◌+◌, ◌*◌, ◌≤◌}
-use mathlib.Core.Path.{◌≡◌, ap, ◌∙◌}
-use mathlib.Core.List.{List}
+use Prim.Native.Nat.{ℕ, ◌+◌, ◌*◌}
+use mathlib.Core.Path.{◌≡◌, sym, ap, ◌∙◌}
+use mathlib.Core.List.{List, ◌++◌}
 use native.Mathlib.Omega.{arith}
-use lib.ListN.{length, take, drop, length-drop}
-use lib.Seq.{sets, length-sets, length-take-le}
+use lib.ListN.{length, take, drop, length-append}
+use lib.Seq.{drop-drop, take_at, drop_at}
+use Rattle.std.proofs.lemmas.List.{take_all}
 use Rattle.layout.specs.declared.Plan.{Plan}
 use Rattle.layout.specs.Plans.{model_on, Planned}
-use Rattle.layout.proofs.WordLaws.{sets-take, sets-drop}
+use Rattle.layout.proofs.WordLaws.{below_get}
 use Rattle.layout.proofs.PlanLaws.{sections}
-use Rattle.layout.proofs.KeptLaws.{begin-alike, same-written, same-facts, Stays, stays-apart, model-kept, planned-kept}
+use Rattle.layout.proofs.KeptLaws.{begin-alike, drop-alike, same-below, Stays, stays-apart, model-kept, planned-kept}
 use Rattle.step_retrieve.specs.Chains.{Chained}
 use Rattle.step_retrieve.proofs.AlikeChains.{chained-kept}
 use Rattle.step_chains.specs.Laid.{ChainsLaid}
@@ -22,22 +23,26 @@ module _ (p : Plan) (tape tape' : List ℕ) (planned : Planned p tape) where
       let fit = planned.facts_placed in
       stays-apart p tape tape' planned long (begin-alike (152 + 11 * p.facts) p.chains tape tape' (omega arith) below) above
 
-  -- chains that were copied onto the tape stand there
-  pub chains-laid : (own : List ℕ) → Chained own (drop 152 tape) p.facts → tape' ≡ sets tape p.chains (take (64 + p.facts) own) → ChainsLaid p tape tape'
-  chains-laid own chained e =
+  -- chains that were laid on the tape after its front, in so many words, stand there
+  pub chains-laid : (front back own : List ℕ) → tape ≡ front ++ back → length front ≡ p.chains → length own ≡ 64 + p.facts → Chained own (drop 152 front) p.facts
+      → tape' ≡ front ++ (own ++ drop (64 + p.facts) back) → ChainsLaid p tape tape'
+  chains-laid front back own whole long many chained e =
       let s = sections planned in
-      let words : List ℕ = take (64 + p.facts) own in
-      let many : length words ≡ 64 + p.facts = length-take-le (64 + p.facts) own chained.room in
-      let as_long : length tape' ≡ length tape = ap length e ∙ length-sets tape p.chains words in
-      let below : take p.chains tape' ≡ take p.chains tape = ap (take p.chains) e ∙ sets-take p.chains tape p.chains words (omega arith) in
-      let above : drop p.heads tape' ≡ drop p.heads tape = ap (drop p.heads) e ∙ sets-drop p.heads tape p.chains words (omega arith) in
-      let same = same-written tape tape' own p.chains (64 + p.facts) chained.room (omega arith) e in
-      let room : 64 + p.facts ≤ length (drop p.chains tape') = omega (arith, length-drop p.chains tape') in
-      let facts = same-facts p tape tape' planned (stays as_long below above) in
+      let fit = planned.facts_placed in
+      let m : ℕ = 64 + p.facts in
+      let after : List ℕ = drop m back in
+      let start : take p.chains tape ≡ front = ap (take p.chains) whole ∙ take_at front back p.chains long in
+      let start' : take p.chains tape' ≡ front = ap (take p.chains) e ∙ take_at front (own ++ after) p.chains long in
+      let end : drop p.chains tape ≡ back = ap (drop p.chains) whole ∙ drop_at front back p.chains long in
+      let end' : drop p.chains tape' ≡ own ++ after = ap (drop p.chains) e ∙ drop_at front (own ++ after) p.chains long in
+      let rest : drop (p.chains + m) tape ≡ after = sym (drop-drop m p.chains tape) ∙ ap (drop m) end in
+      let rest' : drop (p.chains + m) tape' ≡ after = sym (drop-drop m p.chains tape') ∙ ap (drop m) end' ∙ drop_at own after m many in
+      let own-words : take m (own ++ after) ≡ take m own = take_at own after m many ∙ sym (take_all m own (omega arith)) in
+      let facts : take (152 + 11 * p.facts) tape' ≡ take (152 + 11 * p.facts) front = begin-alike (152 + 11 * p.facts) p.chains front tape' (omega arith) (start' ∙ sym (take_all p.chains front (omega arith))) in
       record {
-        below = below;
-        above = above;
-        chains = chained-kept own (drop p.chains tape') (drop 152 tape) (drop 152 tape') p.facts chained room same facts;
+        below = start' ∙ sym start;
+        above = drop-alike (p.chains + m) p.heads tape tape' (omega arith) (rest' ∙ sym rest);
+        chains = rw end' (chained-kept own (own ++ after) (drop 152 front) (drop 152 tape') p.facts chained (omega (arith, length-append own after)) (below_get m own (own ++ after) own-words) (same-below 152 (11 * p.facts) front tape' facts));
       }
 
   -- the tape means the model that it meant

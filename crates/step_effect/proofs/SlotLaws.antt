@@ -1,20 +1,22 @@
 -- The slots of one buffer, written one by one: all other words stay.
-use Prim.Native.Nat.{ℕ, zero, suc, ◌+◌, ◌*◌, ◌≤◌, ◌<◌}
+use Prim.Native.Nat.{ℕ, zero, suc, ◌+◌, ◌-◌, ◌*◌, ◌≤◌, ◌<◌}
 use mathlib.Core.Path.{◌≡◌, refl, sym, ap, ◌∙◌}
 use mathlib.Core.Bool.{true, false}
-use mathlib.Core.List.{List, [], ◌∷◌, map}
+use mathlib.Core.List.{List, ◌∷◌, map}
 use native.Mathlib.Omega.{arith}
 use lib.Dec.{eqb}
 use lib.ListN.{length, get_or, set, length-set}
-use lib.Seq.{get_or-set_same, get_or-set_other}
-use borrow.Author.Count.{below_more}
+use lib.Seq.{sets, length-sets, get_or-drop, get_or-set_same, get_or-set_other}
+use borrow.Rule.Slice.PartMut.{put_mid}
 use Rattle.meaning.specs.Image.{names}
 use Rattle.meaning.specs.Retrieval.{value_of}
 use Rattle.meaning.specs.Fire.{put}
 use Rattle.layout.specs.Rows.{rows_in, named_in, masked_in, word_term}
 use Rattle.layout.specs.StateWords.{buffer_in}
+use Rattle.laws.specs.PartLaws.{part, part-long, part-get}
+use Rattle.layout.proofs.WordLaws.{lent-sets, sets_below, sets-at, sets-drop}
 use Rattle.layout.proofs.RowLaws.{rows_same}
-use Rattle.read_terms.proofs.MaskBits.{rest, rest-start, rest-on, rest-off}
+use Rattle.read_terms.proofs.MaskBits.{rest, rest-start, rest-on, rest-off, rest_end}
 use Rattle.step_wait.specs.Remade.{Remade}
 use Rattle.step_wait.proofs.DelayLaws.{chunk_kept}
 use Rattle.step_effect.specs.Deeds.{chunk_in, modified}
@@ -72,18 +74,45 @@ only_end {w} {w'} {k} o d e xs h q =
 
 -- ---- slots that are copied from other words
 
--- the first b slots of buffer k of w are the words of `from` at `at`
-abbrev pub Copied : List ℕ → ℕ → List ℕ → ℕ → ℕ → Type 0
-Copied w k from at b = (j : ℕ) → j < b → get_or w (11 * k + 1 + j) 0 ≡ get_or from (at + j) 0
+-- the slots of buffer k of w are the words of `from` at `at`
+abbrev pub Copied : List ℕ → ℕ → List ℕ → ℕ → Type 0
+Copied w k from at = (j : ℕ) → j < 8 → get_or w (11 * k + 1 + j) 0 ≡ get_or from (at + j) 0
 
-pub copied_more : (w : List ℕ) (k : ℕ) (from : List ℕ) (at b : ℕ) → 11 * k + 1 + b < length w → Copied w k from at b → Copied (set w (11 * k + 1 + b) (get_or from (at + b) 0)) k from at (b + 1)
-copied_more w k from at b h g =
-    below_more _ _ (λ j l. get_or-set_other w (11 * k + 1 + b) (11 * k + 1 + j) (get_or from (at + b) 0) 0 (λ e. omega arith) ∙ g j l) (get_or-set_same w (11 * k + 1 + b) (get_or from (at + b) 0) 0 h)
+-- eight words in the place of the slots
+module _ (w : List ℕ) (k : ℕ) (from : List ℕ) (at : ℕ) (own : List ℕ) (room : 11 * k + 11 ≤ length w) (there : at + 8 ≤ length from)
+    (is : own ≡ part at 8 from) where
+  abbrev filled : List ℕ
+  filled = put_mid (11 * k + 1) (11 * k + 9 - (11 * k + 1)) w own
+
+  eight : length own ≡ 8
+  eight = ap length is ∙ part-long at 8 from there
+
+  put-is : filled ≡ sets w (11 * k + 1) own
+  put-is =
+      let e : 11 * k + 9 - (11 * k + 1) ≡ 11 * k + 1 + 8 - (11 * k + 1) = omega arith in
+      ap (λ (n : ℕ). put_mid (11 * k + 1) n w own) e ∙ lent-sets (11 * k + 1) 8 w own (omega arith) eight
+
+  pub only_copied : OnlySlots w filled k
+  only_copied =
+      let size = eight in
+      rw put-is (record {
+        size = length-sets w (11 * k + 1) own;
+        before = λ j l. sets_below w (11 * k + 1) own j l;
+        after = λ j l. let z : j + 0 ≡ j = omega arith in
+            ap (λ (i : ℕ). get_or (sets w (11 * k + 1) own) i 0) (sym z) ∙ sym (get_or-drop j (sets w (11 * k + 1) own) 0 0)
+            ∙ ap (λ (l : List ℕ). get_or l 0 0) (sets-drop j w (11 * k + 1) own (omega arith)) ∙ get_or-drop j w 0 0 ∙ ap (λ (i : ℕ). get_or w i 0) z;
+      })
+
+  pub all_copied : Copied filled k from at
+  all_copied j l =
+      let size = eight in
+      ap (λ (v : List ℕ). get_or v (11 * k + 1 + j) 0) put-is ∙ sets-at w (11 * k + 1) own j (omega arith) (omega arith)
+      ∙ ap (λ (v : List ℕ). get_or v j 0) is ∙ part-get at 8 from j l
 
 -- the type, the delay and the flag last
-pub copied-end : {w w' : List ℕ} {k : ℕ} → OnlySlots w w' k → (isa : ℕ) (from : List ℕ) (at delay flag b : ℕ) → 11 * k + 11 ≤ length w → 8 ≤ b → Copied w' k from at b
+pub copied-end : {w w' : List ℕ} {k : ℕ} → OnlySlots w w' k → (isa : ℕ) (from : List ℕ) (at delay flag : ℕ) → 11 * k + 11 ≤ length w → Copied w' k from at
     → Remade w (set (set (set w' (11 * k) isa) (11 * k + 9) delay) (11 * k + 10) flag) k (chunk_in isa from at delay flag)
-copied-end {w} {w'} {k} o isa from at delay flag b h l g =
+copied-end {w} {w'} {k} o isa from at delay flag h g =
     record {
       made =
           m.made
@@ -155,8 +184,8 @@ module _ {words : List ℕ} {q : ℕ} {nine w w' : List ℕ} {k b : ℕ} (p : Pu
           slots = ap (λ (bs : List ℕ). put (map (named_in words q) bs) nine (buffer_in w' k).slots) (sym (rest-off (get_or words (q + 2) 0) b h e)) ∙ p.slots;
         }
 
-  pub putting-end : rest (get_or words (q + 2) 0) b ≡ [] → 11 * k + 11 ≤ length w → Remade w (set (set w' (11 * k + 9) 0) (11 * k + 10) 0) k (modified (masked_in words q) nine (buffer_in w k))
+  pub putting-end : 8 ≤ b → 11 * k + 11 ≤ length w → Remade w (set (set w' (11 * k + 9) 0) (11 * k + 10) 0) k (modified (masked_in words q) nine (buffer_in w k))
   unfolding put_from put
   putting-end h l =
       only_end p.only 0 0 (put (masked_in words q) nine (buffer_in w k).slots) l
-      (ap (λ (bs : List ℕ). put (map (named_in words q) bs) nine (buffer_in w' k).slots) (sym h) ∙ p.slots)
+      (ap (λ (bs : List ℕ). put (map (named_in words q) bs) nine (buffer_in w' k).slots) (sym (rest_end (get_or words (q + 2) 0) b h)) ∙ p.slots)

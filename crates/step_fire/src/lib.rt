@@ -23,10 +23,8 @@ fn acted_mask(words: &[u16], o: usize, m: usize) -> u16
     ensures { ActedMask (actions_in words.now o m) result }
 {
     let mut mask = 0;
-    let mut i = 0;
-    while i < m {
+    for i in 0..m {
         mask |= 1u16 << (words[o + ROW_WORDS * i] % 8);
-        i += 1;
     }
     mask
 }
@@ -36,15 +34,14 @@ fn action_on(words: &[u16], o: usize, m: usize, k: usize) -> usize
     requires { (o + 11 * m ≤ length words.now) × (acted_on (actions_in words.now o m) k ≡ true) }
     ensures { (deed_on (actions_in words.now o m) k ≡ some (action_in words.now result).deed) × (result + 11 ≤ length words.now) }
 {
-    let mut i = 0;
-    while i + 1 < m {
+    let last = m - 1;
+    for i in 0..last {
         let q = o + ROW_WORDS * i;
         if (words[q] % 8) as usize == k {
             return q;
         }
-        i += 1;
     }
-    o + ROW_WORDS * i
+    o + ROW_WORDS * last
 }
 
 // Does the action at q of the rows on buffer k.
@@ -55,16 +52,11 @@ fn perform(state: &mut [u16], k: usize, plan: Plan, tape: &[u16], q: usize, nine
 {
     let rows = plan.rows;
     let words = &tape[rows..];
-    let deed = words[q + 1];
-    if deed == 0 {
-        step_effect::modify(state, k, words, q, nine);
-        return;
+    match words[q + 1] {
+        0 => step_effect::modify(state, k, words, q, nine),
+        1..=63 => step_effect::request(state, k, plan, tape, q, nine),
+        _ => step_effect::nil(state, k, 0, step_effect::CLEAR),
     }
-    if deed < 64 {
-        step_effect::request(state, k, plan, tape, q, nine);
-        return;
-    }
-    step_effect::nil(state, k, 0, step_effect::CLEAR);
 }
 
 // Does the m actions from o on, each on its buffer, where `acted` tells the buffers that they are on. The other buffers stay.
@@ -84,6 +76,7 @@ fn act_all(
 {
     let rows = plan.rows;
     let mut rest = acted as u64;
+    // a walk from bit to bit, for speed: few buffers are acted on
     while rest != 0 {
         let k = match_sets::lowest(rest);
         let q = action_on(&tape[rows..], o, m, k);
@@ -92,8 +85,8 @@ fn act_all(
     }
 }
 
-// Fires a rule with the m actions from o on and the nine words of its entry; the mark of the buffers acted on or arrived.
-// A buffer acted on that would have arrived without its action is in both masks.
+/// Fires a rule with the m actions from o on and the nine words of its entry; the mark of the buffers acted on or arrived.
+/// A buffer acted on that would have arrived without its action is in both masks.
 pub fn fire(state: &mut [u16], plan: Plan, tape: &[u16], o: usize, m: usize, nine: &[u16]) -> u16
     requires { (88 ≤ length state.old) × (o + 11 * m ≤ length (rows_on plan tape.now)) × (m ≤ 8) × (9 ≤ length nine.now) × Planned plan tape.now × ChainsOn plan tape.now }
     ensures by_index { (clock : ℕ) (r : Rule) → r.actions ≡ actions_in (rows_on plan tape.now) o m

@@ -5,12 +5,13 @@ use mathlib.Core.List.{List, [], ◌∷◌, ◌++◌}
 use native.Mathlib.Omega.{arith}
 use lib.ListN.{length, get_or, set, take, drop, length-set, length-drop}
 use lib.Seq.{sets, length-sets, get_or-set_same, get_or-set_other, get_or-take, get_or-drop, length-take-le, take-set-le, drop-set-lt}
+use borrow.Rule.Slice.PartMut.{put_mid}
 use Rattle.meaning.specs.Model.{Fact}
 use Rattle.layout.specs.declared.Plan.{Plan}
 use Rattle.layout.specs.Rows.{rows_in, fact_in, facts_in}
 use Rattle.layout.specs.Plans.{Planned}
 use Rattle.layout.specs.Growth.{with_facts, Extended}
-use Rattle.layout.proofs.WordLaws.{sets-at, sets-take, sets-drop}
+use Rattle.layout.proofs.WordLaws.{lent-sets, sets-at, sets-take, sets-drop}
 use Rattle.layout.proofs.RowLaws.{rows_more, rows-length, Alike}
 use Rattle.layout.proofs.PlanLaws.{sections}
 use Rattle.layout.proofs.KeptLaws.{same-below, follows}
@@ -101,8 +102,14 @@ module _ (p : Plan) (tape news : List ℕ) (q : ℕ) (planned : Planned p tape) 
       chained_more index index' (drop 152 tape) (drop 152 linked) n (get_or news (q + 3) 0 % 64) at chains last (omega arith) (omega (arith, planned.most_places))
       (same-below 152 (11 * n) tape linked begins) (ap (λ (x : ℕ). x % 64) own) spare named none others
 
-  pub grown-one : (copy : List ℕ) → copy ≡ put → Grown p tape (with_facts p (p.facts + 1)) (set (set copy (p.chains + 64 + p.facts) 768) (p.chains + at) p.facts) (fact_in news q ∷ [])
-  grown-one copy e = rw e (record { extended = extended-by-row p tape linked planned fit long begins apart news q there; chains = chained })
+  -- the row, as it was copied to its place
+  pub grown-one : (own : List ℕ) → own ≡ row
+      → Grown p tape (with_facts p (p.facts + 1)) (set (set (put_mid (152 + 11 * p.facts) (152 + 11 * p.facts + 11 - (152 + 11 * p.facts)) tape own) (p.chains + 64 + p.facts) 768) (p.chains + at) p.facts) (fact_in news q ∷ [])
+  grown-one own e =
+      let s = sections planned in
+      let f = follows planned in
+      let copy : put_mid (152 + 11 * p.facts) (152 + 11 * p.facts + 11 - (152 + 11 * p.facts)) tape own ≡ put = lent-sets (152 + 11 * p.facts) 11 tape own (omega arith) (ap length e ∙ whole) ∙ ap (sets tape (152 + 11 * p.facts)) e in
+      rw copy (record { extended = extended-by-row p tape linked planned fit long begins apart news q there; chains = chained })
 
 -- ---- one after the other
 

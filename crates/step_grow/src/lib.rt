@@ -11,6 +11,7 @@ use layout::{FACTS_AT, Plan, ROW_WORDS};
 use step_retrieve::CHAIN_END;
 
 // The last link of chain h of n facts: the number of the word, among the words of the chains, that names no fact after it.
+// A walk along a chain, whose end is seen only when it is reached.
 fn last_link(tape: &[u16], chains: usize, h: usize, n: usize) -> usize
     requires { Chained (drop chains tape.now) (drop 152 tape.now) n × (chains + 64 + n ≤ length tape.now) × (h < 64) }
     ensures { Last (drop chains tape.now) (drop 152 tape.now) n h result }
@@ -33,26 +34,25 @@ fn add(plan: Plan, tape: &mut [u16], news: &[u16], q: usize) -> Plan
     let chains = plan.chains;
     let h = (news[q + 3] % 64) as usize;
     let at = last_link(tape, chains, h, n);
-    let end = q + ROW_WORDS;
-    layout::copy_into(tape, FACTS_AT + ROW_WORDS * n, &news[q..end]);
+    let row = FACTS_AT + ROW_WORDS * n;
+    tape[row..row + ROW_WORDS].copy_from_slice(&news[q..q + ROW_WORDS]);
     tape[chains + 64 + n] = CHAIN_END;
     tape[chains + at] = plan.facts;
-    let mut grown = plan;
-    grown.facts = plan.facts + 1;
-    grown
+    Plan {
+        facts: plan.facts + 1,
+        ..plan
+    }
 }
 
-// Adds n facts, rows of eleven words in `news`, after those that the plan knows of, each at the end of its chain; the plan that knows of them.
-// Where there are none, plan and tape are as they were.
+/// Adds n facts, rows of eleven words in `news`, after those that the plan knows of, each at the end of its chain; the plan that knows of them.
+/// Where there are none, plan and tape are as they were.
 pub fn grow(plan: Plan, tape: &mut [u16], news: &[u16], n: usize) -> Plan
     requires { Planned plan tape.old × ChainsOn plan tape.old × (plan.facts + n ≤ plan.places) × (11 * n ≤ length news.now) }
     ensures { Grown plan tape.old result tape.new (facts_in news.now n) }
 {
     let mut grown = plan;
-    let mut i = 0;
-    while i < n {
+    for i in 0..n {
         grown = add(grown, tape, news, ROW_WORDS * i);
-        i += 1;
     }
     grown
 }

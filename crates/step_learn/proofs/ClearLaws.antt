@@ -40,6 +40,8 @@ module _ (mask b : ℕ) (h : b < 8) where
       rw (one, bit-without mask b (omega arith) j)
       (elim (eqb j b) as (λ t. (bit mask j && not t) ≡ (if t then false else bit mask j)) [ true ↦ but-all (bit mask j) | false ↦ but-none (bit mask j) ])
 
+pub ruleset placing = (place_set, place-unset)
+
 -- the deed of a row is a clear from 64 on
 clear-row : (d : ℕ) (ns : List Named) → is_clear (some (deed_of d ns)) ≡ leb 64 d
 clear-row d ns =

@@ -78,6 +78,8 @@ module _ (state : List ℕ) (b : ℕ) (facts : List ℕ) (n : ℕ) where
     unfolding among_from
     among-skip e = rw (row_first, e)
 
+  pub ruleset searching = (among-start, among-end, among-here, among-skip)
+
   -- ---- along a chain: a row in another than that of the buffer's first slot has another chunk
 
   out : (j : ℕ) → (chain_of facts j ≡ get_or state (11 * b + 1) 0 % 64 → ⊥) → same_chunk state b facts (11 * j) ≡ false

@@ -13,10 +13,14 @@ ghost use Rattle.step_learn.specs.Clears.{ClearMask, gives, given};
 
 use layout::{ACTIONS_AT, BUFFER_WORDS, FACTS_AT, HEAD_WORDS, Plan, ROW_WORDS, RULE_WORDS};
 
-// The words that what a step adds is collected in: eight rows.
+/// The words that what a step adds is collected in: eight rows.
 pub const NEWS_WORDS: usize = 88;
 
+// Nil as it stands in a buffer: type 0, and all slots 0.
+const NIL: [u16; 9] = [0; 9];
+
 // A mask with place b set or unset.
+#[tactic(auto, using(crate::proofs::ClearLaws::placing))]
 fn placed(mask: u16, b: u16, on: bool) -> u16
     requires { b < 8 }
     ensures { (j : ℕ) → bit result j ≡ (if eqb j b then on else bit mask j) }
@@ -34,9 +38,7 @@ fn clear_mask(words: &[u16], o: usize, m: usize) -> u16
     ensures { ClearMask (actions_in words.now o m) result }
 {
     let mut mask = 0;
-    let mut i = m;
-    while 0 < i {
-        i -= 1;
+    for i in (0..m).rev() {
         let q = o + ROW_WORDS * i;
         mask = placed(mask, words[q] % 8, 64 <= words[q + 1]);
     }
@@ -49,39 +51,16 @@ fn gives(state: &[u16], b: usize) -> bool
     ensures { result ≡ gives (buffer_in state.now b) }
 {
     let o = BUFFER_WORDS * b;
-    if state[o + 9] != 0 {
-        return false;
-    }
-    if state[o] != 0 {
-        return true;
-    }
-    let mut i = 0;
-    while i < 8 {
-        if state[o + 1 + i] != 0 {
-            return true;
-        }
-        i += 1;
-    }
-    false
+    state[o + 9] == 0 && state[o..o + 9] != NIL[..]
 }
 
-// Whether the chunk in buffer b is that of the fact whose row starts at f; at the first slot that differs the fact is given up.
+// Whether the chunk in buffer b is that of the fact whose row starts at f; at the first word that differs the fact is given up.
 fn same_chunk(state: &[u16], b: usize, facts: &[u16], f: usize) -> bool
     requires { (88 ≤ length state.now) × (b < 8) × (f + 11 ≤ length facts.now) }
     ensures { result ≡ equal (chunk_of (buffer_in state.now b)) (fact_in facts.now f).chunk }
 {
     let o = BUFFER_WORDS * b;
-    if state[o] != facts[f] {
-        return false;
-    }
-    let mut i = 0;
-    while i < 8 {
-        if state[o + 1 + i] != facts[f + 3 + i] {
-            return false;
-        }
-        i += 1;
-    }
-    true
+    state[o] == facts[f] && state[o + 1..o + 9] == facts[f + 3..f + 11]
 }
 
 // Whether a fact that the plan knows of has the chunk in buffer b: only the chain of its first slot is walked.
@@ -93,6 +72,7 @@ fn known(state: &[u16], b: usize, plan: Plan, tape: &[u16]) -> bool
     let chains = plan.chains;
     let h = (state[BUFFER_WORDS * b + 1] % 64) as usize;
     let mut k = tape[chains + h] as usize;
+    // a walk along a chain, whose end is seen only when it is reached
     while k < n {
         if same_chunk(state, b, tape, FACTS_AT + ROW_WORDS * k) {
             return true;
@@ -103,16 +83,15 @@ fn known(state: &[u16], b: usize, plan: Plan, tape: &[u16]) -> bool
 }
 
 // Whether one of the first n rows has the chunk in buffer b.
+#[tactic(auto, using(crate::proofs::JoinLaws::searching))]
 fn among(state: &[u16], b: usize, rows: &[u16], n: usize) -> bool
     requires { (88 ≤ length state.now) × (b < 8) × (11 * n ≤ length rows.now) }
     ensures { result ≡ any_of (equal (chunk_of (buffer_in state.now b))) (chunks_of (facts_in rows.now n)) }
 {
-    let mut i = 0;
-    while i < n {
+    for i in 0..n {
         if same_chunk(state, b, rows, ROW_WORDS * i) {
             return true;
         }
-        i += 1;
     }
     false
 }
@@ -124,12 +103,10 @@ fn write_row(news: &mut [u16], n: usize, state: &[u16], b: usize)
 {
     let q = ROW_WORDS * n;
     let o = BUFFER_WORDS * b;
-    let from = o + 1;
-    let end = from + 8;
     news[q] = state[o];
     news[q + 1] = 0;
     news[q + 2] = 50;
-    layout::copy_into(news, q + 3, &state[from..end]);
+    news[q + 3..q + ROW_WORDS].copy_from_slice(&state[o + 1..o + 9]);
 }
 
 // The chunk in buffer b after n new rows, if it gives one and neither a fact that the plan knows of nor one of these rows has it; how many rows there are then.
@@ -139,20 +116,14 @@ fn join(news: &mut [u16], n: usize, state: &[u16], b: usize, plan: Plan, tape: &
         ++ map learned (joining (chunks_of (facts_on plan tape.now) ++ chunks_of (facts_in news.old n)) (given (buffer_in state.now b)))) }
     ensures more { result ≤ n + 1 }
 {
-    if !gives(state, b) {
-        return n;
+    if gives(state, b) && !known(state, b, plan, tape) && !among(state, b, news, n) {
+        write_row(news, n, state, b);
+        return n + 1;
     }
-    if known(state, b, plan, tape) {
-        return n;
-    }
-    if among(state, b, news, n) {
-        return n;
-    }
-    write_row(news, n, state, b);
-    n + 1
+    n
 }
 
-// Writes the chunks that the firing of rule k would add to the store, as rows of facts, into `news`; how many they are (none where no store is lent).
+/// Writes the chunks that the firing of rule k would add to the store, as rows of facts, into `news`; how many they are (none where no store is lent).
 pub fn collect(news: &mut [u16], state: &[u16], plan: Plan, tape: &[u16], k: usize) -> usize
     requires { Planned plan tape.now × ChainsOn plan tape.now × (k < plan.rules) × (88 ≤ length state.now) × (88 ≤ length news.old) }
     ensures { Collected news.new result (joins_on plan tape.now state.now k) }
@@ -166,6 +137,7 @@ pub fn collect(news: &mut [u16], state: &[u16], plan: Plan, tape: &[u16], k: usi
     let mask = clear_mask(&tape[rows..], RULE_WORDS * k + ACTIONS_AT, m);
     let mut n = 0;
     let mut rest = mask as u64;
+    // a walk from bit to bit, for speed: few rules clear a buffer, and most of them one
     while rest != 0 {
         let b = match_sets::lowest(rest);
         n = join(news, n, state, b, plan, tape);

@@ -5,8 +5,9 @@ use mathlib.Core.Path.{◌≡◌, refl, sym, ap, ◌∙◌}
 use mathlib.Core.Bool.{Bool, true, false}
 use mathlib.Core.List.{List, [], map}
 use native.Mathlib.Omega.{arith}
-use borrow.Author.Tests.{le-leb, lt-leb, leb-true, leb-false}
-use lib.Dec.{leb}
+use borrow.Author.Tests.{le-leb, lt-leb, leb-true, leb-false, le-ltb}
+use lib.Dec.{leb, ltb}
+use lib.ListN.{length}
 use Rattle.std.specs.Prelude.{Result, Ok, Err, IfOk}
 use Rattle.meaning.specs.declared.State.{State}
 use Rattle.meaning.specs.declared.Event.{Event}
@@ -16,8 +17,9 @@ use Rattle.meaning.specs.declared.reasons.Reason.TheVariants.{ClockFull, Halted,
 use Rattle.meaning.specs.Reasons.{number_of}
 use Rattle.meaning.specs.Model.{Rule, Chunk, Fact}
 use Rattle.meaning.specs.Learning.{learned}
+use Rattle.meaning.specs.Numbers as numbers
 use Rattle.meaning.specs.Fire.{fire}
-use Rattle.meaning.specs.Wait.{soonest, wait}
+use Rattle.meaning.specs.Wait.{wait}
 use Rattle.meaning.specs.Mark.{mark_of}
 use Rattle.meaning.specs.Step as meaning
 use Rattle.layout.specs.declared.Plan.{Plan}
@@ -66,6 +68,25 @@ module _ (w : List ℕ) (clock ms : ℕ) {soonest : ℕ} (is : ms ≡ soonest) w
         → mark ≡ mark_of [] (state_in w clock) (state_in w' (clock + ms))
         → StepMet (meaning.wait_step (state_in w clock) soonest) (Ok (record { event = Waited ms; mark = mark; joined = 0 })) w w' clock
     waited h mark w' s m = record { is_step = rw (← is, wait-some ms some (state_in w clock), ← s, m, le-leb (clock + ms) meaning.largest h); kept = λ reason z. (cc); clock_fits = h }
+
+-- a wait adds nothing, so it has its places
+module _ (p : Plan) (tape : List ℕ) (s : State) (fit : p.facts ≤ p.places) where
+  roomy : (ms : ℕ) → no_place p tape s (meaning.event_waited ms) ≡ false
+  roomy ms =
+      elim p.learns as (λ b. ltb p.places (p.facts + length (if◌then◌else◌ {A = List Chunk} b [] [])) ≡ false) [
+        | true ↦ le-ltb p.places (p.facts + 0) (omega arith)
+        | false ↦ le-ltb p.places (p.facts + 0) (omega arith)
+      ]
+
+  -- in time, or not
+  past-or-not : (ms : ℕ) (s' : State) (mark : ℕ) (b : Bool) →
+      let step = if b then meaning.step_made (meaning.event_waited ms) s' mark else meaning.step_stopped numbers.clock_full in placed p tape s step ≡ step
+  past-or-not ms s' mark true = ap (λ (x : Bool). if x then meaning.step_stopped numbers.store_full else (meaning.step_made (meaning.event_waited ms) s' mark)) (roomy ms)
+  past-or-not ms s' mark false = refl
+
+  pub wait-placed : (ms : ℕ) → placed p tape s (meaning.wait_step s ms) ≡ meaning.wait_step s ms
+  wait-placed zero = refl
+  wait-placed (suc n) = past-or-not (suc n) (wait (suc n) s) (mark_of [] s (wait (suc n) s)) (leb (wait (suc n) s).clock meaning.largest)
 
 -- ---- a firing, of a plan that has places for what it adds, or not
 

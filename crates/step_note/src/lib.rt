@@ -4,7 +4,7 @@
 ghost use Rattle.std.specs.Prelude.{◌≡◌, ◌∷◌, []};
 ghost use Rattle.step_note.specs.Events.{noted};
 
-// Notes event k in three words, if there is room: the clock after the step, its kind (0 fire, 1 wait), the rule or the ms.
+/// Notes event k in three words, if there is room: the clock after the step, its kind (0 fire, 1 wait), the rule or the ms.
 pub fn note(events: &mut [u32], k: u16, clock: u32, kind: u16, value: u16)
     ensures { events.new ≡ noted events.old k (clock ∷ kind ∷ value ∷ []) }
 {
@@ -12,10 +12,6 @@ pub fn note(events: &mut [u32], k: u16, clock: u32, kind: u16, value: u16)
     if events.len() < at + 3 {
         return;
     }
-    let three = [clock, kind as u32, value as u32];
-    let mut i = 0;
-    while i < 3 {
-        events[at + i] = three[i];
-        i += 1;
-    }
+    let three = [clock, u32::from(kind), u32::from(value)];
+    events[at..at + 3].copy_from_slice(&three);
 }

@@ -1,34 +1,27 @@
 -- A step by its cases: what each answer of the code needs to be the step that the definitions give.
-use Rattle.std.specs.Prelude.{if◌then◌else◌}
-use Prim.Native.Nat.{ℕ, zero, suc, ◌+◌, ◌-◌, ◌*◌, ◌≤◌, ◌<◌}
-use mathlib.Core.Path.{◌≡◌, refl, sym, ap, ◌∙◌}
+use Prim.Native.Nat.{ℕ, ◌+◌, ◌-◌, ◌*◌, ◌≤◌, ◌<◌}
+use mathlib.Core.Path.{◌≡◌, sym, ◌∙◌}
 use mathlib.Core.Bool.{Bool, true, false}
-use mathlib.Core.List.{List, []}
+use mathlib.Core.List.{List}
 use native.Mathlib.Omega.{arith}
-use borrow.Author.Tests.{le-ltb}
-use lib.Dec.{ltb, leb}
-use lib.ListN.{length, take, drop}
+use lib.ListN.{take, drop}
 use Rattle.std.specs.Prelude.{Option, None, Some, Result, Err}
-use Rattle.meaning.specs.declared.State.{State}
 use Rattle.meaning.specs.declared.reasons.Reason.{Reason}
 use Rattle.meaning.specs.declared.reasons.Reason.TheVariants.{NotFresh}
 use Rattle.meaning.specs.Base.{same}
-use Rattle.meaning.specs.Numbers as numbers
-use Rattle.meaning.specs.Model.{Chunk, Fact}
+use Rattle.meaning.specs.Model.{Fact}
 use Rattle.meaning.specs.Match.{entry_of}
 use Rattle.meaning.specs.Choice.{Candidate, choose, utilities}
-use Rattle.meaning.specs.Wait.{soonest, wait}
-use Rattle.meaning.specs.Mark.{mark_of}
+use Rattle.meaning.specs.Wait.{soonest}
 use Rattle.meaning.specs.Step as meaning
 use Rattle.layout.specs.declared.Plan.{Plan}
 use Rattle.layout.specs.StateWords.{buffers_in, state_in}
 use Rattle.layout.specs.Plans.{facts_on, heads_on, rows_on, rules_on, model_on}
 use Rattle.match_choice.specs.Chosen.{candidate_at, candidate_of}
 use Rattle.match_best.specs.Chosen.{Below}
-use Rattle.step_learn.specs.Joins.{no_place}
 use Rattle.step_made.specs.declared.Made.{Made}
 use Rattle.step_made.specs.Made.{firing, placed, StepMet}
-use Rattle.step_made.proofs.MadeLaws.{stopped}
+use Rattle.step_made.proofs.MadeLaws.{stopped, wait-placed}
 
 -- the part of the table that starts at nine times a rule's number is the rule's entry
 pub part-is : (k : ℕ) (table : List ℕ) → take (9 * k + 9 - 9 * k) (drop (9 * k) table) ≡ take 9 (drop (9 * k) table)
@@ -55,25 +48,6 @@ module _ (p : Plan) (tape : List ℕ) (memory : List Fact) (c : Candidate) (w : 
   fresh-fires e part r w' met = rw (← f, e, ← part) met
 
 -- ---- one of the two, by the choice
-
--- a wait adds nothing, so it has its places
-module _ (p : Plan) (tape : List ℕ) (s : State) (fit : p.facts ≤ p.places) where
-  roomy : (ms : ℕ) → no_place p tape s (meaning.event_waited ms) ≡ false
-  roomy ms =
-      elim p.learns as (λ b. ltb p.places (p.facts + length (if◌then◌else◌ {A = List Chunk} b [] [])) ≡ false) [
-        | true ↦ le-ltb p.places (p.facts + 0) (omega arith)
-        | false ↦ le-ltb p.places (p.facts + 0) (omega arith)
-      ]
-
-  -- in time, or not
-  past-or-not : (ms : ℕ) (s' : State) (mark : ℕ) (b : Bool) →
-      let step = if b then meaning.step_made (meaning.event_waited ms) s' mark else meaning.step_stopped numbers.clock_full in placed p tape s step ≡ step
-  past-or-not ms s' mark true = ap (λ (x : Bool). if x then meaning.step_stopped numbers.store_full else (meaning.step_made (meaning.event_waited ms) s' mark)) (roomy ms)
-  past-or-not ms s' mark false = refl
-
-  pub wait-placed : (ms : ℕ) → placed p tape s (meaning.wait_step s ms) ≡ meaning.wait_step s ms
-  wait-placed zero = refl
-  wait-placed (suc n) = past-or-not (suc n) (wait (suc n) s) (mark_of [] s (wait (suc n) s)) (leb (wait (suc n) s).clock meaning.largest)
 
 module _ (p : Plan) (tape table : List ℕ) {chosen : Option ℕ} {r : Result Made Reason} {w w' : List ℕ} {clock : ℕ}
     (e : choose (rules_on p tape) (utilities (rules_on p tape)) table ≡ candidate_of (heads_on p tape) (rows_on p tape) table chosen) where

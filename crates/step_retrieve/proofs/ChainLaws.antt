@@ -1,8 +1,9 @@
 -- The laying of the chains, from the last fact to the first.
-use Prim.Native.Nat.{ℕ, ◌+◌, ◌≤◌, ◌<◌}
+use Prim.Native.Nat.{ℕ, zero, suc, ◌+◌, ◌≤◌, ◌<◌}
 use mathlib.Core.Path.{◌≡◌, refl, sym, ap, ◌∙◌}
-use mathlib.Core.List.{List}
+use mathlib.Core.List.{List, ◌++◌}
 use native.Mathlib.Omega.{arith}
+use Rattle.std.specs.Prelude.{replicate}
 use lib.ListN.{length, get_or, set, length-set}
 use lib.Seq.{get_or-set_same, get_or-set_other}
 use Rattle.laws.specs.BaseLaws.{by-lt}
@@ -11,20 +12,22 @@ use Rattle.step_retrieve.specs.Chains.{chain_of, Leap, Chained}
 pub by-same : {C : Type 0} (a b : ℕ) → (a ≡ b → C) → ((a ≡ b → ⊥) → C) → C
 by-same a b f g = by-lt a b (λ h. g (λ e. omega arith)) (λ h. by-lt b a (λ k. g (λ e. omega arith)) (λ k. f (omega arith)))
 
--- one word more that is v
-pub filled : (l : List ℕ) (h v : ℕ) → h < length l → ((j : ℕ) → j < h → get_or l j 0 ≡ v) → (j : ℕ) → j < h + 1 → get_or (set l h v) j 0 ≡ v
-filled l h v room below j lt = by-same j h (λ e. rw e (get_or-set_same l h v 0 room)) (λ ne. get_or-set_other l h j v 0 ne ∙ below j (omega arith))
-
 -- the chains of the facts from k on
 pub record Laid (facts : List ℕ) (n k : ℕ) (index : List ℕ) : Type 0 where
   pub starts : (h : ℕ) → h < 64 → Leap facts n h k (get_or index h 0)
   pub goes_on : (j : ℕ) → k ≤ j → j < n → Leap facts n (chain_of facts j) (j + 1) (get_or index (64 + j) 0)
 
+-- 768 in each of so many words
+ended : (m : ℕ) (rest : List ℕ) (h : ℕ) → h < m → get_or (replicate m 768 ++ rest) h 0 ≡ 768
+ended zero rest h l = absurd (omega arith)
+ended (suc m) rest zero l = refl
+ended (suc m) rest (suc h) l = ended m rest h (omega arith)
+
 -- no fact, no chain
-pub laid_none : (facts : List ℕ) (n : ℕ) (index : List ℕ) → n ≤ 768 → ((h : ℕ) → h < 64 → get_or index h 0 ≡ 768) → Laid facts n n index
-laid_none facts n index few ends =
+pub laid_none : (facts : List ℕ) (n : ℕ) (rest : List ℕ) → n ≤ 768 → Laid facts n n (replicate 64 768 ++ rest)
+laid_none facts n rest few =
     record {
-      starts = λ h l. rw (ends h l) (record { forth = few; between = λ j a b l e. omega arith; lands = λ b. absurd (omega arith); ends = λ b. omega arith });
+      starts = λ h l. rw (ended 64 rest h l) (record { forth = few; between = λ j a b l e. omega arith; lands = λ b. absurd (omega arith); ends = λ b. omega arith });
       goes_on = λ j a b. absurd (omega arith);
     }
 

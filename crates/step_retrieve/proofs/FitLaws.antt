@@ -1,8 +1,8 @@
 -- Whether a fact fits, slot by slot: the slots that are left, once the type is right.
-use Prim.Native.Nat.{ℕ, ◌+◌, ◌<◌}
+use Prim.Native.Nat.{ℕ, ◌+◌, ◌≤◌, ◌<◌}
 use mathlib.Core.Path.{◌≡◌, sym, ap, ◌∙◌}
 use mathlib.Core.Bool.{Bool, true, false}
-use mathlib.Core.List.{List, []}
+use mathlib.Core.List.{List}
 use native.Mathlib.Omega.{arith}
 use lib.Dec.{eqb}
 use lib.ListN.{get_or}
@@ -13,7 +13,7 @@ use Rattle.meaning.specs.Retrieval.{value_of, fits}
 use Rattle.laws.specs.BaseLaws.{every_map}
 use Rattle.layout.specs.Rows.{rows_in, word_term, named_in, masked_in, fact_in}
 use Rattle.layout.proofs.RowLaws.{rows_get}
-use Rattle.read_terms.proofs.MaskBits.{rest, rest-start, rest-on, rest-off}
+use Rattle.read_terms.proofs.MaskBits.{rest, rest-start, rest-on, rest-off, rest_end}
 
 -- the value in a slot of a fact in words
 slot_is : (facts : List ℕ) (f b : ℕ) → b < 8 → get_or (fact_in facts f).chunk.slots b 0 ≡ get_or facts (f + 3 + b) 0
@@ -42,9 +42,9 @@ module _ (facts : List ℕ) (f : ℕ) (words : List ℕ) (q : ℕ) (nine : List 
       rw (eq-eqb (get_or facts f 0) (get_or words (q + 1) 0) e, rest-start (get_or words (q + 2) 0))
       (sym (every_map (λ n. eqb (get_or (fact_in facts f).chunk.slots n.slot 0) (value_of nine n.term)) (named_in words q) (slots_in (get_or words (q + 2) 0))))
 
-  pub fits-end : (mask b : ℕ) → rest mask b ≡ [] → true ≡ fits_from mask b
+  pub fits-end : (mask b : ℕ) → 8 ≤ b → fits_from mask b ≡ true
   unfolding fits_from
-  fits-end mask b h = rw h
+  fits-end mask b h = rw (rest_end mask b h)
 
   module _ (mask b : ℕ) (h : b < 8) where
     pub fits-skip : names mask b ≡ false → fits_from mask (b + 1) ≡ fits_from mask b
@@ -59,3 +59,5 @@ module _ (facts : List ℕ) (f : ℕ) (words : List ℕ) (q : ℕ) (nine : List 
       pub fits_not : (get_or facts (f + 3 + b) 0 ≡ value → ⊥) → false ≡ fits_from mask b
       unfolding fits_from
       fits_not s = rw (rest-on mask b h z, ne_eqb _ _ (λ d. s (sym (slot_is facts f b h) ∙ d ∙ sym e)))
+
+pub ruleset fitting = (fits-other, fits-start, fits-end, fits-skip, fits-turn, fits_not)

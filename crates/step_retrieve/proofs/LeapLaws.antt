@@ -1,19 +1,17 @@
--- A leap over facts that do not fit: what is not in the chain of a named first slot is none that the request finds.
-use Rattle.std.specs.Prelude.{if◌then◌else◌}
-use Prim.Native.Nat.{ℕ, zero, suc, ◌+◌, ◌-◌, ◌*◌, ◌/◌, ◌%◌, ◌^◌, ◌≤◌, ◌<◌}
-use mathlib.Core.Path.{◌≡◌, refl, sym, ap, ◌∙◌}
+-- A leap along a chain: what is not in the chain of a named first slot is none that the request finds.
+use Prim.Native.Nat.{ℕ, zero, suc, ◌+◌, ◌-◌, ◌*◌, ◌%◌, ◌≤◌, ◌<◌}
+use mathlib.Core.Path.{◌≡◌, sym, ap, ◌∙◌}
 use mathlib.Core.Bool.{Bool, true, false}
 use mathlib.Core.List.{List}
 use mathlib.Core.Option.{Option}
 use native.Mathlib.Omega.{arith}
-use lib.Bits.{bit_and}
 use lib.ListN.{get_or}
+use Rattle.std.specs.Prelude as std
 use Rattle.meaning.specs.Model.{Fact}
+use Rattle.meaning.specs.Image.{names}
 use Rattle.meaning.specs.Retrieval.{value_of, fits}
 use Rattle.laws.specs.BaseLaws.{by-lt}
 use Rattle.layout.specs.Rows.{word_term, masked_in, fact_in}
-use Rattle.read_terms.proofs.MaskBits.{names-on}
-use Rattle.step_retrieve.specs.declared.Found.{Found}
 use Rattle.step_retrieve.specs.Chains.{chain_of, Leap}
 use Rattle.step_retrieve.proofs.FitLaws.{fits-other, fits-start, fits_not}
 use Rattle.step_retrieve.proofs.TurnLaws.{found_from, found-end, found-skip}
@@ -21,14 +19,14 @@ use Rattle.step_retrieve.proofs.ChainLaws.{by-same}
 
 module _ (facts : List ℕ) (n : ℕ) (words : List ℕ) (q : ℕ) (nine : List ℕ) where
   -- the request at q, and then the facts from k on
-  abbrev pub sought_from : ℕ → Found → Option Fact
+  abbrev pub sought_from : ℕ → std.Option ℕ → Option Fact
   sought_from k best = found_from facts n (get_or words (q + 1) 0) (masked_in words q) nine k best
 
   abbrev fitting : ℕ → Bool
   fitting j = fits (get_or words (q + 1) 0) (masked_in words q) nine (fact_in facts (11 * j))
 
   -- facts that do not fit are passed, and so is what comes after the last fact
-  past : (d k : ℕ) (best : Found) → ((j : ℕ) → k ≤ j → j < k + d → j < n → fitting j ≡ false) → sought_from (k + d) best ≡ sought_from k best
+  past : (d k : ℕ) (best : std.Option ℕ) → ((j : ℕ) → k ≤ j → j < k + d → j < n → fitting j ≡ false) → sought_from (k + d) best ≡ sought_from k best
   past zero k best none = let e : k + 0 ≡ k = omega arith in ap (λ (i : ℕ). sought_from i best) e
   past (suc d) k best none =
       let e : k + suc d ≡ k + d + 1 = omega arith in
@@ -36,40 +34,25 @@ module _ (facts : List ℕ) (n : ℕ) (words : List ℕ) (q : ℕ) (nine : List 
       let ns = masked_in words q in
       ap (λ (i : ℕ). sought_from i best) e
       ∙ by-lt (k + d) n
-      (λ l. found-skip facts n isa ns nine (k + d) best l (fitting (k + d)) refl (none (k + d) (omega arith) (omega arith) l))
+      (λ l. found-skip facts n isa ns nine (k + d) best l (none (k + d) (omega arith) (omega arith) l))
       (λ l. found-end facts n isa ns nine (k + d + 1) best (omega arith) ∙ sym (found-end facts n isa ns nine (k + d) best l))
       ∙ past d k best (λ j a b. none j a (omega arith))
 
-  module _ (first : ℕ) (value : first ≡ value_of nine (word_term (get_or words (q + 3) 0))) where
+  module _ (first : ℕ) (value : first ≡ value_of nine (word_term (get_or words (q + 3) 0))) (named : names (get_or words (q + 2) 0) 0 ≡ true) where
     -- a fact in another chain than that of the value that slot 0 must have
-    no-fit : (j : ℕ) → bit_and (get_or words (q + 2) 0 / 2 ^ 7) 1 ≡ 1 → (chain_of facts j ≡ first % 64 → ⊥) → fitting j ≡ false
-    no-fit j named out =
+    no-fit : (j : ℕ) → (chain_of facts j ≡ first % 64 → ⊥) → fitting j ≡ false
+    no-fit j out =
         let e : q + 3 + 0 ≡ q + 3 = omega arith in
         let f : 11 * j + 3 + 0 ≡ 11 * j + 3 = omega arith in
         let mask = get_or words (q + 2) 0 in
         let v = value ∙ ap (λ (i : ℕ). value_of nine (word_term (get_or words i 0))) (sym e) in
         by-same (get_or facts (11 * j) 0) (get_or words (q + 1) 0)
-        (λ s. sym (fits-start facts (11 * j) words q nine s) ∙ sym (fits_not facts (11 * j) words q nine mask 0 (omega arith) (names-on mask 0 named) first v
+        (λ s. sym (fits-start facts (11 * j) words q nine s) ∙ sym (fits_not facts (11 * j) words q nine mask 0 (omega arith) named first v
         (λ same. out (ap (λ (x : ℕ). x % 64) (sym (ap (λ (i : ℕ). get_or facts i 0) f) ∙ same)))))
         (λ d. sym (fits-other facts (11 * j) words q nine d))
 
-    -- from fact k on to fact r, with nothing that fits between them; in a chain r is of the chain
-    pub record Onward (chained : Bool) (k r : ℕ) : Type 0 where
-      pub forth : k ≤ r
-      pub lands : chained ≡ true → r < n → chain_of facts r ≡ first % 64
-      pub same : (best : Found) → sought_from r best ≡ sought_from k best
-
-    onward : (named : bit_and (get_or words (q + 2) 0 / 2 ^ 7) 1 ≡ 1) (k r : ℕ) → Leap facts n (first % 64) k r → Onward true k r
-    onward named k r leap =
-        record {
-          forth = leap.forth;
-          lands = λ t. leap.lands;
-          same = λ best.
-              let e : k + (r - k) ≡ r = omega (arith, leap.forth) in
-              ap (λ (i : ℕ). sought_from i best) (sym e) ∙ past (r - k) k best (λ j a b l. no-fit j named (leap.between j a (omega arith) l));
-        }
-
-    pub leap-to : (chained : Bool) (k x r : ℕ) → r ≡ (if chained then x else k) → (chained ≡ true → bit_and (get_or words (q + 2) 0 / 2 ^ 7) 1 ≡ 1)
-        → (chained ≡ true → Leap facts n (first % 64) k x) → Onward chained k r
-    leap-to true k x r e named leap = rw e (onward (named refl) k x (leap refl))
-    leap-to false k x r e named leap = rw e (record { forth = omega arith; lands = λ t. absurd (let z : ◌≡◌ {A = ℕ} 0 1 = cc in omega arith); same = λ best. refl })
+    -- from fact k on to the first fact after it in the chain, with nothing that fits between them
+    pub leapt : (k r : ℕ) → Leap facts n (first % 64) k r → (best : std.Option ℕ) → sought_from r best ≡ sought_from k best
+    leapt k r leap best =
+        let e : k + (r - k) ≡ r = omega (arith, leap.forth) in
+        ap (λ (i : ℕ). sought_from i best) (sym e) ∙ past (r - k) k best (λ j a b l. no-fit j (leap.between j a (omega arith) l))

@@ -1,75 +1,48 @@
 -- One turn of the retrieval: the best so far, and then the facts that are left, give what all the facts give.
 use Prim.Native.Nat.{ℕ, ◌+◌, ◌*◌, ◌≤◌, ◌<◌}
-use mathlib.Core.Path.{◌≡◌, refl, sym, ap, ◌∙◌}
+use mathlib.Core.Path.{◌≡◌, refl, ap, ◌∙◌}
 use mathlib.Core.Bool.{Bool, true, false}
 use mathlib.Core.List.{List}
-use mathlib.Core.Option.{Option, some}
-use native.Mathlib.Omega.{arith}
-use lib.ListN.{get_or}
-use borrow.Author.Tests.{lt-ltb, le-ltb, ne_eqb}
+use mathlib.Core.Option.{Option}
+use Rattle.std.specs.Prelude.{if◌then◌else◌, Some, None}
+use Rattle.std.specs.Prelude as std
 use Rattle.meaning.specs.Highest.{better}
-use Rattle.meaning.specs.Model as model
+use Rattle.meaning.specs.Model.{Fact, Named}
 use Rattle.meaning.specs.Retrieval.{fits, weaker, retrieve}
 use Rattle.layout.specs.Rows.{fact_in, facts_in}
-use Rattle.layout.proofs.BestLaws.{best_from, best-start, best-end, best-skip, best-turn, best-kept}
-use Rattle.step_retrieve.specs.declared.Found.{Found}
-use Rattle.step_retrieve.specs.declared.Found.TheVariants.{Fact, Nothing}
-use Rattle.step_retrieve.specs.Found.{fact_of, Below}
+use Rattle.layout.proofs.BestLaws.{best_from, best-start, best-end, best-skip, best-turn}
+use Rattle.step_retrieve.specs.Found.{fact_of}
 
--- the best so far is one of n facts, and `least` is one above its activation; or there is none, and `least` is 0
-abbrev pub Leads : List ℕ → ℕ → Found → ℕ → Type 0
-Leads facts n (Fact j) least = (j < n) × (least ≡ get_or facts (11 * j + 1) 0 + 1)
-Leads facts n Nothing least = least ≡ 0
-
-pub leads-below : (facts : List ℕ) (n : ℕ) (best : Found) (least : ℕ) → Leads facts n best least → Below best n
-leads-below facts n (Fact j) least l = l.0
-leads-below facts n Nothing least l = tt
-
-abbrev fact_at : List ℕ → ℕ → model.Fact
+abbrev fact_at : List ℕ → ℕ → Fact
 fact_at facts k = fact_in facts (11 * k)
 
-module _ (facts : List ℕ) (n k least : ℕ) where
-  higher : (best : Found) → Leads facts n best least → least ≤ get_or facts (11 * k + 1) 0 → better weaker (fact_of facts best) (fact_at facts k) ≡ some (fact_at facts k)
-  higher (Fact j) t l = rw (lt-ltb (get_or facts (11 * j + 1) 0) (get_or facts (11 * k + 1) 0) (omega arith))
-  higher Nothing t l = refl
-
-  no-higher : (best : Found) → Leads facts n best least → get_or facts (11 * k + 1) 0 < least → better weaker (fact_of facts best) (fact_at facts k) ≡ fact_of facts best
-  no-higher (Fact j) t l = rw (le-ltb (get_or facts (11 * j + 1) 0) (get_or facts (11 * k + 1) 0) (omega arith))
-  no-higher Nothing t l = absurd (omega arith)
-
-module _ (facts : List ℕ) (n isa : ℕ) (ns : List model.Named) (nine : List ℕ) where
+module _ (facts : List ℕ) (n isa : ℕ) (ns : List Named) (nine : List ℕ) where
   -- the best so far, and then the facts from k on
-  unfoldable pub found_from : ℕ → Found → Option model.Fact
+  unfoldable pub found_from : ℕ → std.Option ℕ → Option Fact
   found_from k best = best_from weaker (fits isa ns nine) (fact_at facts) n k (fact_of facts best)
 
-  pub found-start : found_from 0 Nothing ≡ retrieve (facts_in facts n) isa ns nine
+  pub found-start : found_from 0 None ≡ retrieve (facts_in facts n) isa ns nine
   unfolding found_from retrieve
   found-start = best-start weaker (fits isa ns nine) (fact_at facts) n
 
-  pub found-end : (k : ℕ) (best : Found) → n ≤ k → found_from k best ≡ fact_of facts best
+  pub found-end : (k : ℕ) (best : std.Option ℕ) → n ≤ k → found_from k best ≡ fact_of facts best
   unfolding found_from
   found-end k best h = best-end weaker (fits isa ns nine) (fact_at facts) n k (fact_of facts best) h
 
-  module _ (k : ℕ) (best : Found) (h : k < n) where
-    -- a fact of another type
-    pub found-other : (get_or facts (11 * k) 0 ≡ isa → ⊥) → found_from (k + 1) best ≡ found_from k best
-    unfolding found_from
-    found-other z = best-skip weaker (fits isa ns nine) (fact_at facts) n k (fact_of facts best) h (rw (ne_eqb (get_or facts (11 * k) 0) isa z))
+  -- a fact that does not fit
+  pub found-skip : (k : ℕ) (best : std.Option ℕ) → k < n → fits isa ns nine (fact_in facts (11 * k)) ≡ false → found_from (k + 1) best ≡ found_from k best
+  unfolding found_from
+  found-skip k best h e = best-skip weaker (fits isa ns nine) (fact_at facts) n k (fact_of facts best) h e
 
-    -- a fact that does not fit
-    pub found-skip : (r : Bool) → r ≡ fits isa ns nine (fact_in facts (11 * k)) → r ≡ false → found_from (k + 1) best ≡ found_from k best
-    unfolding found_from
-    found-skip r e o = best-skip weaker (fits isa ns nine) (fact_at facts) n k (fact_of facts best) h (sym e ∙ o)
+  turned : (k : ℕ) (best : std.Option ℕ) → k < n → (t : Bool) → fits isa ns nine (fact_in facts (11 * k)) ≡ t
+      → best_from weaker (fits isa ns nine) (fact_at facts) n (k + 1) (if t then better weaker (fact_of facts best) (fact_in facts (11 * k)) else (fact_of facts best)) ≡ found_from k best
+  unfolding found_from
+  turned k best h true e = best-turn weaker (fits isa ns nine) (fact_at facts) n k (fact_of facts best) h e
+  turned k best h false e = best-skip weaker (fits isa ns nine) (fact_at facts) n k (fact_of facts best) h e
 
-    module _ (least : ℕ) (leads : Leads facts n best least) where
-      -- a fact that is no higher than the best so far
-      pub found-kept : get_or facts (11 * k + 1) 0 < least → found_from (k + 1) best ≡ found_from k best
-      unfolding found_from
-      found-kept l = best-kept weaker (fits isa ns nine) (fact_at facts) n k (fact_of facts best) h (no-higher facts n k least best leads l)
-
-      -- a fact that is, and fits
-      pub found_turn : least ≤ get_or facts (11 * k + 1) 0 → (r : Bool) → r ≡ fits isa ns nine (fact_in facts (11 * k)) → r ≡ true → found_from (k + 1) (Fact k) ≡ found_from k best
-      unfolding found_from
-      found_turn l r e o =
-          ap (best_from weaker (fits isa ns nine) (fact_at facts) n (k + 1)) (sym (higher facts n k least best leads l))
-          ∙ best-turn weaker (fits isa ns nine) (fact_at facts) n k (fact_of facts best) h (sym e ∙ o)
+  -- the better of the best so far and fact k
+  pub found-turn : (k : ℕ) (best r : std.Option ℕ) → k < n
+      → fact_of facts r ≡ (if fits isa ns nine (fact_in facts (11 * k)) then better weaker (fact_of facts best) (fact_in facts (11 * k)) else (fact_of facts best))
+      → found_from (k + 1) r ≡ found_from k best
+  unfolding found_from
+  found-turn k best r h e = ap (best_from weaker (fits isa ns nine) (fact_at facts) n (k + 1)) e ∙ turned k best h (fits isa ns nine (fact_in facts (11 * k))) refl

@@ -1,6 +1,6 @@
 -- A step with a table, and the run that goes on from it.
 use Rattle.std.specs.Prelude.{if◌then◌else◌}
-use Prim.Native.Nat.{ℕ, suc, ◌+◌, ◌≤◌}
+use Prim.Native.Nat.{ℕ, suc, ◌+◌}
 use mathlib.Core.Path.{◌≡◌, refl, sym, ap, ◌∙◌}
 use mathlib.Core.Bool.{Bool, true, false}
 use mathlib.Core.List.{List}
@@ -13,7 +13,7 @@ use Rattle.meaning.specs.Reasons.{number_of}
 use Rattle.meaning.specs.Numbers.{store_full}
 use Rattle.meaning.specs.Model.{Model, Chunk, Rule}
 use Rattle.meaning.specs.Step.{Event, Step, step_stopped, step_made, step_of}
-use Rattle.meaning.specs.Learning.{knowing, store_after, if_room, step_with}
+use Rattle.meaning.specs.Learning.{knowing, if_room, step_with}
 use Rattle.meaning.specs.Refresh.{refresh}
 use Rattle.meaning.specs.Run.{Going, going, go_on, run_from}
 use Rattle.layout.specs.declared.Plan.{Plan}
@@ -23,7 +23,7 @@ use Rattle.step_learn.specs.Joins.{no_place}
 use Rattle.step_learn.specs.Knows.{Knows}
 use Rattle.step_learn.proofs.AddsLaws.{room-same}
 use Rattle.step_made.specs.declared.Made.{Made}
-use Rattle.step_made.specs.Made.{event_of, ms_of, placed, step_in, StepMet, Joins}
+use Rattle.step_made.specs.Made.{event_of, ms_of, placed, StepMet, Joins}
 use Rattle.step_made.proofs.MadeLaws.{joins-added}
 use Rattle.running.specs.Runs.{Stays, Moves}
 

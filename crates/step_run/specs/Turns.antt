@@ -1,9 +1,9 @@
 -- Laws of the engine with a table: where no step is left to make, and what stays of what it keeps while a memory grows.
-use Prim.Native.Nat.{ℕ, ◌*◌, ◌+◌, ◌≤◌}
+use Prim.Native.Nat.{ℕ, ◌*◌}
 use mathlib.Core.Path.{◌≡◌, refl, sym, ap, ◌∙◌}
 use mathlib.Core.List.{List}
 use native.Mathlib.Omega.{arith}
-use lib.ListN.{length, drop}
+use lib.ListN.{length}
 use Rattle.meaning.specs.Model.{Model, Fact}
 use Rattle.meaning.specs.Run.{Going, run_from, ends}
 use Rattle.layout.specs.declared.Plan.{Plan}

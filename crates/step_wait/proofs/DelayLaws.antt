@@ -1,5 +1,4 @@
 -- Delays: the sooner of two, the soonest of a state, and the delay of one buffer lowered.
-use Rattle.std.specs.Prelude.{if◌then◌else◌}
 use Prim.Native.Nat.{ℕ, zero, suc, ◌+◌, ◌-◌, ◌*◌, ◌≤◌, ◌<◌}
 use mathlib.Core.Path.{◌≡◌, refl, sym, ap, ap₂, ◌∙◌}
 use mathlib.Core.Bool.{true, false}
@@ -44,6 +43,8 @@ module _ (w : List ℕ) (k ms : ℕ) where
   pub soonest-end : 8 ≤ k → ms ≡ soonest ms (rows_in (buffer_in w) k (8 - k))
   unfolding soonest rows_in
   soonest-end h = let e : 8 - k ≡ 0 = omega arith in rw e
+
+pub ruleset delays_left = (soonest-turn, soonest-end)
 
 -- ---- the delay of one buffer
 

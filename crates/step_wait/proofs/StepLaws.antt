@@ -3,11 +3,9 @@ use Prim.Native.Nat.{ℕ, ◌+◌, ◌*◌, ◌^◌, ◌≤◌, ◌<◌}
 use mathlib.Core.Path.{◌≡◌, refl, sym, ap, ap₂, ◌∙◌}
 use mathlib.Core.Bool.{Bool, true, false, ◌||◌}
 use mathlib.Core.List.{List, [], map}
-use native.Mathlib.Nat.{pow-suc, zero-add}
-use native.Mathlib.Numerals.{add-one}
+use native.Mathlib.Nat.{zero-add}
 use native.Mathlib.Omega.{arith}
 use lib.ListN.{length, get_or}
-use lib.Pow.{pow_mono}
 use Rattle.meaning.specs.declared.Buffer.{Buffer}
 use Rattle.meaning.specs.Base.{up_from, weigh}
 use Rattle.meaning.specs.Model.{Action}
@@ -47,60 +45,50 @@ mark-is as' w w' clock clock' =
 abbrev pub lands : ℕ → List ℕ → ℕ → Bool
 lands ms w b = arrives (buffer_in w b) (later ms (buffer_in w b))
 
--- the words w after k turns are w', with the mark so far and the weight of the next buffer
-pub record Going (ms : ℕ) (w w' : List ℕ) (k mark weight : ℕ) : Type 0 where
-  pub within : k ≤ 8
-  pub size : length w' ≡ length w
+-- the words w after k turns are w', with the mark so far
+pub record Going (ms : ℕ) (w w' : List ℕ) (k mark : ℕ) : Type 0 where
   pub buffers : anew (λ i b. later ms b) w' k ≡ anew (λ i b. later ms b) w 0
   pub left : (j : ℕ) → 11 * k ≤ j → get_or w' j 0 ≡ get_or w j 0
-  pub power : weight ≡ 2 ^ k
-  pub whole : marking (lands ms w) k mark weight ≡ weigh (map (lands ms w) (up_from 0 8))
+  pub whole : marking (lands ms w) k mark ≡ weigh (map (lands ms w) (up_from 0 8))
 
-pub going_start : (ms : ℕ) (w : List ℕ) → Going ms w w 0 0 1
-going_start ms w = record { within = omega arith; size = refl; buffers = refl; left = λ j h. refl; power = refl; whole = marking-start (lands ms w) }
+pub going_start : (ms : ℕ) (w : List ℕ) → Going ms w w 0 0
+going_start ms w = record { buffers = refl; left = λ j h. refl; whole = marking-start (lands ms w) }
 
-module _ {ms : ℕ} {w w' : List ℕ} {k mark weight : ℕ} (g : Going ms w w' k mark weight) where
+module _ {ms : ℕ} {w w' : List ℕ} {k mark : ℕ} (g : Going ms w w' k mark) where
   module _ (h : k < 8) where
-    pub going-weight : weight ≤ 128
-    going-weight = omega (arith, g.power, pow_mono {i = k} {j = 7} (omega arith))
-
     -- a turn: whether buffer k lands goes by the words as they are
     module _ {r : Bool} (e : r ≡ lands ms w' k) where
       is-mark : r ≡ lands ms w k
       is-mark = e ∙ ap (λ (b : Buffer). arrives b (later ms b)) (buffer-like w' w k (λ j l. g.left (11 * k + j) (omega arith)))
 
-      pub going-fits : r ≡ true → mark + weight < 256
-      going-fits t = marking-fits (lands ms w) k mark weight h (sym is-mark ∙ t) g.whole
+      pub going-fits : r ≡ true → mark + 2 ^ k < 256
+      going-fits t = marking-fits (lands ms w) k mark h (sym is-mark ∙ t) g.whole
 
-      module _ {w'' : List ℕ} (n : length w'' ≡ length w') (m : Remade w' w'' k (later ms (buffer_in w' k))) where
-        further : (mark' : ℕ) → marking (lands ms w) (k + 1) mark' (weight * 2) ≡ marking (lands ms w) k mark weight → Going ms w w'' (k + 1) mark' (weight * 2)
+      module _ {w'' : List ℕ} (m : Remade w' w'' k (later ms (buffer_in w' k))) where
+        further : (mark' : ℕ) → marking (lands ms w) (k + 1) mark' ≡ marking (lands ms w) k mark → Going ms w w'' (k + 1) mark'
         further mark' d =
             record {
-              within = omega arith;
-              size = n ∙ g.size;
               buffers = anew-turn (λ i b. later ms b) w' w'' k h m.below m.above m.made ∙ g.buffers;
               left = λ j l. m.above j (omega arith) ∙ g.left j (omega arith);
-              power = rw (add-one k, pow-suc 2 k, g.power);
               whole = d ∙ g.whole;
             }
 
-        pub going_on : r ≡ true → Going ms w w'' (k + 1) (mark + weight) (weight * 2)
-        going_on t = further (mark + weight) (marking-on (lands ms w) k mark weight h (sym is-mark ∙ t))
+        pub going_on : r ≡ true → {weight : ℕ} → weight ≡ 2 ^ k → Going ms w w'' (k + 1) (mark + weight)
+        going_on t e = rw e (further (mark + 2 ^ k) (marking-on (lands ms w) k mark h (sym is-mark ∙ t)))
 
-        pub going-off : r ≡ false → Going ms w w'' (k + 1) mark (weight * 2)
-        going-off t = further mark (marking-off (lands ms w) k mark weight h (sym is-mark ∙ t))
+        pub going-off : r ≡ false → Going ms w w'' (k + 1) mark
+        going-off t = further mark (marking-off (lands ms w) k mark h (sym is-mark ∙ t))
 
-  module _ (h : 8 ≤ k) where
+  module _ (e : k ≡ 8) where
     pub going-made : buffers_in w' ≡ change (λ i b. later ms b) 0 (buffers_in w)
     going-made =
-        let e : 8 ≡ k = omega (arith, g.within) in
-        sym (anew-end (λ i b. later ms b) w') ∙ ap (anew (λ i b. later ms b) w') e ∙ g.buffers ∙ anew-start (λ i b. later ms b) w
+        sym (anew-end (λ i b. later ms b) w') ∙ ap (anew (λ i b. later ms b) w') (sym e) ∙ g.buffers ∙ anew-start (λ i b. later ms b) w
 
     -- the mark is that of the states that the words stand for
     pub going-marked : (clock clock' : ℕ) → mark ≡ mark_of [] (state_in w clock) (state_in w' clock')
     unfolding deed_on
     going-marked clock clock' =
-        marking-end (lands ms w) k mark weight h
+        marking-end (lands ms w) k mark (omega arith)
         ∙ g.whole
         ∙ ap weigh (map-up_from (lands ms w) (marked [] w w') 0 8 (λ b l. ap (arrives (buffer_in w b)) (sym (changed (λ i b. later ms b) w w' going-made b l))))
         ∙ sym (mark-is [] w w' clock clock')

@@ -23,16 +23,15 @@ fn sooner(ms: u16, delay: u16) -> u16
     if ms < delay { ms } else { delay }
 }
 
-// The smallest delay above 0 in a state, 0 if there is none.
+/// The smallest delay above 0 in a state, 0 if there is none.
+#[tactic(auto, using(crate::proofs::DelayLaws::delays_left))]
 pub fn soonest(state: &[u16]) -> u16
     requires { 88 ≤ length state.now }
     ensures { result ≡ soonest 0 (buffers_in state.now) }
 {
     let mut ms = 0u16;
-    let mut k = 0;
-    while k < 8 {
+    for k in 0..8 {
         ms = sooner(ms, state[BUFFER_WORDS * k + 9]);
-        k += 1;
     }
     ms
 }
@@ -57,21 +56,17 @@ fn lower(state: &mut [u16], k: usize, ms: u16) -> bool
     false
 }
 
-// Takes some ms from every delay, not below 0; the mark of the buffers that went from pending to visible.
+/// Takes some ms from every delay, not below 0; the mark of the buffers that went from pending to visible.
 pub fn wait(state: &mut [u16], ms: u16) -> u16
     requires { 88 ≤ length state.old }
     ensures by_index { (clock : ℕ) → state_in state.new (clock + ms) ≡ wait ms (state_in state.old clock) }
     ensures mark { (clock clock' : ℕ) → result ≡ mark_of [] (state_in state.old clock) (state_in state.new clock') }
 {
     let mut mark = 0u16;
-    let mut weight = 1u16;
-    let mut k = 0;
-    while k < 8 {
+    for k in 0..8 {
         if lower(state, k, ms) {
-            mark += weight;
+            mark += 1 << k;
         }
-        weight *= 2;
-        k += 1;
     }
     mark
 }

@@ -5,7 +5,6 @@ use native.Mathlib.Omega.{arith}
 use lib.ListN.{replicate}
 use lib.Seq.{length-take-le}
 use Rattle.meaning.specs.Calls.{Needed, needed_of}
-use Rattle.actr_lines.proofs.WrittenLaws.{written-first, written-counts}
 use Rattle.laws.specs.CallsLaws.{table-most}
 use borrow.Author.Rules.{rules}
 use Rattle.actr.proofs.print.Goals as goal

@@ -5,7 +5,6 @@ use Rattle.actr_lines.specs.Text.{text as lines_text}
 use Rattle.actr_lines.proofs.WrittenLaws.{written_as}
 use Rattle.actr_lines.proofs.LineLaws.{text-one}
 use Rattle.actr.proofs.OpenLaws.{printed-run, printed-refused}
-use borrow.Author.Rules.{rules}
 use Rattle.actr.proofs.print_model.Goals as goal
 
 pub returns-then-opened-ne0 : goal.returns-then-opened-ne0

@@ -5,7 +5,6 @@ use native.Mathlib.Omega.{arith}
 use Rattle.meaning.specs.Read.{read_got}
 use Rattle.meaning.specs.Image.{anything}
 use Rattle.laws.specs.ReadLaws.{field-short, field-kept}
-use borrow.Author.Rules.{rules}
 use Rattle.bench_fetch.proofs.field_singly.Goals as goal
 
 pub returns-then-image-at : goal.returns-then-image-at

@@ -1,9 +1,7 @@
 -- `calls::table_length` meets its contract: an accepted image has as many rules as its plan says.
-use mathlib.Core.Path.{◌≡◌, sym, ◌∙◌}
-use native.Mathlib.Omega.{arith}
+use mathlib.Core.Path.{sym, ◌∙◌}
 use Rattle.layout.proofs.WalkLaws.{answer-bad, answer-next}
 use Rattle.calls.proofs.LengthLaws.{length-bad, length-next}
-use borrow.Author.Rules.{rules}
 use Rattle.calls.proofs.table_length.Goals as goal
 
 pub returns-in-Bad : goal.returns-in-Bad

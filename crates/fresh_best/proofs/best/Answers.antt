@@ -1,21 +1,17 @@
 -- `fresh_best::best` meets its contract: the best so far, and then the rules that are left, give the best of all; its entry stands in the nine words.
-use Prim.Native.Nat.{ℕ, ◌≤◌, ◌-◌, ◌+◌}
+use Prim.Native.Nat.{ℕ, ◌+◌}
 use mathlib.Core.Path.{◌≡◌, refl, sym, ◌∙◌}
 use mathlib.Core.Bool.{true}
-use mathlib.Core.Logic.{⊎_elim}
 use mathlib.Core.List.{List}
 use native.Mathlib.Omega.{arith}
 use lib.ListN.{length}
-use borrow.Author.Rules.{rules}
-use Rattle.meaning.specs.Choice.{utilities, counts}
-use Rattle.meaning.specs.Fresh.{choose_fresh}
-use Rattle.layout.specs.Rows.{rules_in, rule_in}
+use Rattle.meaning.specs.Choice.{counts}
+use Rattle.layout.specs.Rows.{rule_in}
 use Rattle.layout.specs.StateWords.{state_in}
 use Rattle.match_best.specs.Chosen.{candidate_with}
-use Rattle.match_best.proofs.TurnLaws.{Leads, leads-below, chosen_from, chosen-end, chosen-skip, chosen-turn, chosen-kept}
+use Rattle.match_best.proofs.TurnLaws.{chosen_from, chosen-end, chosen-skip, chosen-turn, chosen-kept}
 use Rattle.match_rule.proofs.MadeLaws.{rule-stands}
-use Rattle.layout.proofs.WordLaws.{all-copied}
-use Rattle.fresh_best.specs.Matched.{entry_in, Entered}
+use Rattle.fresh_best.specs.Matched.{entry_in}
 use Rattle.fresh_best.proofs.FreshLaws.{fresh_start}
 use Rattle.fresh_best.proofs.best.Goals as goal
 use Rattle.fresh_best.proofs.best.Goals.{After-hits, else-hits, then-hits+else-top-height, then-hits+then-top-height}
@@ -31,7 +27,6 @@ pub loop-k-init : goal.loop-k-init
 loop-k-init c =
     let a = c.args in
     record {
-      within = search rules;
       nine_words = c.requires.2;
       trial_words = refl;
       leads = refl;
@@ -46,12 +41,10 @@ loop-k-preserved c =
     let heads = a.heads.now in
     let words = a.words.now in
     let at : ℕ → ℕ → List ℕ = λ clock. entry_in heads words (state_in a.state.now clock) in
-    let within : l.k + 1 ≤ a.n = omega arith in
     let tried : length c.hits.new.nine ≡ 9 = c.hits.auto.nine ∙ l.invariant.trial_words in
     let stays : ((clock : ℕ) → chosen_from heads words (at clock) a.n (l.k + 1) l.best ≡ chosen_from heads words (at clock) a.n l.k l.best)
     → Turning heads words a.n a.state.now l.nine c.hits.new.nine l.best l.top (l.k + 1) =
     λ same. record {
-      within = within;
       nine_words = l.invariant.nine_words;
       trial_words = tried;
       leads = l.invariant.leads;
@@ -60,11 +53,10 @@ loop-k-preserved c =
     } in
     (elim c.if-hits.branch [
       | then-hits+then-top-height w ↦ let matches : (clock : ℕ) → counts (candidate_with heads words (at clock) l.k) ≡ true = λ clock. sym (counted (goal.at.loop-k-preserved c).After-hits clock) ∙ w.if-hits.true in
-          let copied = w.copy_into.ensures ∙ all-copied l.nine c.hits.new.nine (l.invariant.nine_words ∙ sym tried) in
+          let copied = w.copy_from_slice.ensures.after in
           rw (w.nine-is, w.best-is, w.top-is)
           (record {
-            within = within;
-            nine_words = w.copy_into.auto.words ∙ l.invariant.nine_words;
+            nine_words = w.copy_from_slice.auto.self ∙ l.invariant.nine_words;
             trial_words = tried;
             leads = (c.loop-k-test.true, w.key-height.ensures);
             entered = λ clock. copied ∙ c.hits.ensures.entered w.if-hits.true (rule_in heads words l.k) clock (rule-stands heads words l.k);
@@ -83,4 +75,4 @@ returns-clause-by_index c =
     let a = c.args in
     let heads = a.heads.now in
     let words = a.words.now in
-    λ clock. sym (l.invariant.so_far clock) ∙ chosen-end heads words (entry_in heads words (state_in a.state.now clock)) a.n l.k l.best c.loop-k-test.false
+    λ clock. sym (l.invariant.so_far clock) ∙ chosen-end heads words (entry_in heads words (state_in a.state.now clock)) a.n l.k l.best (omega arith)

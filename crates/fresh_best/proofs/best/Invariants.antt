@@ -1,27 +1,18 @@
 use Rattle.std.specs.Prelude.{Option}
-use Prim.Native.Nat.{ℕ, ◌≤◌, ◌-◌, ◌+◌}
-use mathlib.Core.Path.{◌≡◌, refl, sym, ◌∙◌}
-use mathlib.Core.Bool.{true}
-use mathlib.Core.Logic.{⊎_elim}
+use Prim.Native.Nat.{ℕ}
+use mathlib.Core.Path.{◌≡◌}
 use mathlib.Core.List.{List}
-use native.Mathlib.Omega.{arith}
 use lib.ListN.{length}
-use borrow.Author.Rules.{rules}
-use Rattle.meaning.specs.Choice.{utilities, counts}
+use Rattle.meaning.specs.Choice.{utilities}
 use Rattle.meaning.specs.Fresh.{choose_fresh}
-use Rattle.layout.specs.Rows.{rules_in, rule_in}
+use Rattle.layout.specs.Rows.{rules_in}
 use Rattle.layout.specs.StateWords.{state_in}
-use Rattle.match_best.specs.Chosen.{candidate_with}
-use Rattle.match_best.proofs.TurnLaws.{Leads, leads-below, chosen_from, chosen-end, chosen-skip, chosen-turn, chosen-kept}
-use Rattle.match_rule.proofs.MadeLaws.{rule-stands}
-use Rattle.layout.proofs.WordLaws.{all-copied}
+use Rattle.match_best.proofs.TurnLaws.{Leads, chosen_from}
 use Rattle.fresh_best.specs.Matched.{entry_in, Entered}
-use Rattle.fresh_best.proofs.FreshLaws.{fresh_start}
 use Rattle.fresh_best.proofs.best.Given as goal
 
 -- after k of n rules: the best so far leads, its entry stands in the nine words, and it and the rules from k on give what all give
 pub record Turning (heads words : List ℕ) (n : ℕ) (state nine trial : List ℕ) (best : Option ℕ) (top k : ℕ) : Type 0 where
-  pub within : k ≤ n
   pub nine_words : length nine ≡ 9
   pub trial_words : length trial ≡ 9
   pub leads : Leads heads n best top
@@ -31,6 +22,3 @@ pub record Turning (heads words : List ℕ) (n : ℕ) (state nine trial : List �
 
 abbrev pub invariant-loop-k : goal.invariant-loop-k
 invariant-loop-k l = Turning l.heads l.words l.n l.state l.nine l.trial l.best l.top l.k
-
-abbrev pub decreases-loop-k : goal.decreases-loop-k
-decreases-loop-k l = l.n - l.k

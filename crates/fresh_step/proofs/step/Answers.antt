@@ -1,16 +1,14 @@
 -- `fresh_step::step` meets its contract: the best of the matching rules fires with its entry, or time passes.
 use Prim.Native.Nat.{ℕ}
-use mathlib.Core.Path.{◌≡◌, refl}
+use mathlib.Core.Path.{◌≡◌}
 use mathlib.Core.List.{List}
-use borrow.Author.Rules.{rules}
 use Rattle.meaning.specs.Choice.{utilities}
 use Rattle.meaning.specs.Fresh.{choose_fresh}
 use Rattle.layout.specs.StateWords.{state_in}
 use Rattle.layout.specs.Plans.{heads_on, rows_on, rules_on}
 use Rattle.laws.specs.PartLaws.{to_end}
-use Rattle.layout.proofs.PlanLaws.{sections}
 use Rattle.fresh_best.specs.Matched.{matched_of, Entered}
-use Rattle.fresh_step.proofs.MoveLaws.{rule-below, step-fires, step_waits, added-by, added-none}
+use Rattle.fresh_step.proofs.MoveLaws.{step-fires, step_waits, added-by, added-none}
 use Rattle.fresh_step.proofs.step.Goals as goal
 use Rattle.fresh_step.proofs.step.Goals.{After-best}
 
@@ -23,6 +21,8 @@ chosen c = simp to_end at c.best.ensures.by_index c.args.clock
 entered : (c : After-best) → let a = c.args in Entered (heads_on a.plan a.tape.now) (rows_on a.plan a.tape.now) a.state.now c.best.result (entry c)
 entered c = simp to_end at c.best.ensures.entry
 
+-- the rule that is chosen fires
+-- with the nine words of its entry
 pub returns-in-Some-clause-move_met : goal.returns-in-Some-clause-move_met
 returns-in-Some-clause-move_met c =
     let a = c.args in

@@ -1,6 +1,5 @@
 -- `jirvuntsag::jirvuntsag_open` meets its contract: the answer, the state and the table are those of the opening.
 use Rattle.jirvuntsag.proofs.ToldLaws.{open-near, open_told}
-use borrow.Author.Rules.{rules}
 use Rattle.jirvuntsag.proofs.jirvuntsag_open.Goals as goal
 
 pub answer-requires : goal.answer-requires

@@ -1,17 +1,17 @@
 -- `jirvuntsag::jirvuntsag_run_fresh_lent` meets its contract: the run is of the state that the words gave, and so are the events and the store.
-use Rattle.jirvuntsag.proofs.LentLaws.{fresh-lent-near, fresh-lent-told, fresh-lent-events-told}
+use mathlib.Core.Path.{refl}
 use borrow.Author.Rules.{rules}
+use Rattle.jirvuntsag.specs.Words.{given_by}
+use Rattle.jirvuntsag.proofs.LentLaws.{fresh-lent-near, fresh-lent-led, fresh-lent-events-told}
 use Rattle.jirvuntsag.proofs.jirvuntsag_run_fresh_lent.Goals as goal
 
-pub answer-requires : goal.answer-requires
-answer-requires c =
-    let a = c.args in
-    fresh-lent-near a.image.now a.state.now a.steps a.lent a.store.now c.given-before.result.state _ c.fresh_lent-done.ensures.0
+pub led-requires : goal.led-requires
+led-requires c = search (rules, fresh-lent-near)
 
 pub returns : goal.returns
 returns c =
-    let a = c.args in (
-      fresh-lent-told a.image.now a.state.now a.steps a.lent a.store.now c.given-before.result.fitting c.given-before.result.state _ _ c.answer.result c.lay_back.new.words
-          c.given-before.ensures.0 c.given-before.ensures.1 c.fresh_lent-done.ensures.0 c.lay_back.ensures c.answer.ensures,
-      fresh-lent-events-told a.image.now a.state.now a.steps a.lent a.store.now c.given-before.result.state a.events.now _ c.given-before.ensures.1 c.fresh_lent-done.ensures.1,
+    let a = c.args in
+    let e = c.led.ensures in (
+      fresh-lent-led a.image.now a.state.now a.steps a.lent a.store.now e.0 c.led.result c.led.new.words _ e.3 e.2 (search rules) (search rules) (search rules),
+      fresh-lent-events-told a.image.now a.state.now a.steps a.lent a.store.now (given_by a.state.now) a.events.now _ refl (search rules),
     )

@@ -1,6 +1,5 @@
 -- `jirvuntsag::jirvuntsag_table_len` meets its contract: the answer is that of the table's length.
 use Rattle.jirvuntsag.proofs.ToldLaws.{needed-near, length-told}
-use borrow.Author.Rules.{rules}
 use Rattle.jirvuntsag.proofs.jirvuntsag_table_len.Goals as goal
 
 pub answer-requires : goal.answer-requires

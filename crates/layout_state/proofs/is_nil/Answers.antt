@@ -1,6 +1,5 @@
 -- `layout_state::is_nil` meets its contract: its first nine words are 0.
 use mathlib.Core.Path.{◌∙◌}
-use borrow.Author.Rules.{rules}
 use Rattle.layout_state.proofs.WellLaws.{nil-words}
 use Rattle.layout_state.proofs.is_nil.Goals as goal
 

@@ -1,22 +1,19 @@
--- `layout_state::lay_buffer` meets its contract: the type is stored, what is left of the slots, stored from here on, makes the whole, then come the delay and the flag.
-use Prim.Native.Nat.{◌≤◌, ◌-◌, ◌*◌, ◌+◌}
-use mathlib.Core.Path.{◌≡◌, refl, ◌∙◌}
-use borrow.Author.Rules.{rules}
+-- `layout_state::lay_buffer` meets its contract: the type is stored, then the slots, the delay and the flag.
+use Prim.Native.Nat.{◌+◌, ◌*◌}
+use mathlib.Core.Path.{◌≡◌}
 use native.Mathlib.Omega.{arith}
-use lib.ListN.{length, drop, set, length-set}
-use lib.Seq.{sets}
-use Rattle.layout.proofs.WordLaws.{sets-step, sets_end}
-use Rattle.layout_state.proofs.LayLaws.{lay_done, flag-laid}
+use borrow.Author.Rules.{rules}
+use lib.ListN.{length, set, length-set}
+use Rattle.layout.proofs.WordLaws.{lent-sets}
+use Rattle.layout_state.proofs.LayLaws.{lay_done}
 use Rattle.layout_state.proofs.lay_buffer.Goals as goal
-use Rattle.layout_state.proofs.lay_buffer.Goals.{At-loop-i}
-
--- no store alters the length
-long : (c : At-loop-i) → length c.loop-i.words ≡ length c.args.words.now
-long c = c.loop-i.invariant.2 ∙ simp length-set
 
 pub returns-clause-k_after : goal.returns-clause-k_after
 returns-clause-k_after c =
-    let l = c.loop-i in
     let a = c.args in
-    lay_done a.words.now l.words a.k a.buffer _ c.flag_word.ensures l.invariant.1 (search rules)
-    (sets_end l.words (11 * a.k + 1 + l.i) l.i _ (omega (arith, l.invariant.1)) ∙ l.invariant.3)
+    let o = 11 * a.k in
+    let z : o + 9 ≡ o + 1 + 8 = omega arith in
+    let laid = c.copy_from_slice.ensures.after in
+    let long : length a.buffer.slots ≡ 8 = search rules in
+    lay_done a.words.now _ a.k a.buffer _ (search rules) long (search rules)
+    (rw (z, laid) (lent-sets (o + 1) 8 (set a.words.now o a.buffer.isa) a.buffer.slots (omega (arith, length-set a.words.now o a.buffer.isa)) long))

@@ -1,6 +1,5 @@
 -- `layout_state::read_state` meets its contract: each buffer is read from its eleven words.
 use Rattle.layout.specs.Rows.{rows_in}
-use borrow.Author.Rules.{rules}
 use Rattle.layout_state.proofs.read_state.Goals as goal
 
 pub returns : goal.returns

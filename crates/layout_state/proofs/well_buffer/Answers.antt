@@ -1,10 +1,6 @@
 -- `layout_state::well_buffer` meets its contract: the type, the values, the slots past the count and the flag are judged in the order of the definition.
-use Prim.Native.Nat.{◌*◌}
 use mathlib.Core.Path.{sym, ◌∙◌}
-use native.Mathlib.Omega.{arith}
-use lib.ListN.{get_or}
-use borrow.Author.Tests.{not-true, not-false}
-use Rattle.layout_state.proofs.WellLaws.{well-type, well-values, well-past, well-flag}
+use Rattle.layout_state.proofs.WellLaws.{well-values, well-past, well-flag}
 use borrow.Author.Rules.{rules}
 use Rattle.layout_state.proofs.well_buffer.Goals as goal
 

@@ -1,20 +1,10 @@
--- `match_beds::lay_awake` meets its contract: the words below w are all ones.
-use Rattle.match_beds.proofs.LayLaws.{ones-more, ones-beside}
-use Rattle.match_sets.specs.Sets.{has}
-use lib.ListN.{length, length-set}
-use native.Mathlib.Omega.{arith}
-use mathlib.Core.Bool.{true}
-use mathlib.Core.Path.{◌≡◌, refl, ◌∙◌}
-use Prim.Native.Nat.{ℕ, ◌-◌, ◌≤◌, ◌<◌}
-use borrow.Author.Rules.{rules}
+-- `match_beds::lay_awake` meets its contract: four words are all ones, and the others as they were.
+use Rattle.std.proofs.Common.{rules, ◌≡◌, ◌-◌, ◌^◌}
+use lib.ListN.{replicate}
+use Rattle.match_beds.proofs.LayLaws.{ones_below, ones_beside}
 use Rattle.match_beds.proofs.lay_awake.Goals as goal
 
-pub loop-w-preserved : goal.loop-w-preserved
-loop-w-preserved c =
-    let l = c.loop-w in
-    let room : l.w < length l.sets = omega (arith, l.invariant.1, c.requires) in (
-      search rules,
-      simp length-set l.invariant.1,
-      ones-more l.sets l.w room l.invariant.2,
-      λ j i h. ones-beside l.sets l.w room j i (λ e. omega arith) ∙ l.invariant.3 j i h,
-    )
+pub returns : goal.returns
+returns c =
+    let filled : c.fill.new.self ≡ replicate 4 (2 ^ 64 - 1) = search rules in
+    (ones_below c.args.sets.now c.fill.new.self filled, ones_beside c.args.sets.now c.fill.new.self filled)

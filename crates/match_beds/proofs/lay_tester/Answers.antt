@@ -1,11 +1,9 @@
 -- `match_beds::lay_tester` meets its contract: the rule has joined the testers of the buffers passed.
-use Rattle.match_beds.proofs.LayLaws.{joins-none, joins-turn, joins-end}
-use Rattle.match_sets.proofs.BitWalk.{Walk, walk_begins, walk_here, walk_none, walk-goes-on, walk_ends, bit_below}
-use Rattle.match_beds.specs.Moves.{Joins}
+use Rattle.match_beds.proofs.LayLaws.{joins-turn, joins-end}
+use Rattle.match_sets.proofs.BitWalk.{walk_here, walk_none, walk-goes-on, walk_ends, bit_below}
 use native.Mathlib.Omega.{arith}
 use mathlib.Core.Path.{refl}
 use Prim.Native.Nat.{◌%◌}
-use borrow.Author.Rules.{rules}
 use Rattle.match_beds.proofs.lay_tester.Goals as goal
 
 pub loop-rest-preserved : goal.loop-rest-preserved

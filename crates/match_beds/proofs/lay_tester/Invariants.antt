@@ -1,10 +1,6 @@
-use Rattle.match_beds.proofs.LayLaws.{joins-none, joins-turn, joins-end}
-use Rattle.match_sets.proofs.BitWalk.{Walk, walk_begins, walk_here, walk_none, walk-goes-on, walk_ends, bit_below}
+use Rattle.match_sets.proofs.BitWalk.{Walk}
 use Rattle.match_beds.specs.Moves.{Joins}
-use native.Mathlib.Omega.{arith}
-use mathlib.Core.Path.{refl}
 use Prim.Native.Nat.{◌%◌}
-use borrow.Author.Rules.{rules}
 use Rattle.match_beds.proofs.lay_tester.Given as goal
 
 abbrev pub invariant-loop-rest : goal.invariant-loop-rest

@@ -1,11 +1,9 @@
 -- `match_beds::touched` meets its contract: the testers of the marked buffers passed are gathered.
 use Rattle.match_beds.proofs.MoveLaws.{touches_none, touches-turn, touches-end}
-use Rattle.match_sets.proofs.BitWalk.{Walk, walk_begins, walk-ahead, walk_here, walk_none, walk-goes-on, walk_ends, bit_below}
-use Rattle.match_beds.specs.Moves.{Touches}
+use Rattle.match_sets.proofs.BitWalk.{walk_begins, walk-ahead, walk_here, walk_none, walk-goes-on, walk_ends, bit_below}
 use native.Mathlib.Omega.{arith}
 use mathlib.Core.Path.{refl}
 use Prim.Native.Nat.{◌%◌}
-use borrow.Author.Rules.{rules}
 use Rattle.match_beds.proofs.touched.Goals as goal
 
 pub loop-rest-init : goal.loop-rest-init

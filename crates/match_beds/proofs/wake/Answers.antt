@@ -1,13 +1,11 @@
 -- `match_beds::wake` meets its contract: those in the beds of the used places passed are awake.
-use Rattle.match_beds.proofs.WakeLaws.{woke-none, woke-both, woke-as, roomy-kept, called-turn, called-end}
-use Rattle.match_sets.proofs.BitWalk.{Walk, walk_begins, walk_here, walk_none, walk-goes-on, walk_ends, bit_below}
-use Rattle.match_beds.specs.Woken.{Woke, Called}
+use Rattle.match_beds.proofs.WakeLaws.{woke-both, woke-as, called-turn, called-end}
+use Rattle.match_sets.proofs.BitWalk.{walk_here, walk_none, walk-goes-on, walk_ends, bit_below}
 use Rattle.match_beds.specs.Beds.{bed_of}
 use lib.ListN.{get_or}
 use native.Mathlib.Omega.{arith}
 use mathlib.Core.Path.{◌≡◌, refl, sym, ◌∙◌}
 use Prim.Native.Nat.{◌+◌, ◌*◌, ◌%◌, ◌<◌}
-use borrow.Author.Rules.{rules}
 use Rattle.match_beds.proofs.wake.Goals as goal
 use Rattle.match_beds.proofs.wake.Goals.{After-lowest}
 

@@ -1,12 +1,7 @@
-use Rattle.match_beds.proofs.WakeLaws.{woke-none, woke-both, woke-as, roomy-kept, called-turn, called-end}
-use Rattle.match_sets.proofs.BitWalk.{Walk, walk_begins, walk_here, walk_none, walk-goes-on, walk_ends, bit_below}
+use Rattle.match_sets.proofs.BitWalk.{Walk}
 use Rattle.match_beds.specs.Woken.{Woke, Called}
-use Rattle.match_beds.specs.Beds.{bed_of}
 use lib.ListN.{get_or}
-use native.Mathlib.Omega.{arith}
-use mathlib.Core.Path.{◌≡◌, refl, sym, ◌∙◌}
-use Prim.Native.Nat.{◌+◌, ◌*◌, ◌%◌, ◌<◌}
-use borrow.Author.Rules.{rules}
+use Prim.Native.Nat.{◌+◌, ◌%◌}
 use Rattle.match_beds.proofs.wake.Given as goal
 
 abbrev pub invariant-loop-rest : goal.invariant-loop-rest

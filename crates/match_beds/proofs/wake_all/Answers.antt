@@ -1,11 +1,10 @@
 -- `match_beds::wake_all` meets its contract: those in the beds of the marked buffers passed are awake.
-use Rattle.match_beds.proofs.WakeLaws.{woke-none, woke-both, woke-as, roomy-kept, called-kept, by_turn, by_end}
-use Rattle.match_sets.proofs.BitWalk.{Walk, walk_begins, walk_here, walk_none, walk-goes-on, walk_ends, bit_below}
-use Rattle.match_beds.specs.Woken.{Woke, Called, CalledBy}
+use Rattle.match_beds.proofs.WakeLaws.{woke-both, woke-as, roomy-kept, called-kept, by_turn, by_end}
+use Rattle.match_sets.proofs.BitWalk.{walk_here, walk_none, walk-goes-on, walk_ends, bit_below}
+use Rattle.match_beds.specs.Woken.{Called}
 use native.Mathlib.Omega.{arith}
 use mathlib.Core.Path.{refl}
 use Prim.Native.Nat.{◌%◌}
-use borrow.Author.Rules.{rules}
 use Rattle.match_beds.proofs.wake_all.Goals as goal
 
 pub wake-requires : goal.wake-requires

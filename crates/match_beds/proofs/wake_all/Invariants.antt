@@ -1,10 +1,6 @@
-use Rattle.match_beds.proofs.WakeLaws.{woke-none, woke-both, woke-as, roomy-kept, called-kept, by_turn, by_end}
-use Rattle.match_sets.proofs.BitWalk.{Walk, walk_begins, walk_here, walk_none, walk-goes-on, walk_ends, bit_below}
-use Rattle.match_beds.specs.Woken.{Woke, Called, CalledBy}
-use native.Mathlib.Omega.{arith}
-use mathlib.Core.Path.{refl}
+use Rattle.match_sets.proofs.BitWalk.{Walk}
+use Rattle.match_beds.specs.Woken.{Woke, CalledBy}
 use Prim.Native.Nat.{◌%◌}
-use borrow.Author.Rules.{rules}
 use Rattle.match_beds.proofs.wake_all.Given as goal
 
 abbrev pub invariant-loop-rest : goal.invariant-loop-rest

@@ -1,12 +1,11 @@
 -- `match_rest::visit` meets its contract: the part of the table that starts at nine times the rule's number is the rule's entry.
-use Rattle.match_rest.proofs.RoundLaws.{low-place, visited}
+use Rattle.match_rest.proofs.RoundLaws.{visited}
 use lib.Seq.{drop-drop, length-take-le}
 use lib.ListN.{take, drop, length-drop}
 use native.Mathlib.Omega.{arith}
 use mathlib.Core.List.{List, ◌++◌}
 use mathlib.Core.Path.{◌≡◌, ap, ◌∙◌}
 use Prim.Native.Nat.{ℕ, ◌-◌, ◌+◌, ◌*◌}
-use borrow.Author.Rules.{rules}
 use Rattle.match_rest.proofs.visit.Goals as goal
 
 pub returns : goal.returns

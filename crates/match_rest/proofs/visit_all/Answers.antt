@@ -1,9 +1,6 @@
 -- `match_rest::visit_all` meets its contract: the rules of the set among the first i are visited.
-use Rattle.match_rest.proofs.RoundLaws.{visited-none, visited-turn, visited-end}
-use Rattle.match_sets.proofs.BitWalk.{Walk, walk_begins, walk-ahead, walk_here, walk_none, walk-goes-on, walk_ends}
-use Rattle.match_rest.specs.Visits.{VisitedAll}
-use native.Mathlib.Omega.{arith}
-use borrow.Author.Rules.{rules}
+use Rattle.match_rest.proofs.RoundLaws.{visited-turn, visited-end}
+use Rattle.match_sets.proofs.BitWalk.{walk-ahead, walk_here, walk_none, walk-goes-on, walk_ends}
 use Rattle.match_rest.proofs.visit_all.Goals as goal
 
 pub loop-rest-preserved : goal.loop-rest-preserved

@@ -1,8 +1,5 @@
-use Rattle.match_rest.proofs.RoundLaws.{visited-none, visited-turn, visited-end}
-use Rattle.match_sets.proofs.BitWalk.{Walk, walk_begins, walk-ahead, walk_here, walk_none, walk-goes-on, walk_ends}
+use Rattle.match_sets.proofs.BitWalk.{Walk}
 use Rattle.match_rest.specs.Visits.{VisitedAll}
-use native.Mathlib.Omega.{arith}
-use borrow.Author.Rules.{rules}
 use Rattle.match_rest.proofs.visit_all.Given as goal
 
 abbrev pub invariant-loop-rest : goal.invariant-loop-rest

@@ -1,16 +1,14 @@
 -- `match_rule::match_queries` meets its contract: the queries that are left give what all give, and one that does not hold shuts the rule.
-use Prim.Native.Nat.{ℕ, ◌+◌, ◌-◌, ◌/◌, ◌%◌, ◌≤◌, ◌<◌}
+use Prim.Native.Nat.{ℕ, ◌+◌, ◌/◌, ◌%◌, ◌<◌}
 use mathlib.Core.Path.{◌≡◌, sym, ap, ◌∙◌}
 use native.Mathlib.Omega.{arith}
 use borrow.Author.Rules.{rules}
 use lib.ListN.{get_or}
 use Rattle.meaning.specs.Image.{ask_of}
-use Rattle.meaning.specs.Match.{queries_hold}
-use Rattle.layout.specs.Rows.{queries_at}
-use Rattle.layout.specs.StateWords.{state_in}
 use Rattle.match_rule.specs.Shut.{is_hit}
 use Rattle.match_rule.proofs.MadeLaws.{not-hit}
-use Rattle.match_rule.proofs.QueryLaws.{answered, asked-hit, queries_from, queries-end, queries-turn, refused, because-asked}
+use Rattle.match_rule.proofs.QueryLaws.{answered, asked-hit, queries-end, queries-turn, refused, because-asked}
+use Rattle.match_rule.specs.declared.Tried.TheVariants.{Hit}
 use Rattle.match_rule.proofs.match_queries.Goals as goal
 use Rattle.match_rule.proofs.match_queries.Goals.{After-ask-tried}
 
@@ -28,18 +26,21 @@ more c = omega (arith, c.loop-i-test.true)
 pub loop-i-preserved : goal.loop-i-preserved
 loop-i-preserved c =
     let a = c.args in
-    let yes = sym (holds (goal.at.loop-i-preserved c).After-ask-tried) ∙ ap is_hit c.in-Hit.is in (
-      search rules,
-      λ clock. queries-turn a.words.now a.state.now clock (a.o + 89) (get_or a.words.now (a.o + 88) 0) c.loop-i.i (more (goal.at.loop-i-preserved c).After-ask-tried) yes ∙ c.loop-i.invariant.1 clock,
-    )
+    let hit : c.ask-tried.result ≡ Hit = search rules in
+    let yes = sym (holds (goal.at.loop-i-preserved c).After-ask-tried) ∙ ap is_hit hit in
+    λ clock. queries-turn a.words.now a.state.now clock (a.o + 89) (get_or a.words.now (a.o + 88) 0) c.loop-i.i (more (goal.at.loop-i-preserved c).After-ask-tried) yes ∙ c.loop-i.invariant clock
 
-pub returns-in_default : goal.returns-in_default
-returns-in_default c =
+pub returns-then-ne : goal.returns-then-ne
+returns-then-ne c =
     let a = c.args in
-    let missed = not-hit c.ask-tried.result c.in_default.not-Hit in
-    record { by_index = λ clock. missed ∙ sym (refused a.words.now a.o c.loop-i.i (more (goal.at.returns-in_default c).After-ask-tried) a.state.now clock (sym (holds (goal.at.returns-in_default c).After-ask-tried) ∙ missed)); because = λ n. rw c.ask-tried.ensures (because-asked a.words.now a.state.now a.o c.loop-i.i n (more (goal.at.returns-in_default c).After-ask-tried)) }
+    let other : c.ask-tried.result ≡ Hit → ⊥ = search rules in
+    let missed = not-hit c.ask-tried.result other in
+    record {
+      by_index = λ clock. missed ∙ sym (refused a.words.now a.o c.loop-i.i (more (goal.at.returns-then-ne c).After-ask-tried) a.state.now clock (sym (holds (goal.at.returns-then-ne c).After-ask-tried) ∙ missed));
+      because = λ n. rw c.ask-tried.ensures (because-asked a.words.now a.state.now a.o c.loop-i.i n (more (goal.at.returns-then-ne c).After-ask-tried));
+    }
 
 pub returns-clause-by_index : goal.returns-clause-by_index
 returns-clause-by_index c =
     let a = c.args in
-    λ clock. sym (queries-end a.words.now a.state.now clock (a.o + 89) (get_or a.words.now (a.o + 88) 0) c.loop-i.i c.loop-i-test.false) ∙ c.loop-i.invariant.1 clock
+    λ clock. sym (queries-end a.words.now a.state.now clock (a.o + 89) (get_or a.words.now (a.o + 88) 0) c.loop-i.i (omega arith)) ∙ c.loop-i.invariant clock

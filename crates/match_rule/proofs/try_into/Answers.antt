@@ -5,12 +5,8 @@ use Rattle.match_rule.specs.Shut.{is_hit}
 use Rattle.match_rule.specs.Words.{vars_in}
 use Rattle.match_rule.specs.Run.{Vars, stop, on, entry_words}
 use Rattle.match_rule.specs.declared.Tried.{Tried}
-use Prim.Native.Nat.{ℕ}
-use mathlib.Core.List.{List}
-use lib.ListN.{length-set}
 use mathlib.Core.Bool.{Bool}
-use mathlib.Core.Path.{◌≡◌, refl, sym, ap, ◌∙◌}
-use borrow.Author.Rules.{rules}
+use mathlib.Core.Path.{sym, ap, ◌∙◌}
 use Rattle.match_rule.proofs.try_into.Goals as goal
 use Rattle.match_rule.proofs.try_into.Goals.{After-match_words-tried}
 

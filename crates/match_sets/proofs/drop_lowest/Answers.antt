@@ -1,5 +1,4 @@
 -- `match_sets::drop_lowest` meets its contract: the bits of a number and of the number less 1 together.
-use borrow.Author.Rules.{rules}
 use Rattle.match_sets.proofs.BitLaws.{bit-dropped, dropped-less}
 use Rattle.match_sets.proofs.drop_lowest.Goals as goal
 

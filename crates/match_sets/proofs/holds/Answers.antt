@@ -1,11 +1,10 @@
 -- `match_sets::holds` meets its contract: the bit is shifted to the lowest place.
 use Prim.Native.Nat.{◌+◌, ◌/◌, ◌%◌}
-use mathlib.Core.Path.{◌≡◌, sym, ap, ◌∙◌}
+use mathlib.Core.Path.{ap, ◌∙◌}
 use native.Mathlib.Nat.{add-zero}
 use lib.ListN.{get_or}
 use Rattle.meaning.specs.Base.{bit}
 use Rattle.match_sets.proofs.BitLaws.{bit-shift}
-use borrow.Author.Rules.{rules}
 use Rattle.match_sets.proofs.holds.Goals as goal
 
 pub returns : goal.returns

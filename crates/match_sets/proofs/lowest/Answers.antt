@@ -1,7 +1,5 @@
 -- `match_sets::lowest` meets its contract: the laws of trailing zeros at 64 bits.
-use lib.Count.{count_trailing_zeros}
-use mir.Syntax.{w64}
-use borrow.Author.Rules.{rules, Fits-under}
+use borrow.Author.Rules.{rules}
 use Rattle.match_sets.proofs.BitLaws.{trailing-low, trailing-bit, trailing-none}
 use Rattle.match_sets.proofs.lowest.Goals as goal
 

@@ -1,70 +1,76 @@
--- `read_actions::actions` meets its contract: the actions laid so far, and those that are left from here, are the whole; the tests below them stay.
-use Prim.Native.Nat.{ℕ, ◌≤◌, ◌-◌, ◌*◌, ◌+◌}
-use mathlib.Core.Path.{◌≡◌, refl, ◌∙◌}
-use mathlib.Core.List.{List}
-use native.Mathlib.Omega.{arith}
-use lib.ListN.{length, take}
-use Rattle.meaning.specs.Model.{Action}
+-- The actions laid so far, and those that are left from here, are the whole; the tests stand apart from them.
+use Rattle.std.proofs.Common.{◌≡◌, ◌∙◌, ◌+◌, ◌*◌, ◌≤◌, refl, sym, ap, List, length, arith, rules}
+use lib.Seq.{length-sets, take_at}
+use Rattle.meaning.specs.Model.{Test}
 use Rattle.meaning.specs.Numbers.{finer}
-use Rattle.meaning.specs.Image.{actions}
-use Rattle.layout.specs.Rows.{sizes, action_in, tests_in}
-use Rattle.layout.proofs.WalkLaws.{bad-within, next-within}
-use Rattle.layout.proofs.KeptLaws.{begin-alike}
-use Rattle.read_actions.proofs.ActionLaws.{acting, acting-start, acting-end, acting-bad, acting-turn}
-use borrow.Author.Rules.{rules}
+use Rattle.meaning.specs.Image.{action, actions}
+use Rattle.laws.specs.PartLaws.{part-long}
+use Rattle.layout.specs.Rows.{rows_in, action_in, tests_in, actions_in}
+use Rattle.layout.proofs.WordLaws.{lent-sets}
+use Rattle.layout.proofs.RowLaws.{action-like, in-more}
+use Rattle.layout.proofs.LoopLaws.{onward-start, onward-end, onward-bad, onward-turn}
+use Rattle.read_actions.proofs.ActionLaws.{front-tests, back-actions}
 use Rattle.read_actions.proofs.actions.Goals as goal
-use Rattle.read_actions.proofs.actions.Goals.{After-action-w}
-
--- the place of the action's row, the rule's words as they came back, and the action that stands in them
-abbrev place : (c : After-action-w) → ℕ
-place c = 97 + 11 * c.loop-i.i
-
-abbrev laid : (c : After-action-w) → List ℕ
-laid c = c.action-w.new.rule
-
-abbrev acted : (c : After-action-w) → Action
-acted c = action_in (laid c) (place c)
-
--- the tests stay, whatever the action is
-tests-stay : (c : After-action-w) → take 97 (laid c) ≡ take 97 c.args.rule.now
-tests-stay c = let l = c.loop-i in begin-alike 97 (place c) l.rule (laid c) (omega arith) c.action-w.ensures.kept ∙ l.invariant.3
 
 pub loop-i-init : goal.loop-i-init
+unfolding rows_in
 loop-i-init c =
     let a = c.args in
-    (search rules, search rules, refl, refl, acting-start (sizes a.buffers a.types.now) a.variables a.image.now a.rule.now 0 a.n a.m a.p)
+    let ts = tests_in c.split_at_mut-tests.result.0.now 0 a.n in
+    record { reads = onward-start (action finer a.sizes.now a.variables ts) (λ x. x.buffer) a.reader.now.image a.m 0 a.reader.now.at; follows = refl; long = refl }
 
-pub returns-in-Bad-clause-kept : goal.returns-in-Bad-clause-kept
-returns-in-Bad-clause-kept c =
+pub returns-in_err-action-clause-m_after : goal.returns-in_err-action-clause-m_after
+returns-in_err-action-clause-m_after c =
     let l = c.loop-i in
     let a = c.args in
-    let bad =
-    acting-bad (sizes a.buffers a.types.now) a.variables a.image.now a.rule.now 0 a.n a.m l.rule l.i l.least l.at
-    c.loop-i-test.true (search rules) l.invariant.3 c.action-w.result (acted (goal.at.returns-in-Bad-clause-kept c).After-action-w) c.action-w.ensures.o_after _ _ c.in-Bad.is in
-    tests-stay (goal.at.returns-in-Bad-clause-kept c).After-action-w
+    let split = c.split_at_mut-tests in
+    let front = split.result.0.now in
+    let whole = rw (← split.ensures.value) at (front-tests front split.result.1.now split.ensures.front_len a.n c.requires.1) in
+    let refused =
+    onward-bad (action finer a.sizes.now a.variables (tests_in front 0 a.n)) (λ x. x.buffer) l.reader.image a.m (actions_in l.rows 0 l.i) l.i l.least l.reader.at c.loop-i-test.true _ _ c.in_err-action.ensures.row_after
+    ∙ l.invariant.reads ∙ ap (λ (ts : List Test). actions finer a.sizes.now a.variables ts a.m a.reader.now.image a.reader.now.at) (sym whole) in
+    search (rules, refused)
 
-pub returns-in-Bad-clause-m_after : goal.returns-in-Bad-clause-m_after
-returns-in-Bad-clause-m_after c =
-    let l = c.loop-i in
-    let a = c.args in
-    let bad =
-    acting-bad (sizes a.buffers a.types.now) a.variables a.image.now a.rule.now 0 a.n a.m l.rule l.i l.least l.at
-    c.loop-i-test.true (search rules) l.invariant.3 c.action-w.result (acted (goal.at.returns-in-Bad-clause-m_after c).After-action-w) c.action-w.ensures.o_after _ _ c.in-Bad.is in
-    bad ∙ l.invariant.4
+pub returns-in_err-action-clause-kept : goal.returns-in_err-action-clause-kept
+returns-in_err-action-clause-kept c =
+    let split = c.split_at_mut-tests in
+    take_at split.result.0.now _ 97 split.ensures.front_len ∙ split.ensures.front
 
 pub loop-i-preserved : goal.loop-i-preserved
 loop-i-preserved c =
     let l = c.loop-i in
     let a = c.args in
-    let on =
-    acting-turn (sizes a.buffers a.types.now) a.variables a.image.now a.rule.now 0 a.n a.m l.rule l.i l.least l.at
-    c.loop-i-test.true (search rules) l.invariant.3 c.action-w.result (acted (goal.at.loop-i-preserved c).After-action-w) c.action-w.ensures.o_after (laid (goal.at.loop-i-preserved c).After-action-w) _ c.in-Next.is refl c.action-w.ensures.kept in
-    (search rules, c.action-w.ensures.within _ c.in-Next.is, search rules, tests-stay (goal.at.loop-i-preserved c).After-action-w, on ∙ l.invariant.4)
+    let read = c.in_ok-action.ensures in
+    let row = c.action.new.row in
+    let q = 11 * l.i in
+    let ts = tests_in c.split_at_mut-tests.result.0.now 0 a.n in
+    let room : q + 11 ≤ length l.rows = omega (arith, l.invariant.long, c.split_at_mut-tests.ensures.back_len, c.requires.2, c.requires.3, c.loop-i-test.true) in
+    let whole : length row ≡ 11 = c.action.auto.row ∙ part-long q 11 l.rows room in
+    let written = lent-sets q 11 l.rows row room whole in
+    let o : 0 + 11 * l.i ≡ q = omega arith in
+    let more = rw o at (in-more action_in action-like l.rows 0 l.i row whole (omega arith)) in
+    let turn =
+    onward-turn (action finer a.sizes.now a.variables ts) (λ x. x.buffer) l.reader.image a.m (actions_in l.rows 0 l.i) l.i l.least l.reader.at c.loop-i-test.true (action_in row 0) _ read.row_after in
+    record {
+      reads = rw (written, more, read.follows) (turn ∙ l.invariant.reads);
+      follows = read.follows ∙ l.invariant.follows;
+      long = ap length written ∙ length-sets l.rows q row ∙ l.invariant.long;
+    }
 
 pub returns-clause-m_after : goal.returns-clause-m_after
 returns-clause-m_after c =
     let l = c.loop-i in
     let a = c.args in
+    let split = c.split_at_mut-tests in
+    let front = split.result.0.now in
+    let all : l.i ≡ a.m = omega arith in
+    let whole = rw (← split.ensures.value) at (front-tests front split.result.1.now split.ensures.front_len a.n c.requires.1) in
     let end =
-    acting-end (sizes a.buffers a.types.now) a.variables a.image.now a.rule.now 0 a.n a.m l.rule l.i l.least l.at (omega arith) in
-    end ∙ l.invariant.4
+    rw all at
+    (onward-end (action finer a.sizes.now a.variables (tests_in front 0 a.n)) (λ x. x.buffer) l.reader.image a.m (actions_in l.rows 0 l.i) l.i l.least l.reader.at (omega arith) ∙ l.invariant.reads) in
+    rw (back-actions front l.rows split.ensures.front_len a.m, whole) end
+
+pub returns-clause-kept : goal.returns-clause-kept
+returns-clause-kept c =
+    let split = c.split_at_mut-tests in
+    take_at split.result.0.now _ 97 split.ensures.front_len ∙ split.ensures.front

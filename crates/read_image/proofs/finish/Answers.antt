@@ -1,17 +1,28 @@
--- `read_image::finish` meets its contract: the bits up to the byte's end, and the image's length.
-use Prim.Native.Nat.{◌+◌, ◌*◌, ◌≤◌}
-use mathlib.Core.Path.{◌≡◌, sym, ◌∙◌}
-use native.Mathlib.Omega.{arith}
-use lib.ListN.{length}
+-- The bits up to the byte's end, and the image's length.
+use Rattle.std.proofs.Common.{rules, ◌≡◌, ◌∙◌, sym, arith, ◌+◌, ◌*◌, length}
+use Rattle.meaning.specs.Bits.{field_at}
+use Rattle.meaning.specs.Image.{padding}
 use Rattle.read_image.proofs.WholeLaws.{end-padding, end-follows, end-right}
-use borrow.Author.Rules.{rules}
 use Rattle.read_image.proofs.finish.Goals as goal
 
-pub returns-then-bits-ne0 : goal.returns-then-bits-ne0
-returns-then-bits-ne0 c = let a = c.args in end-padding a.image.now a.at (λ e. c.if-bits-ne0.true (c.bits.ensures ∙ e))
+pub returns-then-ahead-ne0 : goal.returns-then-ahead-ne0
+returns-then-ahead-ne0 c =
+    let r = c.args.reader.now in
+    let rest : field_at r.image r.at (padding r.at) ≡ 0 → ⊥ = search rules in
+    let refused = end-padding r.image r.at rest in
+    search (rules, refused)
 
 pub returns-then-at-padding : goal.returns-then-at-padding
-returns-then-at-padding c = let a = c.args in end-follows a.image.now a.at (sym c.bits.ensures ∙ c.if-bits-ne0.false) c.if-at-padding.true
+returns-then-at-padding c =
+    let r = c.args.reader.now in
+    let rest : field_at r.image r.at (padding r.at) ≡ 0 = search rules in
+    let more : r.at + padding r.at ≡ 8 * length r.image → ⊥ = search rules in
+    let refused = end-follows r.image r.at rest more in
+    search (rules, refused)
 
 pub returns : goal.returns
-returns c = let a = c.args in end-right a.image.now a.at (sym c.bits.ensures ∙ c.if-bits-ne0.false) c.if-at-padding.false
+returns c =
+    let r = c.args.reader.now in
+    let rest : field_at r.image r.at (padding r.at) ≡ 0 = search rules in
+    let last : r.at + padding r.at ≡ 8 * length r.image = search rules in
+    end-right r.image r.at rest last

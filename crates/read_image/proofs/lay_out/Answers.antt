@@ -1,93 +1,77 @@
--- `read_image::lay_out` meets its contract: header, opening and contents, one after the other, and what stands on the tape at the end.
-use Prim.Native.Nat.{ℕ, ◌≤◌, ◌+◌, ◌*◌}
-use mathlib.Core.Path.{◌≡◌, refl, sym, ap, ◌∙◌}
-use mathlib.Core.List.{List}
-use native.Mathlib.Omega.{arith}
-use lib.ListN.{length, take}
-use lib.Seq.{length-take-le}
-use Rattle.meaning.specs.Model.{Model, Chunk}
+-- Header, opening and contents, one after the other, and what stands on the tape at the end.
+use Rattle.std.proofs.Common.{rules, ◌≡◌, ◌∙◌, sym, ap, arith, ℕ, List, ◌+◌, ◌≤◌, length, take}
 use Rattle.meaning.specs.Read.{read_got}
 use Rattle.meaning.specs.Numbers.{finer}
-use Rattle.meaning.specs.Image.{header, Beginning, beginning, contents}
+use Rattle.meaning.specs.Image.{Beginning, beginning}
 use Rattle.meaning.specs.Calls.{open_state}
 use Rattle.layout.specs.declared.Plan.{Plan}
-use Rattle.layout.specs.Walks.{answer, Small}
-use Rattle.layout.specs.Rows.{sizes}
-use Rattle.layout.specs.Plans.{types_on, opening_on, model_on, Planned}
-use Rattle.layout.proofs.WalkLaws.{answer-bad, answer-next, bad-never}
+use Rattle.layout.specs.Plans.{types_on, model_on}
 use Rattle.layout.proofs.KeptLaws.{types-kept, state-kept, opening-kept}
-use Rattle.read_opening.specs.Parts.{header_in, opening_state}
-use Rattle.read_image.specs.Whole.{beginning_on, contents_on, InBounds}
-use Rattle.read_image.proofs.WholeLaws.{a_model, not-long, placed-starts, places-in, decode-refused, decode-beginning, decode-on}
+use Rattle.read_opening.specs.Parts.{opening_state}
+use Rattle.read_image.specs.Whole.{beginning_on, contents_on}
+use Rattle.read_image.proofs.WholeLaws.{a_model, not-long, placed-starts, places-in, decode-beginning, decode-contents, decode-on}
 use Rattle.read_image.proofs.TapeLaws.{beginning-kept}
-use borrow.Author.Rules.{rules}
 use Rattle.read_image.proofs.lay_out.Goals as goal
-use Rattle.read_image.proofs.lay_out.Goals.{After-lay_opening-t, In-Next, In-Next-after_opening}
+use Rattle.read_image.proofs.lay_out.Goals.{In_ok-types}
 
-abbrev plan : (c : In-Next) → Plan
-plan c = c.args.begun.plan
+pub lay_opening-requires : goal.lay_opening-requires
+lay_opening-requires c =
+    let b = c.reader-reader.ensures.begins in
+    let p = c.plan-plan.ensures.in_bounds in
+    let end = ap (λ (p : Plan). p.end) p.starts in
+    let same = ap (λ (p : Plan). p.end) c.plan-plan.ensures.value in
+    let header = b.reads ∙ sym (not-long _ b.short) in
+    (search (rules, header), p, omega (arith, c.requires, end, same))
 
-short : (c : In-Next) → length c.args.image.now ≤ 65536
-short c = c.requires.0.short _ c.in-Next.is
+-- the beginning that was laid out
+first : (c : In_ok-types) → read_got (beginning_on c.plan-plan.result c.lay_opening.new.tape) c.lay_opening.new.reader.at ≡ beginning finer c.args.begun.now.image 0
+first c = rw c.reader-reader.ensures.value at c.in_ok-types.ensures.reads
 
-in_bounds : (c : In-Next) → InBounds (plan c)
-in_bounds c = c.requires.0.in_bounds _ c.in-Next.is
+-- the types that the rest is read by are those on the tape
+same-types : (c : In_ok-types) → take (c.plan-plan.result.declared + 1) c.in_ok-types.types ≡ types_on c.plan-plan.result c.lay_opening.new.tape
+same-types c = sym c.in_ok-types.ensures.types
 
--- the tape with types and opening, as long as it was
-abbrev begun : (c : After-lay_opening-t) → List ℕ
-begun c = c.lay_opening-t.new.tape
+pub returns-in_err-types : goal.returns-in_err-types
+returns-in_err-types c =
+    let b = c.reader-reader.ensures.begins in
+    let bad = decode-beginning c.args.begun.now.image b.short _ _ (rw c.reader-reader.ensures.value at c.in_err-types.ensures.reads) in
+    record { reads = search (rules, bad); planned = search rules }
 
-room : (c : After-lay_opening-t) → (plan (goal.at.After-lay_opening-t c).In-Next).end ≤ length (begun c)
-room c = omega (arith, c.lay_opening-t.auto.tape, c.requires.1)
-
-declared : (c : In-Next) → (plan c).declared + 1 ≤ 64
-declared c = let b = (in_bounds c).bounds.most_declared in omega arith
-
-abbrev p : (c : In-Next-after_opening) → Plan
-p c = plan (goal.at.In-Next-after_opening c).In-Next
-
-abbrev types : (c : In-Next-after_opening) → List ℕ
-types c = c.lay_opening-t.result.types
-
-same-types : (c : In-Next-after_opening) → types_on (p c) (begun (goal.at.In-Next-after_opening c).After-lay_opening-t) ≡ take ((p c).declared + 1) (types c)
-same-types c = c.lay_opening-t.ensures.types _ c.in-Next-after_opening.is
-
-read-beginning : (c : In-Next-after_opening) → read_got (beginning_on (p c) (begun (goal.at.In-Next-after_opening c).After-lay_opening-t)) c.in-Next-after_opening.q ≡ beginning finer c.args.image.now 0
-read-beginning c = sym (answer-next _ (beginning_on (p c) (begun (goal.at.In-Next-after_opening c).After-lay_opening-t)) _ c.in-Next-after_opening.is) ∙ c.lay_opening-t.ensures.reads
-
-pub returns-in-Bad : goal.returns-in-Bad
-returns-in-Bad c =
-    let header' = sym (answer-bad _ (header_in c.args.begun.plan) _ _ c.in-Bad.is) ∙ c.requires.0.reads in
-    record { reads = decode-refused c.args.image.now _ _ header'; planned = bad-never _ _ _ refl }
-
-pub returns-in-Bad-after_opening : goal.returns-in-Bad-after_opening
-returns-in-Bad-after_opening c =
-    let bad = sym (answer-bad _ (beginning_on (plan (goal.at.returns-in-Bad-after_opening c).In-Next) (begun (goal.at.returns-in-Bad-after_opening c).After-lay_opening-t)) _ _ c.in-Bad-after_opening.is) ∙ c.lay_opening-t.ensures.reads in
-    record { reads = decode-beginning c.args.image.now (short (goal.at.returns-in-Bad-after_opening c).In-Next) _ _ bad; planned = bad-never _ _ _ refl }
+pub returns-in_err-contents : goal.returns-in_err-contents
+returns-in_err-contents c =
+    let b = c.reader-reader.ensures.begins in
+    let types = (goal.at.returns-in_err-contents c).In_ok-types in
+    let rest = rw (c.in_ok-types.ensures.follows, c.reader-reader.ensures.value, same-types types) at c.in_err-contents.ensures.tape_after in
+    let bad = decode-contents c.args.begun.now.image b.short (beginning_on c.plan-plan.result c.lay_opening.new.tape) _ (first types) _ _ rest in
+    record { reads = search (rules, bad); planned = search rules }
 
 pub returns : goal.returns
 unfolding model_on open_state
 returns c =
-    let q = plan (goal.at.returns c).In-Next in
-    let old = begun (goal.at.returns c).After-lay_opening-t in
-    let b = in_bounds (goal.at.returns c).In-Next in
-    let places = places-in q b in
-    let same = beginning-kept q old c.contents.new.tape c.contents.ensures.kept (declared (goal.at.returns c).In-Next) in
-    let rest = c.contents.ensures.tape_after ∙ ap (λ (ts : List ℕ). contents finer q.version (sizes q.buffers ts) q.facts q.rules c.args.image.now c.in-Next-after_opening.q) (sym (same-types (goal.at.returns c).In-Next-after_opening)) in
-    let on = decode-on c.args.image.now (short (goal.at.returns c).In-Next) (beginning_on q old) _ c.contents.result (contents_on q c.contents.new.tape) (read-beginning (goal.at.returns c).In-Next-after_opening) rest in
-    record {
-      reads = ap (λ (x : Beginning). answer c.contents.result (a_model x (contents_on q c.contents.new.tape))) same ∙ on;
-      planned = λ r e.
-          record {
-            starts = placed-starts q b.starts;
-            room = omega (arith, c.contents.auto.tape, room (goal.at.returns c).After-lay_opening-t);
-            some_buffers = b.bounds.some_buffers;
-            most_buffers = b.bounds.most_buffers;
-            most_declared = b.bounds.most_declared;
-            facts_placed = places.0;
-            most_places = places.1;
-            small = rw (types-kept q old c.contents.new.tape c.contents.ensures.kept (declared (goal.at.returns c).In-Next)) (c.lay_opening-t.ensures.small _ c.in-Next-after_opening.is);
-            laid = c.contents.ensures.laid r e;
-            opens = state-kept q old c.contents.new.tape c.contents.ensures.kept ∙ c.lay_opening-t.ensures.opens _ c.in-Next-after_opening.is ∙ ap (opening_state q.buffers) (sym (opening-kept q old c.contents.new.tape c.contents.ensures.kept));
-          };
-    }
+    let p = c.plan-plan.result in
+    let old = c.lay_opening.new.tape in
+    let tape = c.contents.new.tape in
+    let kept = c.contents.ensures.kept in
+    let b = c.plan-plan.ensures.in_bounds in
+    let types = (goal.at.returns c).In_ok-types in
+    let declared : p.declared + 1 ≤ 64 = let m = b.bounds.most_declared in omega arith in
+    let places = places-in p b in
+    let same = beginning-kept p old tape kept declared in
+    let rest = rw (c.in_ok-types.ensures.follows, c.reader-reader.ensures.value, same-types types) at c.in_ok-contents.ensures.tape_after in
+    let on = decode-on c.args.begun.now.image c.reader-reader.ensures.begins.short (beginning_on p old) _ (first types) (contents_on p tape) c.contents.new.reader.at rest in
+    let end = ap (λ (p : Plan). p.end) c.plan-plan.ensures.value in
+    rw (← c.plan-plan.ensures.value, c.at.ensures.value) (record {
+      reads = ap (λ (x : Beginning). read_got (a_model x (contents_on p tape)) c.contents.new.reader.at) same ∙ on;
+      planned = record {
+        starts = placed-starts p b.starts;
+        room = omega (arith, c.contents.auto.tape, c.lay_opening.auto.tape, c.requires, end);
+        some_buffers = b.bounds.some_buffers;
+        most_buffers = b.bounds.most_buffers;
+        most_declared = b.bounds.most_declared;
+        facts_placed = places.0;
+        most_places = places.1;
+        small = rw (types-kept p old tape kept declared) c.in_ok-types.ensures.small;
+        laid = c.in_ok-contents.ensures.laid;
+        opens = state-kept p old tape kept ∙ c.in_ok-types.ensures.opens ∙ ap (opening_state p.buffers) (sym (opening-kept p old tape kept));
+      };
+    })

@@ -1,9 +1,11 @@
--- `read_queries::query` meets its contract: two readings, the second from where the first ended, and the word that says them.
-use Rattle.read_queries.proofs.QueryLaws.{query-on}
-use borrow.Author.Rules.{rules}
+-- A buffer of three bits and a kind of two, in one word.
+use Rattle.std.proofs.Common.{rules, arith}
+use Rattle.meaning.specs.Image.{query}
+use Rattle.read_queries.proofs.QueryLaws.{word_says}
 use Rattle.read_queries.proofs.query.Goals as goal
 
-pub returns-clause-value_value : goal.returns-clause-value_value
-returns-clause-value_value c =
-    let a = c.args in
-    query-on a.buffers a.least a.image.now a.p c.ranged-buffer.result.walk c.ranged_after-kind.result.walk _ _ c.ranged-buffer.ensures.value_value c.ranged_after-kind.ensures.value_value
+pub returns-clause-value : goal.returns-clause-value
+unfolding query
+returns-clause-value c =
+    let says = word_says c.in_ok-buffer.buffer c.in_ok-kind.kind (omega (arith, c.in_ok-buffer.ensures.bounds.1, c.requires)) in
+    rw (says, ← c.in_ok-buffer.ensures.value) (search rules)

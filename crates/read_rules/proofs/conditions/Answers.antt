@@ -1,39 +1,46 @@
--- `read_rules::conditions` meets its contract: tests, the check on variables, queries, each from where the one before it ended.
-use Prim.Native.Nat.{ℕ, ◌*◌}
-use mathlib.Core.Path.{◌≡◌, sym, ap, ◌∙◌}
-use mathlib.Core.List.{List}
-use lib.ListN.{length}
-use Rattle.meaning.specs.Model.{Test}
-use Rattle.layout.specs.Walks.{Within}
-use Rattle.layout.specs.Rows.{sizes, tests_in, queries_at}
-use Rattle.read_ranges.specs.After.{after}
+-- Tests, the check on variables, queries, each from where the one before it ended.
+use Rattle.std.proofs.Common.{rules, ◌≡◌, ◌∙◌, sym, ap, false, true, List, ℕ, take}
+use Rattle.meaning.specs.Base.{every, up_from}
+use Rattle.meaning.specs.Model.{Test, Query}
+use Rattle.meaning.specs.Read.{Read, follow}
+use Rattle.meaning.specs.Numbers.{finer}
+use Rattle.meaning.specs.Image.{stands_in, queries}
+use Rattle.layout.specs.Rows.{tests_in, queries_at}
+use Rattle.read_ranges.specs.Reading.{told_by}
 use Rattle.read_rules.specs.Heads.{rule_left}
-use Rattle.read_rules.proofs.RuleLaws.{conditions-on, stood-within, tests-kept}
-use borrow.Author.Rules.{rules}
+use Rattle.read_rules.proofs.RuleLaws.{tests-bad, unstood, stood, tests-kept}
 use Rattle.read_rules.proofs.conditions.Goals as goal
-use Rattle.read_rules.proofs.conditions.Goals.{After-all_stood-checked, After-tests-after_tests}
 
--- the words after the tests, and the tests in them
-abbrev words : (c : After-tests-after_tests) → List ℕ
-words c = c.tests-after_tests.new.words
+pub returns-in_err-tests : goal.returns-in_err-tests
+returns-in_err-tests c =
+    let a = c.args in
+    let bad = tests-bad a.version a.sizes.now a.reader.now.image a.reader.now.at a.h _ _ c.in_err-tests.ensures.n_after in
+    record { reads = search (rules, sym bad); follows = c.tests.ensures.follows; few = search rules }
 
-abbrev own-tests : (c : After-tests-after_tests) → List Test
-own-tests c = tests_in (words c) 0 c.args.h.tests
-
--- where the variables were checked lies within the image
-within : (c : After-all_stood-checked) → Within c.all_stood-checked.result (8 * length c.args.image.now)
-within c = stood-within (own-tests (goal.at.After-all_stood-checked c).After-tests-after_tests) c.args.h.variables _ c.tests-after_tests.result c.all_stood-checked.result c.all_stood-checked.ensures c.tests-after_tests.ensures.within
+pub returns-then-not-stood : goal.returns-then-not-stood
+returns-then-not-stood c =
+    let a = c.args in
+    let k : every (stands_in (tests_in c.tests.new.words 0 a.h.tests)) (up_from 0 a.h.variables) ≡ false = search rules in
+    let bad = unstood a.version a.sizes.now a.reader.now.image a.reader.now.at a.h _ _ c.in_ok-tests.ensures.n_after k in
+    record { reads = rw c.at.ensures.value (sym bad); follows = c.tests.ensures.follows; few = search rules }
 
 pub returns : goal.returns
 returns c =
     let a = c.args in
-    let z = sizes a.buffers a.types.now in
-    let same : tests_in c.queries_after.new.own 0 a.h.tests ≡ own-tests (goal.at.returns c).After-tests-after_tests = tests-kept (words (goal.at.returns c).After-tests-after_tests) c.queries_after.new.own a.h.tests c.requires.4.tests_few c.queries_after.ensures.kept in
-    let on =
-    conditions-on a.version z a.image.now a.p a.h c.tests-after_tests.result c.all_stood-checked.result c.queries_after.result (own-tests (goal.at.returns c).After-tests-after_tests) (queries_at c.queries_after.new.own 0)
-    c.tests-after_tests.ensures.n_after c.all_stood-checked.ensures c.queries_after.ensures.own_after in
+    let s = a.reader.now.image in
+    let z = a.sizes.now in
+    let own = c.queries.new.own in
+    let ts = tests_in c.tests.new.words 0 a.h.tests in
+    let k : every (stands_in ts) (up_from 0 a.h.variables) ≡ true = search rules in
+    let same : tests_in own 0 a.h.tests ≡ ts = tests-kept c.tests.new.words own a.h.tests c.requires.0.tests_few c.queries.ensures.kept in
+    let asked : told_by (λ u. queries_at own 0) c.queries.result c.queries.new.reader ≡ queries finer a.version z.buffers a.h.tests s c.tests.new.reader.at =
+    rw (c.buffers.ensures.value, c.tests.ensures.follows) at c.queries.ensures.value in
+    let read = stood a.version z s a.reader.now.at a.h ts c.tests.new.reader.at c.in_ok-tests.ensures.n_after k in
     record {
-      reads = on ∙ ap (λ (ts : List Test). after c.queries_after.result (rule_left z a.h ts (queries_at c.queries_after.new.own 0) a.image.now)) (sym same);
-      within = c.queries_after.ensures.within;
-      few = c.queries_after.ensures.few;
+      reads =
+          read
+          ∙ ap (λ (r : Read (List Query)). follow r (λ qs at. rule_left z a.h ts qs s at)) (sym asked)
+          ∙ ap (λ (l : List Test). follow (told_by (λ u. queries_at own 0) c.queries.result c.queries.new.reader) (λ qs at. rule_left z a.h l qs s at)) (sym same);
+      follows = c.queries.ensures.follows ∙ c.tests.ensures.follows;
+      few = c.queries.ensures.few;
     }

@@ -1,12 +1,11 @@
 -- `read_terms::past` meets its contract: the low bits of the mask, cut out, are its remainder by a power of 2.
-use Prim.Native.Nat.{ℕ, suc, ◌≤◌, ◌<◌, ◌-◌, ◌*◌, ◌+◌, ◌%◌, ◌^◌}
-use mathlib.Core.Path.{◌≡◌, refl, sym, ap, ◌∙◌}
-use mathlib.Core.Bool.{Bool, true, false, not}
+use Prim.Native.Nat.{ℕ, ◌-◌, ◌*◌, ◌%◌, ◌^◌}
+use mathlib.Core.Path.{◌≡◌, ap}
+use mathlib.Core.Bool.{not}
 use native.Mathlib.Omega.{arith}
-use lib.Pow.{pow_pos, pow_mono}
+use lib.Pow.{pow_mono}
 use lib.Bits.{and_mask, bit_and}
 use lib.Dec.{eqb}
-use borrow.Author.Rules.{rules}
 use Rattle.read_terms.proofs.past.Goals as goal
 
 pub returns-then-slots-lt8 : goal.returns-then-slots-lt8

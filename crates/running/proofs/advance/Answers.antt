@@ -1,12 +1,12 @@
 -- `running::advance` meets its contract: after each turn, what is left to run from here gives what the whole run gives, and plan and tape know what the store does.
-use Prim.Native.Nat.{ℕ, ◌+◌, ◌-◌, ◌≤◌, ◌<◌}
-use mathlib.Core.Path.{◌≡◌, sym, ap, ◌∙◌}
+use Prim.Native.Nat.{◌+◌, ◌-◌}
+use mathlib.Core.Path.{◌≡◌, ◌∙◌}
 use native.Mathlib.Omega.{arith}
 use Rattle.meaning.specs.Learning.{store_after}
 use Rattle.layout.specs.StateWords.{state_in}
 use Rattle.step_note.proofs.TurnLaws as turns
 use Rattle.step_learn.proofs.KnowsLaws.{knows_more}
-use Rattle.step_made.specs.Made.{event_of, ms_of}
+use Rattle.step_made.specs.Made.{event_of}
 use Rattle.running.proofs.advance.Invariants.{answered}
 use Rattle.running.proofs.advance.Goals as goal
 

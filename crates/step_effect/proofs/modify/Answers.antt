@@ -1,29 +1,20 @@
 -- `step_effect::modify` meets its contract: what is named from here on, put into the slots as they are now, gives the whole.
-use borrow.Author.Rules.{rules}
-use Prim.Native.Nat.{◌+◌, ◌-◌, ◌<◌}
-use mathlib.Core.Logic.{⊎_elim}
-use lib.ListN.{get_or, length-set}
-use native.Mathlib.Omega.{arith}
-use Rattle.read_terms.proofs.MaskWalk.{Walk, walk_start, walk-next, walk-on, walk-off, walk_end}
-use Rattle.step_effect.proofs.SlotLaws.{Putting, putting-start, putting-on, putting-off, putting-end}
+use Rattle.std.proofs.Common.{sym, ◌∙◌, rules}
+use Rattle.step_effect.proofs.SlotLaws.{putting-start, putting-on, putting-off, putting-end}
 use Rattle.step_effect.proofs.modify.Goals as goal
-use Rattle.step_effect.proofs.modify.Goals.{In-loop-rest, else-rest-ge128, then-rest-ge128}
+use Rattle.step_effect.proofs.modify.Goals.{then-is_named, else-is_named}
 
--- a slot is left
-low : (c : In-loop-rest) → c.loop-rest.b < 8
-low c = omega (arith, c.loop-rest-test.true, c.loop-rest.invariant.0.small)
+pub loop-slot-init : goal.loop-slot-init
+loop-slot-init c = putting-start _ _ _ _ _
 
-pub loop-rest-init : goal.loop-rest-init
-loop-rest-init c = (walk_start _, putting-start _ _ _ _ _)
-
-pub loop-rest-preserved : goal.loop-rest-preserved
-loop-rest-preserved c =
-    let l = c.loop-rest in
-    let walk = l.invariant.0 in
-    let h = low (goal.at.loop-rest-preserved c).In-loop-rest in (
-      walk-next walk h,
-      (elim c.if-rest-ge128.branch [ then-rest-ge128 w ↦ rw w.state-is (putting-on l.invariant.1 h _ (walk-on walk h w.if-rest-ge128.true) w.value_of.ensures (search rules)) | else-rest-ge128 w ↦ rw w.state-is (putting-off l.invariant.1 h (walk-off walk h w.if-rest-ge128.false)) ]),
-    )
+pub loop-slot-preserved : goal.loop-slot-preserved
+loop-slot-preserved c =
+    let so-far = c.loop-slot.invariant in
+    let h = c.loop-slot-test.true in
+    (elim c.if-is_named.branch [
+      | then-is_named w ↦ rw w.state-is (putting-on so-far h _ (sym c.is_named.ensures ∙ w.if-is_named.true) w.value_of.ensures (search rules))
+      | else-is_named w ↦ rw w.state-is (putting-off so-far h (sym c.is_named.ensures ∙ w.if-is_named.false))
+    ])
 
 pub returns : goal.returns
-returns c = let l = c.loop-rest in putting-end l.invariant.1 (walk_end l.invariant.0 (omega arith)) (search rules)
+returns c = putting-end c.loop-slot.invariant c.loop-slot-test.false (search rules)

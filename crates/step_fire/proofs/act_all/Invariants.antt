@@ -1,14 +1,6 @@
-use borrow.Author.Rules.{rules}
-use mathlib.Core.Path.{◌≡◌}
-use mathlib.Core.Bool.{true}
-use native.Mathlib.Omega.{arith}
-use Rattle.meaning.specs.Mark.{acted_on}
 use Rattle.layout.specs.Rows.{actions_in}
 use Rattle.layout.specs.Plans.{facts_on, rows_on}
-use Rattle.laws.specs.PartLaws.{to_end}
-use Rattle.layout.proofs.PlanLaws.{sections}
-use Rattle.step_fire.proofs.ActLaws.{acted-low}
-use Rattle.step_fire.proofs.FireLaws.{Acting, acting-start, acting-turn, acting-end}
+use Rattle.step_fire.proofs.FireLaws.{Acting}
 use Rattle.step_fire.proofs.act_all.Given as goal
 
 abbrev pub invariant-loop-rest : goal.invariant-loop-rest

@@ -1,11 +1,7 @@
 -- `step_fire::fire` meets its contract: the actions, done on what a wait of 50 ms makes of the state, are the firing.
-use borrow.Author.Rules.{rules}
-use mathlib.Core.Path.{◌∙◌}
-use native.Mathlib.Omega.{arith}
 use Rattle.layout.specs.Rows.{actions_in}
 use Rattle.layout.specs.Plans.{facts_on, rows_on}
 use Rattle.laws.specs.PartLaws.{to_end}
-use Rattle.layout.proofs.PlanLaws.{sections}
 use Rattle.step_fire.specs.Acts.{ActedMask}
 use Rattle.step_fire.proofs.ActLaws.{acted-low}
 use Rattle.step_fire.proofs.FireLaws.{fired, fired-mark}

@@ -1,35 +1,36 @@
 -- `step_fire::perform` meets its contract, deed by deed.
-use borrow.Author.Rules.{rules}
-use Prim.Native.Nat.{◌+◌}
-use lib.ListN.{get_or, length-drop}
+use Rattle.std.proofs.Common.{◌≡◌, ◌<◌, ◌≤◌, ◌+◌, ℕ, List, get_or, sym, ap, ◌∙◌, arith}
 use Rattle.layout.specs.Rows.{masked_in}
 use Rattle.layout.specs.StateWords.{buffer_in}
 use Rattle.layout.specs.Plans.{facts_on, rows_on}
 use Rattle.laws.specs.PartLaws.{to_end}
-use Rattle.layout.proofs.PlanLaws.{sections}
 use Rattle.step_fire.proofs.ActLaws.{done-modify, done-request, done-clear}
 use Rattle.step_fire.proofs.perform.Goals as goal
 
-pub returns-then-deed-eq0 : goal.returns-then-deed-eq0
-returns-then-deed-eq0 c =
+pub returns-in-0 : goal.returns-in-0
+returns-in-0 c =
     let a = c.args in
     let rows = rows_on a.plan a.tape.now in
-    let by-deed = done-modify a.plan.failure (facts_on a.plan a.tape.now) a.nine.now (buffer_in a.state.now a.k) in
-    let is-modify = by-deed (get_or rows (a.q + 1) 0) (masked_in rows a.q) in
-    rw (is-modify (simp to_end at c.if-deed-eq0.true)) (simp to_end at c.modify.ensures)
+    let same = ap (λ (l : List ℕ). get_or l (a.q + 1) 0) (to_end a.plan.rows a.tape.now) in
+    let modify = done-modify a.plan.failure (facts_on a.plan a.tape.now) a.nine.now (buffer_in a.state.now a.k) (get_or rows (a.q + 1) 0) (masked_in rows a.q) (sym same ∙ c.in-0.is) in
+    rw modify (simp to_end at c.modify.ensures)
 
-pub returns-then-deed-lt64 : goal.returns-then-deed-lt64
-returns-then-deed-lt64 c =
+pub returns-in-1-to-63 : goal.returns-in-1-to-63
+returns-in-1-to-63 c =
     let a = c.args in
     let rows = rows_on a.plan a.tape.now in
-    let by-deed = done-request a.plan.failure (facts_on a.plan a.tape.now) a.nine.now (buffer_in a.state.now a.k) in
-    let is-request = by-deed (get_or rows (a.q + 1) 0) (masked_in rows a.q) in
-    rw (is-request (simp to_end at c.if-deed-eq0.false) (simp to_end at c.if-deed-lt64.true)) c.request.ensures
+    let same = ap (λ (l : List ℕ). get_or l (a.q + 1) 0) (to_end a.plan.rows a.tape.now) in
+    let some_type : get_or rows (a.q + 1) 0 ≡ 0 → ⊥ = λ z. omega arith in
+    let below : get_or rows (a.q + 1) 0 < 64 = omega arith in
+    let request = done-request a.plan.failure (facts_on a.plan a.tape.now) a.nine.now (buffer_in a.state.now a.k) (get_or rows (a.q + 1) 0) (masked_in rows a.q) some_type below in
+    rw request c.request.ensures
 
-pub returns : goal.returns
-returns c =
+pub returns-in_default : goal.returns-in_default
+returns-in_default c =
     let a = c.args in
     let rows = rows_on a.plan a.tape.now in
-    let by-deed = done-clear a.plan.failure (facts_on a.plan a.tape.now) a.nine.now (buffer_in a.state.now a.k) in
-    let is-clear = by-deed (get_or rows (a.q + 1) 0) (masked_in rows a.q) in
-    rw (is-clear (simp to_end at c.if-deed-eq0.false) (simp to_end at c.if-deed-lt64.false)) c.nil.ensures
+    let same = ap (λ (l : List ℕ). get_or l (a.q + 1) 0) (to_end a.plan.rows a.tape.now) in
+    let some_type : get_or rows (a.q + 1) 0 ≡ 0 → ⊥ = λ z. omega arith in
+    let above : 64 ≤ get_or rows (a.q + 1) 0 = omega arith in
+    let clear = done-clear a.plan.failure (facts_on a.plan a.tape.now) a.nine.now (buffer_in a.state.now a.k) (get_or rows (a.q + 1) 0) (masked_in rows a.q) some_type above in
+    rw clear c.nil.ensures

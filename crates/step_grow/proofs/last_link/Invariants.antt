@@ -1,11 +1,7 @@
-use Prim.Native.Nat.{◌+◌, ◌-◌}
-use mathlib.Core.Path.{◌≡◌, sym}
-use native.Mathlib.Omega.{arith}
+use Prim.Native.Nat.{◌-◌}
+use mathlib.Core.Path.{◌≡◌}
 use lib.ListN.{get_or, drop}
-use lib.Seq.{get_or-drop}
-use borrow.Author.Rules.{rules}
 use Rattle.step_grow.specs.Grown.{Link}
-use Rattle.step_grow.proofs.LinkLaws.{link_start, link-leap, link-next}
 use Rattle.step_grow.proofs.last_link.Given as goal
 
 abbrev pub invariant-loop-next : goal.invariant-loop-next

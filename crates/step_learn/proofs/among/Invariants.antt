@@ -1,11 +1,10 @@
-use borrow.Author.Rules.{rules}
-use Prim.Native.Nat.{◌-◌, ◌≤◌, ◌<◌}
-use mathlib.Core.Path.{◌≡◌, refl, sym, ◌∙◌}
-use Rattle.step_learn.proofs.JoinLaws.{among_from, among-start, among-end, among-here, among-skip}
+use mathlib.Core.Path.{◌≡◌}
+use Rattle.meaning.specs.Base.{any_of}
+use Rattle.meaning.specs.Learning.{chunks_of, chunk_of, equal}
+use Rattle.layout.specs.Rows.{facts_in}
+use Rattle.layout.specs.StateWords.{buffer_in}
+use Rattle.step_learn.proofs.JoinLaws.{among_from}
 use Rattle.step_learn.proofs.among.Given as goal
 
 abbrev pub invariant-loop-i : goal.invariant-loop-i
-invariant-loop-i l = (l.i ≤ l.n) × (among_from l.state l.b l.rows l.n l.i ≡ among_from l.state l.b l.rows l.n 0)
-
-abbrev pub decreases-loop-i : goal.decreases-loop-i
-decreases-loop-i l = l.n - l.i
+invariant-loop-i l = among_from l.state l.b l.rows l.n l.i ≡ any_of (equal (chunk_of (buffer_in l.state l.b))) (chunks_of (facts_in l.rows l.n))

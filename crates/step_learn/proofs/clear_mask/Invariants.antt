@@ -1,12 +1,5 @@
-use borrow.Author.Rules.{rules}
-use Prim.Native.Nat.{◌-◌, ◌+◌, ◌≤◌}
-use mathlib.Core.Path.{◌≡◌}
-use native.Mathlib.Omega.{arith}
-use Rattle.step_learn.proofs.ClearLaws.{Masked, masked-start, masked-turn, masked-end}
+use Rattle.step_learn.proofs.ClearLaws.{Masked}
 use Rattle.step_learn.proofs.clear_mask.Given as goal
 
 abbrev pub invariant-loop-i : goal.invariant-loop-i
-invariant-loop-i l = (l.i ≤ l.m) × Masked l.words l.o l.m l.i l.mask
-
-abbrev pub decreases-loop-i : goal.decreases-loop-i
-decreases-loop-i l = l.i
+invariant-loop-i l = Masked l.words l.o l.m l.i l.mask

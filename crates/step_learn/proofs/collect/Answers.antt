@@ -1,23 +1,21 @@
 -- `step_learn::collect` meets its contract: the rows are what the buffers below a place give, and those that are left are ahead.
-use borrow.Author.Rules.{rules}
 use borrow.Author.Tests.{not-true, not-false}
-use Prim.Native.Nat.{◌+◌, ◌*◌, ◌≤◌, ◌<◌}
-use mathlib.Core.Path.{◌≡◌, refl, sym, ◌∙◌}
+use Prim.Native.Nat.{◌+◌, ◌*◌, ◌<◌}
+use mathlib.Core.Path.{refl, sym, ◌∙◌}
 use mathlib.Core.List.{List}
 use native.Mathlib.Omega.{arith}
-use lib.ListN.{length, get_or}
+use lib.ListN.{get_or}
 use Rattle.meaning.specs.Model.{Action, Chunk}
 use Rattle.meaning.specs.Learning.{chunks_of}
 use Rattle.layout.specs.Rows.{actions_in}
 use Rattle.layout.specs.Plans.{facts_on, rows_on}
 use Rattle.laws.specs.PartLaws.{to_end}
-use Rattle.layout.proofs.PlanLaws.{sections}
-use Rattle.match_sets.proofs.BitWalk.{Walk, walk_here}
+use Rattle.match_sets.proofs.BitWalk.{walk_here}
 use Rattle.step_learn.specs.Clears.{ClearMask}
 use Rattle.step_learn.proofs.ClearLaws.{clear-low}
-use Rattle.step_learn.proofs.CollectLaws.{Held, collecting-start, collecting-few, collecting-turn, collecting-end, actions-count, collected-none, collected-so}
+use Rattle.step_learn.proofs.CollectLaws.{collecting-start, collecting-few, collecting-turn, collecting-end, actions-count, collected-none, collected-so}
 use Rattle.step_learn.proofs.collect.Goals as goal
-use Rattle.step_learn.proofs.collect.Goals.{After-clear_mask-mask, After-lowest-b, After-shared_slice_known-3-1}
+use Rattle.step_learn.proofs.collect.Goals.{After-clear_mask-mask, After-lowest-b}
 
 -- the facts' chunks, and the actions of the rule
 abbrev facts : (c : After-clear_mask-mask) → List Chunk
@@ -35,14 +33,14 @@ one-of-eight c =
     clear-low (rows_on a.plan a.tape.now) (185 * a.k + 97) 0 (get_or a.tape.now (a.plan.heads + 4 * a.k + 1) 0) c.lowest-b.result
     (sym (masked (goal.at.After-lowest-b c).After-clear_mask-mask c.lowest-b.result) ∙ walk_here c.loop-rest.invariant.1 c.lowest-b.result c.lowest-b.ensures.1)
 
-few : (c : After-shared_slice_known-3-1) → let a = c.args in get_or a.tape.now (a.plan.heads + 4 * a.k + 1) 0 ≤ 8
-few c = let a = c.args in rw (actions-count a.plan a.tape.now a.k) at (c.requires.0.laid.actions_few a.k c.requires.2)
-
 pub returns-then-not-plan : goal.returns-then-not-plan
 returns-then-not-plan c = let a = c.args in collected-none a.plan a.tape.now a.state.now a.k a.news.now (not-true _ c.if-not-plan.true)
 
 pub clear_mask-mask-requires : goal.clear_mask-mask-requires
-clear_mask-mask-requires c = rw to_end (omega (arith, few (goal.at.clear_mask-mask-requires c).After-shared_slice_known-3-1, c.requires.0.laid.words_room, c.requires.2))
+clear_mask-mask-requires c =
+    let a = c.args in
+    let few = rw (actions-count a.plan a.tape.now a.k) at (c.requires.0.laid.actions_few a.k c.requires.2) in
+    rw to_end (omega (arith, few, c.requires.0.laid.words_room, c.requires.2))
 
 pub loop-rest-init : goal.loop-rest-init
 loop-rest-init c = let a = c.args in (refl, collecting-start (facts (goal.at.loop-rest-init c).After-clear_mask-mask) (actions (goal.at.loop-rest-init c).After-clear_mask-mask) a.state.now a.news.now c.clear_mask-mask.result)

@@ -1,14 +1,12 @@
 -- `step_learn::known` meets its contract: the facts that are left tell of all, and those that a leap passes have another chunk.
-use borrow.Author.Rules.{rules}
-use Prim.Native.Nat.{◌-◌, ◌+◌, ◌*◌, ◌%◌, ◌<◌}
+use Prim.Native.Nat.{◌+◌, ◌*◌, ◌%◌, ◌<◌}
 use mathlib.Core.Path.{◌≡◌, sym, ◌∙◌}
 use mathlib.Core.Bool.{Bool}
 use native.Mathlib.Omega.{arith}
 use lib.ListN.{get_or, drop}
-use Rattle.layout.proofs.PlanLaws.{sections}
-use Rattle.step_retrieve.specs.Chains.{chain_of, Leap}
+use Rattle.step_retrieve.specs.Chains.{Leap}
 use Rattle.step_learn.proofs.ChunkLaws.{same_chunk}
-use Rattle.step_learn.proofs.JoinLaws.{among_from, among-start, among-end, among-here, among-skip, among-leap, chunk-drop, chain-starts, chain-goes-on}
+use Rattle.step_learn.proofs.JoinLaws.{among-start, among-end, among-here, among-skip, among-leap, chunk-drop, chain-starts, chain-goes-on}
 use Rattle.step_learn.proofs.known.Goals as goal
 use Rattle.step_learn.proofs.known.Goals.{After-same_chunk, In-loop-k}
 

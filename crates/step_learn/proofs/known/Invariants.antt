@@ -1,13 +1,8 @@
-use borrow.Author.Rules.{rules}
-use Prim.Native.Nat.{◌-◌, ◌+◌, ◌*◌, ◌%◌, ◌<◌}
-use mathlib.Core.Path.{◌≡◌, sym, ◌∙◌}
-use mathlib.Core.Bool.{Bool}
-use native.Mathlib.Omega.{arith}
-use lib.ListN.{get_or, drop}
-use Rattle.layout.proofs.PlanLaws.{sections}
-use Rattle.step_retrieve.specs.Chains.{chain_of, Leap}
-use Rattle.step_learn.proofs.ChunkLaws.{same_chunk}
-use Rattle.step_learn.proofs.JoinLaws.{among_from, among-start, among-end, among-here, among-skip, among-leap, chunk-drop, chain-starts, chain-goes-on}
+use Prim.Native.Nat.{◌-◌, ◌<◌}
+use mathlib.Core.Path.{◌≡◌}
+use lib.ListN.{drop}
+use Rattle.step_retrieve.specs.Chains.{chain_of}
+use Rattle.step_learn.proofs.JoinLaws.{among_from}
 use Rattle.step_learn.proofs.known.Given as goal
 
 abbrev pub invariant-loop-k : goal.invariant-loop-k

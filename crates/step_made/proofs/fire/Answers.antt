@@ -2,17 +2,15 @@
 use Prim.Native.Nat.{ℕ, ◌*◌, ◌+◌, ◌≤◌}
 use mathlib.Core.Path.{◌≡◌, sym, ap, ◌∙◌}
 use native.Mathlib.Omega.{arith}
-use borrow.Author.Rules.{rules}
 use borrow.Author.Tests.{lt-ltb, le-ltb}
 use lib.Dec.{ltb}
 use lib.ListN.{get_or}
 use lib.Seq.{get_or-drop}
 use Rattle.std.proofs.lemmas.Result.{err_from_is_err_and}
-use Rattle.meaning.specs.Step.{event_fired, largest}
+use Rattle.meaning.specs.Step.{event_fired}
 use Rattle.layout.specs.Rows.{rule_in, actions_in}
 use Rattle.layout.specs.StateWords.{state_in}
 use Rattle.layout.specs.Plans.{heads_on, rows_on}
-use Rattle.layout.proofs.PlanLaws.{sections}
 use Rattle.step_learn.specs.Joins.{no_place}
 use Rattle.step_learn.proofs.AddsLaws.{no-place-is}
 use Rattle.step_made.proofs.MadeLaws.{past, in-time, full, no_room, fired}

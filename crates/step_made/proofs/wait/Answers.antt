@@ -1,10 +1,11 @@
 -- `step_made::wait` meets its contract: the soonest delay is waited for, if there is one and the clock has room.
-use Rattle.std.proofs.Common.{◌≡◌, ◌∙◌, sym}
+use Rattle.std.proofs.Common.{◌∙◌, sym}
 use Rattle.std.proofs.lemmas.Result.{err_from_is_err_and}
-use Rattle.meaning.specs.declared.reasons.Reason.TheVariants.{ClockFull}
 use Rattle.step_made.proofs.MadeLaws.{past, wait-full}
 use Rattle.step_made.proofs.wait.Goals as goal
 
+-- a clock that is refused would pass its limit,
+-- and nothing is written before it is looked at
 pub returns-in_err-clock_after-clause-step_met : goal.returns-in_err-clock_after-clause-step_met
 returns-in_err-clock_after-clause-step_met c =
     let a = c.args in

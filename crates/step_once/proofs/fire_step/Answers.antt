@@ -8,6 +8,8 @@ returns-then-not-chosen_fresh-clause-step_met c =
     let a = c.args in
     not-fresh a.plan a.tape.now _ _ a.state.now a.clock (c.chosen_fresh.ensures a.clock) (search rules)
 
+-- the entry is fresh,
+-- so what is fired with it is what the definitions fire
 pub returns-clause-step_met : goal.returns-clause-step_met
 returns-clause-step_met c =
     let a = c.args in

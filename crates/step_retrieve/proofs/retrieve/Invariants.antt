@@ -1,24 +1,25 @@
-use Prim.Native.Nat.{◌<◌, ◌-◌, ◌+◌, ◌*◌, ◌/◌, ◌%◌, ◌^◌}
-use mathlib.Core.Path.{◌≡◌, refl, sym, ◌∙◌}
-use mathlib.Core.Bool.{true}
-use mathlib.Core.Logic.{⊎_elim}
-use native.Mathlib.Omega.{arith}
-use lib.Bits.{bit_and}
-use lib.Dec.{eqb}
-use lib.ListN.{get_or}
-use borrow.Author.Rules.{rules}
-use borrow.Author.Tests.{eqb-true}
+use Prim.Native.Nat.{◌+◌, ◌-◌, ◌<◌, ◌%◌}
+use mathlib.Core.Path.{◌≡◌}
 use Rattle.meaning.specs.Retrieval.{retrieve}
 use Rattle.layout.specs.Rows.{masked_in, facts_in}
+use lib.ListN.{get_or}
+use Rattle.step_retrieve.specs.Found.{Below}
 use Rattle.step_retrieve.specs.Chains.{chain_of}
-use Rattle.step_retrieve.proofs.TurnLaws.{Leads, leads-below, found_from, found-start, found-end, found-other, found-skip, found-kept, found_turn}
-use Rattle.step_retrieve.proofs.LeapLaws.{Onward, leap-to}
+use Rattle.step_retrieve.proofs.LeapLaws.{sought_from}
 use Rattle.step_retrieve.proofs.retrieve.Given as goal
 
 abbrev pub invariant-loop-k : goal.invariant-loop-k
-invariant-loop-k l =
-    Leads l.facts l.n l.best l.least × (found_from l.facts l.n l.isa (masked_in l.words l.q) l.nine l.k l.best ≡ retrieve (facts_in l.facts l.n) l.isa (masked_in l.words l.q) l.nine)
-    × (l.chained ≡ true → l.k < l.n → chain_of l.facts l.k ≡ l.first % 64)
+invariant-loop-k l = record {
+  best : Below l.best l.n;
+  same : sought_from l.facts l.n l.words l.q l.nine l.k l.best ≡ retrieve (facts_in l.facts l.n) (get_or l.words (l.q + 1) 0) (masked_in l.words l.q) l.nine;
+}
 
-abbrev pub decreases-loop-k : goal.decreases-loop-k
-decreases-loop-k l = l.n - l.k
+abbrev pub invariant-loop-next : goal.invariant-loop-next
+invariant-loop-next l = record {
+  best : Below l.best l.n;
+  same : sought_from l.facts l.n l.words l.q l.nine l.next l.best ≡ retrieve (facts_in l.facts l.n) (get_or l.words (l.q + 1) 0) (masked_in l.words l.q) l.nine;
+  chained : l.next < l.n → chain_of l.facts l.next ≡ l.first % 64;
+}
+
+abbrev pub decreases-loop-next : goal.decreases-loop-next
+decreases-loop-next l = l.n - l.next

@@ -1,9 +1,6 @@
 -- `step_run::renew` meets its contract: the sections of the tape are handed on as they stand.
-use Prim.Native.Nat.{◌≤◌}
-use borrow.Author.Rules.{rules}
 use Rattle.layout.specs.Plans.{model_on}
 use Rattle.laws.specs.PartLaws.{to_end}
-use Rattle.layout.proofs.PlanLaws.{Sections, sections}
 use Rattle.step_run.proofs.renew.Goals as goal
 
 pub returns-clause-by_index : goal.returns-clause-by_index

@@ -1,8 +1,6 @@
 -- `step_run::step_and_renew` meets its contract: a step that was made leaves what is kept as a renewal takes it.
-use Prim.Native.Nat.{ℕ, ◌+◌, ◌≤◌}
-use mathlib.Core.Path.{◌≡◌, refl, sym, ap, ◌∙◌}
+use mathlib.Core.Path.{refl, sym, ap, ◌∙◌}
 use native.Mathlib.Omega.{arith}
-use borrow.Author.Rules.{rules}
 use Rattle.std.specs.Prelude.{Result}
 use Rattle.meaning.specs.declared.reasons.Reason.{Reason}
 use Rattle.meaning.specs.Choice.{utilities}

@@ -3,7 +3,7 @@ use borrow.Author.Rules.{rules}
 use native.Mathlib.Omega.{arith}
 use mathlib.Core.Path.{refl}
 use Rattle.layout.specs.StateWords.{buffer_in}
-use Rattle.step_wait.proofs.DelayLaws.{delay-lowered, delay-none, none-arrives, arrives-if, stays-if}
+use Rattle.step_wait.proofs.DelayLaws.{delay-lowered, arrives-if, stays-if}
 use Rattle.step_wait.proofs.lower.Goals as goal
 
 pub returns-then-delay-ms : goal.returns-then-delay-ms
