@@ -1,13 +1,13 @@
 -- An opening by what was accepted.
 use Prim.Native.Nat.{ℕ}
-use mathlib.Core.Path.{◌≡◌, refl, ap, ◌∙◌}
+use mathlib.Core.Path.{◌≡◌, refl}
 use mathlib.Core.List.{List}
 use lib.ListN.{length, drop}
 use Rattle.meaning.specs.declared.State.{State}
 use Rattle.meaning.specs.Model.{Model}
 use Rattle.meaning.specs.Read.{Read, read_refused, read_got}
 use Rattle.meaning.specs.Match.{fresh_table}
-use Rattle.meaning.specs.Calls.{Opened, open_state, opened_by, open_of}
+use Rattle.meaning.specs.Calls.{Opened, opened_by, open_of}
 use Rattle.layout.specs.declared.Plan.{Plan}
 use Rattle.layout.specs.StateWords.{state_in}
 use Rattle.layout.specs.Plans.{rules_on, model_on}

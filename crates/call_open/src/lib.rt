@@ -11,8 +11,7 @@ ghost use Rattle.layout.specs.Plans.{rules_on, Planned};
 ghost use Rattle.call_open.specs.Answers.{answered, opened_in};
 
 use layout::{LARGE_TAPE, MIDDLE_TAPE, OPENING_AT, Plan, SMALL_TAPE};
-use meaning::numbers::ALL_DONE;
-use meaning::{Refusal, State};
+use meaning::{ALL_DONE, Refusal, State};
 use read_image::Begun;
 
 /// What open answers: the number, the position of the refused field if there is one, else 0, and the state.

@@ -9,8 +9,7 @@ ghost use Rattle.layout.specs.Plans.{model_on, Planned};
 ghost use Rattle.call_refresh.specs.Answers.{answered, refreshed_in};
 
 use layout::{LARGE_TAPE, MIDDLE_TAPE, Plan, SMALL_TAPE, STATE_WORDS};
-use meaning::numbers::ALL_DONE;
-use meaning::{Reason, Refusal, State};
+use meaning::{ALL_DONE, Reason, Refusal, State};
 use read_image::Begun;
 
 /// What refresh answers: the number, the position of the refused field if there is one, else 0, and how many rules test or query a marked buffer.

@@ -1,15 +1,10 @@
 -- `call_refresh::refresh_for` meets its contract: the state is judged before the mark.
 use Rattle.std.specs.Prelude.{Err}
-use Prim.Native.Nat.{ℕ, ◌≤◌, ◌+◌, ◌*◌}
-use mathlib.Core.Path.{◌≡◌, refl, sym, ap}
+use Prim.Native.Nat.{ℕ}
+use mathlib.Core.Path.{refl}
 use mathlib.Core.List.{List}
-use borrow.Author.Tests.{not-true, not-false}
-use native.Mathlib.Omega.{arith}
-use lib.ListN.{length, take}
-use lib.Seq.{length-take-le}
 use Rattle.layout.specs.Plans.{rules_on, model_on}
 use Rattle.laws.specs.PartLaws.{to_end}
-use Rattle.layout.proofs.PlanLaws.{sections}
 use Rattle.call_refresh.proofs.RefreshLaws.{refresh-ill, refresh-mark, refresh-done}
 use borrow.Author.Rules.{rules}
 use Rattle.call_refresh.proofs.refresh_for.Goals as goal
