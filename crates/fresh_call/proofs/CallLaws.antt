@@ -13,7 +13,7 @@ use Rattle.meaning.specs.Run.{ends}
 use Rattle.meaning.specs.Store.{store_fits, store_of, store_left}
 use Rattle.meaning.specs.Fresh.{moving, FreshRan, fresh_from}
 use Rattle.laws.specs.StoreLaws.{extend, Grows, fresh-grows}
-use Rattle.std.specs.Prelude.{Result, Ok, Err}
+use Rattle.std.specs.Prelude.{Result, Err}
 use Rattle.meaning.specs.declared.reasons.Refusal.{Refusal}
 use Rattle.meaning.specs.Reasons.{number_of}
 use Rattle.layout.specs.StateWords.{buffers_in, state_in}
