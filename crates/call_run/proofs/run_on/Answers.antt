@@ -1,5 +1,6 @@
 -- `call_run::run_on` meets its contract: refused with nothing done, or what is left to refuse, and the run.
-use mathlib.Core.Path.{ap, ◌∙◌}
+use mathlib.Core.Path.{sym, ap, ◌∙◌, subst}
+use Rattle.match_beds.specs.Beds.{Roomy}
 use Rattle.layout.specs.declared.Plan.{Plan}
 use Rattle.call_run.proofs.RunLaws.{run-refused, run-accepted}
 use borrow.Author.Rules.{rules}
@@ -14,7 +15,7 @@ pub run_for-requires : goal.run_for-requires
 run_for-requires c =
     let met = c.in_ok-accept.ensures in
     let is = c.plan.ensures.value in
-    (search rules, search rules, c.requires.roomy, c.requires.cleared, ap (λ (p : Plan). p.places) c.plan.ensures.in_bounds.starts, ap (λ (p : Plan). p.learns) is ∙ c.requires.learning)
+    (search rules, search rules, subst (λ (p : Plan). Roomy p.rules c.args.sets.now) (sym is) c.requires.roomy, c.requires.cleared, ap (λ (p : Plan). p.places) c.plan.ensures.in_bounds.starts, ap (λ (p : Plan). p.learns) is ∙ c.requires.learning)
 
 pub returns : goal.returns
 returns c =
