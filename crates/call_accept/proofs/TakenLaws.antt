@@ -11,19 +11,16 @@ use Rattle.meaning.specs.Model.{Model}
 use Rattle.meaning.specs.Read.{Read, read_refused, read_got}
 use Rattle.meaning.specs.Image.{decode}
 use Rattle.meaning.specs.Calls.{accepted, place_of}
-use Rattle.laws.specs.ReadLaws.{no-got}
-use Rattle.layout.specs.declared.Walk.{Walk}
-use Rattle.layout.specs.declared.Walk.TheVariants.{Next, Bad}
 use Rattle.layout.specs.declared.Plan.{Plan}
-use Rattle.layout.specs.declared.PlanRead.{PlanRead}
 use Rattle.layout.specs.Rows.{rule_in}
-use Rattle.layout.specs.Plans.{heads_on, rows_on, model_on}
+use Rattle.layout.specs.Plans.{heads_on, rows_on, model_on, Planned}
 use Rattle.layout.proofs.RowLaws.{rows-length}
-use Rattle.layout.proofs.WalkLaws.{answer-bad, answer-next}
-use Rattle.read_image.specs.Whole.{Begun, LaidOut}
-use Rattle.read_image.proofs.WholeLaws.{begun-next}
-use Rattle.call_accept.specs.declared.Taken.{Taken}
-use Rattle.call_accept.specs.declared.Taken.TheVariants as taken
+use Rattle.std.specs.Prelude.{Result, Ok, Err}
+use Rattle.meaning.specs.declared.reasons.Refusal.{Refusal}
+use Rattle.meaning.specs.declared.reasons.Reason.TheVariants.{WrongTable}
+use Rattle.meaning.specs.Reasons.{number_of}
+use Rattle.read_image.specs.Whole.{header_of}
+use Rattle.read_image.proofs.WholeLaws.{decode-refused}
 use Rattle.call_accept.specs.Acceptance.{settled, taken_by, TakenMet}
 
 -- ---- the definition, by what is decoded
@@ -43,51 +40,25 @@ module _ (image table : List ℕ) where
 
 -- ---- what is taken
 
-never : {C : Type 0} (n at : ℕ) → taken.Refused n at ≡ taken.Accepted → C
-never n at e = let z : ◌≡◌ {A = ℕ} 0 1 = cc in absurd (omega arith)
+module _ (p : Plan) (image tape : List ℕ) (lent : ℕ) where
+  -- refused, by what is decoded
+  pub taken-bad : (f : Refusal) → read_refused (number_of f.reason) f.at ≡ decode image → (r : Result (Unit {0}) Refusal) → r ≡ Err f → TakenMet r p image lent tape
+  taken-bad f e r is = rw is record { is_taken = λ table l. accepted-bad image table (number_of f.reason) f.at e; planned = tt; right_length = tt }
 
-module _ (p : Plan) (image tape : List ℕ) (w : Walk) (met : LaidOut w p image tape) (lent : ℕ) where
   rules-many : length (model_on p tape).rules ≡ p.rules
   unfolding model_on
   rules-many = rows-length (rule_in (heads_on p tape) (rows_on p tape)) 0 p.rules
 
-  pub taken-bad : (n at : ℕ) → w ≡ Bad n at → TakenMet (taken.Refused n at) p image lent tape
-  taken-bad n at e =
-      record {
-        is_taken = λ table l. accepted-bad image table n at (sym (answer-bad w (model_on p tape) n at e) ∙ met.reads);
-        planned = never n at;
-        right_length = never n at;
-      }
-
-  module _ (q : ℕ) (e : w ≡ Next q) (right : Bool) (judged : right ≡ eqb lent (9 * p.rules)) where
-    laid : read_got (model_on p tape) q ≡ decode image
-    laid = sym (answer-next w (model_on p tape) q e) ∙ met.reads
-
-    pub taken-other : right ≡ false → TakenMet (taken.Refused 5 0) p image lent tape
-    taken-other g =
+  module _ (q : ℕ) (laid : read_got (model_on p tape) q ≡ decode image) (right : Bool) (judged : right ≡ eqb lent (9 * p.rules)) where
+    pub taken-other : right ≡ false → (r : Result (Unit {0}) Refusal) → r ≡ Err (record { reason = WrongTable; at = 0 }) → TakenMet r p image lent tape
+    taken-other g r is =
         let z : lent ≡ 9 * p.rules → ⊥ = eqb-false lent (9 * p.rules) (sym judged ∙ g) in
-        record {
-          is_taken = λ table l. accepted-other image table (model_on p tape) q laid (λ g. z (omega (arith, rules-many)));
-          planned = never 5 0;
-          right_length = never 5 0;
-        }
+        rw is record { is_taken = λ table l. accepted-other image table (model_on p tape) q laid (λ g. z (omega (arith, rules-many))); planned = tt; right_length = tt }
 
-    pub taken-right : right ≡ true → TakenMet taken.Accepted p image lent tape
-    taken-right h =
+    pub taken-right : right ≡ true → Planned p tape → TakenMet (Ok tt) p image lent tape
+    taken-right h planned =
         let g : lent ≡ 9 * p.rules = eqb-true lent (9 * p.rules) (sym judged ∙ h) in
-        record {
-          is_taken = λ table l. accepted-right image table (model_on p tape) q laid (omega (arith, rules-many));
-          planned = λ x. met.planned q e;
-          right_length = λ x. g;
-        }
-
--- of an accepted image the header was read, and its plan is the one that was made for it
-pub taken_next : {C : Type 0} (b : PlanRead) (r : Taken) (image table tape : List ℕ) → Begun b image → TakenMet r b.plan image (length table) tape → r ≡ taken.Accepted
-    → ((q : ℕ) → b.walk ≡ Next q → C) → C
-taken_next b r image table tape begun met e on-next =
-    let m = model_on b.plan tape in
-    let got : read_got m 0 ≡ settled (accepted image table) = sym (ap (λ (x : Taken). taken_by x m) e) ∙ met.is_taken table refl in
-    begun-next b image begun (λ x y g. no-got x y m 0 (accepted-bad image table x y g ∙ sym got)) on-next
+        record { is_taken = λ table l. accepted-right image table (model_on p tape) q laid (omega (arith, rules-many)); planned = planned; right_length = g }
 
 -- an accepted image has no place
 pub place-settled : (a : Read Model) → place_of a ≡ place_of (settled a)
@@ -96,13 +67,10 @@ place-settled (read_got m at) = refl
 
 -- ---- a call by what is taken: f is what it gives, in which the place where an image ends plays no part
 
-module _ {B : Type 0} (f : Read Model → B) (same : (a : Read Model) → f a ≡ f (settled a))
-    (r : Taken) (p : Plan) (image table tape : List ℕ) (met : TakenMet r p image (length table) tape) where
-  by-taken : (x : Taken) → r ≡ x → f (taken_by x (model_on p tape)) ≡ f (accepted image table)
-  by-taken x e = rw (← e, met.is_taken table refl) (sym (same (accepted image table)))
+module _ {B : Type 0} (f : Read Model → B) (same : (a : Read Model) → f a ≡ f (settled a)) (image table : List ℕ) where
+  pub by-taken : (r : Result (Unit {0}) Refusal) (p : Plan) (tape : List ℕ) → TakenMet r p image (length table) tape → f (taken_by r (model_on p tape)) ≡ f (accepted image table)
+  by-taken r p tape met = ap f (met.is_taken table refl) ∙ sym (same (accepted image table))
 
-  pub by-refused : (n at : ℕ) → r ≡ taken.Refused n at → f (read_refused n at) ≡ f (accepted image table)
-  by-refused n at e = by-taken (taken.Refused n at) e
-
-  pub by-accepted : r ≡ taken.Accepted → f (read_got (model_on p tape) 0) ≡ f (accepted image table)
-  by-accepted e = by-taken taken.Accepted e
+  -- an image whose header is refused
+  pub by-header : (n at : ℕ) → read_refused n at ≡ header_of image → f (read_refused n at) ≡ f (accepted image table)
+  by-header n at e = ap f (accepted-bad image table n at (decode-refused image n at e)) ∙ sym (same (accepted image table))

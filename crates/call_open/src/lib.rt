@@ -2,18 +2,17 @@
 #![tactic(auto)]
 
 ghost use Rattle.std.specs.Prelude.{◌≡◌, ◌*◌, ◌≤◌, length, drop};
+ghost use Rattle.meaning.specs.Reasons.{number_of};
 ghost use Rattle.meaning.specs.State.{zero_state};
 ghost use Rattle.meaning.specs.Match.{fresh_table};
 ghost use Rattle.meaning.specs.Calls.{open_of};
 ghost use Rattle.layout.specs.StateWords.{state_in};
 ghost use Rattle.layout.specs.Plans.{rules_on, Planned};
-ghost use Rattle.read_image.specs.Whole.{Begun};
-ghost use Rattle.call_open.specs.Answers.{opened_in};
+ghost use Rattle.call_open.specs.Answers.{answered, opened_in};
 
-use call_accept::Taken;
-use layout::{LARGE_TAPE, MIDDLE_TAPE, OPENING_AT, Plan, PlanRead, SMALL_TAPE};
-use meaning::State;
-use meaning::numbers::ALL_DONE;
+use layout::{LARGE_TAPE, MIDDLE_TAPE, OPENING_AT, Plan, SMALL_TAPE};
+use meaning::{ALL_DONE, Refusal, State};
+use read_image::Begun;
 
 /// What open answers: the number, the position of the refused field if there is one, else 0, and the state.
 #[derive(Clone, Copy, Debug, PartialEq, Eq)]
@@ -23,15 +22,29 @@ pub struct OpenDone {
     pub state: State,
 }
 
-// A refusal: the number and the position, with the all-zero state.
-fn no_opening(number: u8, position: usize) -> OpenDone
-    ensures { result ≡ record { number = number; position = position; state = zero_state } }
+// A refusal: its number and its place, with the all-zero state.
+fn no_opening(refusal: Refusal) -> OpenDone
+    ensures { result ≡ record { number = number_of refusal.reason; position = refusal.at; state = zero_state } }
 {
     let nothing = meaning::zero_state();
     OpenDone {
-        number,
-        position,
+        number: refusal.reason.number(),
+        position: refusal.at,
         state: nothing,
+    }
+}
+
+// What open answers of an opening state or a refusal.
+fn answered(opened: Result<State, Refusal>) -> OpenDone
+    ensures { result ≡ answered opened }
+{
+    match opened {
+        Ok(state) => OpenDone {
+            number: ALL_DONE,
+            position: 0,
+            state,
+        },
+        Err(refusal) => no_opening(refusal),
     }
 }
 
@@ -47,46 +60,43 @@ fn fresh_on(table: &mut [u16], plan: Plan, tape: &[u16])
 }
 
 // Opening, with the tape to lay the image out on.
-fn open_on(image: &[u8], begun: PlanRead, table: &mut [u16], tape: &mut [u16]) -> OpenDone
-    requires { Begun begun image.now × (begun.plan.end ≤ length tape.old) }
-    ensures { opened_in result table.new ≡ open_of image.now table.old }
+fn open_on(begun: &Begun, table: &mut [u16], tape: &mut [u16]) -> Result<State, Refusal>
+    requires { begun.now.plan.end ≤ length tape.old }
+    ensures { opened_in (answered result) table.new ≡ open_of begun.now.image table.old }
 {
-    let taken = call_accept::accept(image, begun, table.len(), tape);
-    if let Taken::Refused(number, at) = taken {
-        return no_opening(number, at);
-    }
-    let plan = begun.plan;
-    fresh_on(table, plan, tape);
-    let state = layout_state::read_state(&tape[OPENING_AT..], 0);
-    OpenDone {
-        number: ALL_DONE,
-        position: 0,
-        state,
-    }
+    call_accept::accept(begun, table.len(), tape)?;
+    fresh_on(table, begun.plan(), tape);
+    Ok(layout_state::read_state(&tape[OPENING_AT..], 0))
 }
 
 // Opening on a tape of this size. It is a function of its own, and never set into its caller, so that the stack holds one tape at a time.
 #[inline(never)]
-fn open_in<const TAPE: usize>(image: &[u8], begun: PlanRead, table: &mut [u16]) -> OpenDone
-    requires begun { Begun begun image.now }
-    requires taped { (begun.plan.end ≤ TAPE) × (TAPE ≤ 58328) }
-    ensures { opened_in result table.new ≡ open_of image.now table.old }
+fn open_in<const TAPE: usize>(begun: &Begun, table: &mut [u16]) -> Result<State, Refusal>
+    requires { (begun.now.plan.end ≤ TAPE) × (TAPE ≤ 58328) }
+    ensures { opened_in (answered result) table.new ≡ open_of begun.now.image table.old }
 {
     let mut tape = [0u16; TAPE];
-    open_on(image, begun, table, &mut tape)
+    open_on(begun, table, &mut tape)
+}
+
+// Opening, on the smallest tape that has room.
+fn opened(image: &[u8], table: &mut [u16]) -> Result<State, Refusal>
+    ensures { opened_in (answered result) table.new ≡ open_of image.now table.old }
+{
+    let begun = read_image::begin(image, false)?;
+    let end = begun.plan().end;
+    if end <= SMALL_TAPE {
+        open_in::<SMALL_TAPE>(&begun, table)
+    } else if end <= MIDDLE_TAPE {
+        open_in::<MIDDLE_TAPE>(&begun, table)
+    } else {
+        open_in::<LARGE_TAPE>(&begun, table)
+    }
 }
 
 /// Opens an image: the number, the position of a refused field, and the opening state (all zero if it is refused); writes the fresh table if it is accepted.
 pub fn open(image: &[u8], table: &mut [u16]) -> OpenDone
     ensures { opened_in result table.new ≡ open_of image.now table.old }
 {
-    let begun = read_image::begin(image, false);
-    let end = begun.plan.end;
-    if end <= SMALL_TAPE {
-        open_in::<SMALL_TAPE>(image, begun, table)
-    } else if end <= MIDDLE_TAPE {
-        open_in::<MIDDLE_TAPE>(image, begun, table)
-    } else {
-        open_in::<LARGE_TAPE>(image, begun, table)
-    }
+    answered(opened(image, table))
 }

@@ -19,18 +19,17 @@ use Rattle.layout.specs.declared.Plan.{Plan}
 use Rattle.layout.specs.Plans.{model_on}
 use Rattle.layout_state.specs.Words.{well_in}
 use Rattle.layout_state.proofs.ValueLaws.{state-is, well-by}
-use Rattle.call_accept.specs.declared.Taken.{Taken}
-use Rattle.call_accept.specs.declared.Taken.TheVariants as taken
+use Rattle.std.specs.Prelude.{Result, Ok, Err}
+use Rattle.meaning.specs.declared.reasons.Refusal.{Refusal}
+use Rattle.meaning.specs.declared.reasons.Reason.TheVariants.{IllFormed, BadMark}
+use Rattle.meaning.specs.Reasons.{number_of}
+use Rattle.read_image.specs.Whole.{header_of}
 use Rattle.call_accept.specs.Acceptance.{settled, TakenMet}
-use Rattle.call_accept.proofs.TakenLaws.{by-refused, by-accepted}
-use Rattle.call_refresh.specs.declared.RefreshDone.{RefreshDone}
-use Rattle.call_refresh.specs.Answers.{refreshed_in}
+use Rattle.call_accept.proofs.TakenLaws.{by-taken, by-header}
+use Rattle.call_refresh.specs.Answers.{answered, refreshed_in}
 
 abbrev refreshed : ℕ → ℕ → List ℕ → Refreshed
 refreshed number count table = record { number = number; position = 0; count = count; table = table }
-
-abbrev none : ℕ → ℕ → RefreshDone
-none number at = record { number = number; position = at; count = 0 }
 
 -- 1 shifted by at most 8 is a power of two, within 32 bits
 pub shifted : (buffers : ℕ) → buffers ≤ 8 → 1 * 2 ^ buffers % 4294967296 ≡ 2 ^ buffers
@@ -38,20 +37,25 @@ shifted buffers few = omega (arith, pow_mono {i = buffers} {j = 8} few)
 
 -- ---- by what was accepted
 
-module _ (s : State) (mark : ℕ) (t : Taken) (p : Plan) (image table tape : List ℕ) (met : TakenMet t p image (length table) tape) where
+module _ (s : State) (mark : ℕ) (image table : List ℕ) where
   refreshed-settled : (a : Read Model) → refreshed_by s mark table a ≡ refreshed_by s mark table (settled a)
   refreshed-settled (read_refused n at) = refl
   refreshed-settled (read_got m at) = refl
 
-  -- refused: nothing is done
-  pub refresh-refused : (n at : ℕ) → t ≡ taken.Refused n at → (r : RefreshDone) → r ≡ none n at → refreshed_in r table ≡ refresh_of image s mark table
+  -- refused, by its header or later: nothing is done
+  pub refresh-header : (f : Refusal) → read_refused (number_of f.reason) f.at ≡ header_of image → (r : Result ℕ Refusal) → r ≡ Err f → refreshed_in (answered r) table ≡ refresh_of image s mark table
   unfolding refresh_of
-  refresh-refused n at e r g = rw g (by-refused (refreshed_by s mark table) refreshed-settled t p image table tape met n at e)
+  refresh-header f e r is = rw is (by-header (refreshed_by s mark table) refreshed-settled image table (number_of f.reason) f.at e)
 
-  -- accepted: what is left, for the model that was laid out
-  pub refresh-accepted : t ≡ taken.Accepted → (x : Refreshed) → x ≡ refreshed_by s mark table (read_got (model_on p tape) 0) → x ≡ refresh_of image s mark table
-  unfolding refresh_of
-  refresh-accepted e x g = g ∙ by-accepted (refreshed_by s mark table) refreshed-settled t p image table tape met e
+  module _ (p : Plan) (tape : List ℕ) where
+    pub refresh-refused : (f : Refusal) → TakenMet (Err f) p image (length table) tape → (r : Result ℕ Refusal) → r ≡ Err f → refreshed_in (answered r) table ≡ refresh_of image s mark table
+    unfolding refresh_of
+    refresh-refused f met r is = rw is (by-taken (refreshed_by s mark table) refreshed-settled image table (Err f) p tape met)
+
+    -- accepted: what is left, for the model that was laid out
+    pub refresh-accepted : (u : Unit {0}) → TakenMet (Ok u) p image (length table) tape → (x : Refreshed) → x ≡ refreshed_by s mark table (read_got (model_on p tape) 0) → x ≡ refresh_of image s mark table
+    unfolding refresh_of
+    refresh-accepted u met x g = g ∙ by-taken (refreshed_by s mark table) refreshed-settled image table (Ok u) p tape met
 
 -- ---- of a model with these buffers and types, whose state stands in the words w
 
@@ -60,11 +64,11 @@ module _ (s : State) (mark : ℕ) (table : List ℕ) (m : Model) (types : List �
   formed : (x : Bool) → well ≡ x → well_formed m s ≡ x
   formed x g = well-by m types buffers w s eb et stands well x judged g
 
-  pub refresh-ill : well ≡ false → (r : RefreshDone) → r ≡ none 6 0 → refreshed_in r table ≡ refreshed_by s mark table (read_got m 0)
+  pub refresh-ill : well ≡ false → (r : Result ℕ Refusal) → r ≡ Err (record { reason = IllFormed; at = 0 }) → refreshed_in (answered r) table ≡ refreshed_by s mark table (read_got m 0)
   refresh-ill g r e = rw (e, formed false g)
 
   module _ (ok : well ≡ true) (allowed : Bool) (allows : allowed ≡ ltb mark (2 ^ buffers)) where
-    pub refresh-mark : allowed ≡ false → (r : RefreshDone) → r ≡ none 10 0 → refreshed_in r table ≡ refreshed_by s mark table (read_got m 0)
+    pub refresh-mark : allowed ≡ false → (r : Result ℕ Refusal) → r ≡ Err (record { reason = BadMark; at = 0 }) → refreshed_in (answered r) table ≡ refreshed_by s mark table (read_got m 0)
     refresh-mark g r e =
         let l : 2 ^ m.buffers ≤ mark = rw eb (ltb-false mark (2 ^ buffers) (sym allows ∙ g)) in
         rw (e, formed true ok, le-leb (2 ^ m.buffers) mark l)

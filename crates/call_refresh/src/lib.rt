@@ -2,16 +2,15 @@
 #![tactic(auto)]
 
 ghost use Rattle.std.specs.Prelude.{◌≡◌, ◌*◌, ◌^◌, ◌≤◌, ltb, length};
+ghost use Rattle.meaning.specs.Reasons.{number_of};
 ghost use Rattle.meaning.specs.Read.{read_got};
 ghost use Rattle.meaning.specs.Calls.{refreshed_by, refresh_of};
 ghost use Rattle.layout.specs.Plans.{model_on, Planned};
-ghost use Rattle.read_image.specs.Whole.{Begun};
-ghost use Rattle.call_refresh.specs.Answers.{refreshed_in};
+ghost use Rattle.call_refresh.specs.Answers.{answered, refreshed_in};
 
-use call_accept::Taken;
-use layout::{LARGE_TAPE, MIDDLE_TAPE, Plan, PlanRead, SMALL_TAPE, STATE_WORDS};
-use meaning::State;
-use meaning::numbers::{ALL_DONE, BAD_MARK, ILL_FORMED};
+use layout::{LARGE_TAPE, MIDDLE_TAPE, Plan, SMALL_TAPE, STATE_WORDS};
+use meaning::{ALL_DONE, Reason, Refusal, State};
+use read_image::Begun;
 
 /// What refresh answers: the number, the position of the refused field if there is one, else 0, and how many rules test or query a marked buffer.
 #[derive(Clone, Copy, Debug, PartialEq, Eq)]
@@ -21,14 +20,28 @@ pub struct RefreshDone {
     pub count: u16,
 }
 
-// A refusal: the number and the position, and no rule counted.
-fn no_refresh(number: u8, position: usize) -> RefreshDone
-    ensures { result ≡ record { number = number; position = position; count = 0 } }
+// A refusal: its number and its place, and no rule counted.
+fn no_refresh(refusal: Refusal) -> RefreshDone
+    ensures { result ≡ record { number = number_of refusal.reason; position = refusal.at; count = 0 } }
 {
     RefreshDone {
-        number,
-        position,
+        number: refusal.reason.number(),
+        position: refusal.at,
         count: 0,
+    }
+}
+
+// What refresh answers of a count of rules or a refusal.
+fn answered(counted: Result<u16, Refusal>) -> RefreshDone
+    ensures { result ≡ answered counted }
+{
+    match counted {
+        Ok(count) => RefreshDone {
+            number: ALL_DONE,
+            position: 0,
+            count,
+        },
+        Err(refusal) => no_refresh(refusal),
     }
 }
 
@@ -41,78 +54,80 @@ fn mark_allowed(mark: u16, buffers: u16) -> bool
 }
 
 // What is left to refuse once the image and the table's length are accepted, and the refresh.
-fn refresh_for(table: &mut [u16], plan: Plan, tape: &[u16], state: State, mark: u16) -> RefreshDone
+fn refresh_for(
+    table: &mut [u16],
+    plan: Plan,
+    tape: &[u16],
+    state: State,
+    mark: u16,
+) -> Result<u16, Refusal>
     requires { Planned plan tape.now × (length table.old ≡ 9 * plan.rules) }
-    ensures { refreshed_in result table.new ≡ refreshed_by state mark table.old (read_got (model_on plan tape.now) 0) }
+    ensures { refreshed_in (answered result) table.new ≡ refreshed_by state mark table.old (read_got (model_on plan tape.now) 0) }
 {
     let mut now = [0u16; STATE_WORDS];
     layout_state::lay_state(state, &mut now);
     let end = plan.declared as usize + 1;
     if !layout_state::well_formed(&now, &tape[..end], plan.buffers as usize) {
-        return no_refresh(ILL_FORMED, 0);
+        return Err(Reason::IllFormed.into());
     }
     if !mark_allowed(mark, plan.buffers) {
-        return no_refresh(BAD_MARK, 0);
+        return Err(Reason::BadMark.into());
     }
     let heads = plan.heads;
     let rows = plan.rows;
     let n = plan.rules as usize;
     let count = match_table::refresh(table, &tape[heads..], &tape[rows..], n, &now, mark);
-    RefreshDone {
-        number: ALL_DONE,
-        position: 0,
-        count,
-    }
+    Ok(count)
 }
 
 // Refreshing, with the tape to lay the image out on.
 fn refresh_on(
-    image: &[u8],
-    begun: PlanRead,
+    begun: &Begun,
     state: State,
     mark: u16,
     table: &mut [u16],
     tape: &mut [u16],
-) -> RefreshDone
-    requires { Begun begun image.now × (begun.plan.end ≤ length tape.old) }
-    ensures { refreshed_in result table.new ≡ refresh_of image.now state mark table.old }
+) -> Result<u16, Refusal>
+    requires { begun.now.plan.end ≤ length tape.old }
+    ensures { refreshed_in (answered result) table.new ≡ refresh_of begun.now.image state mark table.old }
 {
-    let taken = call_accept::accept(image, begun, table.len(), tape);
-    if let Taken::Refused(number, at) = taken {
-        return no_refresh(number, at);
-    }
-    let plan = begun.plan;
-    refresh_for(table, plan, tape, state, mark)
+    call_accept::accept(begun, table.len(), tape)?;
+    refresh_for(table, begun.plan(), tape, state, mark)
 }
 
 // Refreshing on a tape of this size. It is a function of its own, and never set into its caller, so that the stack holds one tape at a time.
 #[inline(never)]
 fn refresh_in<const TAPE: usize>(
-    image: &[u8],
-    begun: PlanRead,
+    begun: &Begun,
     state: State,
     mark: u16,
     table: &mut [u16],
-) -> RefreshDone
-    requires begun { Begun begun image.now }
-    requires taped { (begun.plan.end ≤ TAPE) × (TAPE ≤ 58328) }
-    ensures { refreshed_in result table.new ≡ refresh_of image.now state mark table.old }
+) -> Result<u16, Refusal>
+    requires { (begun.now.plan.end ≤ TAPE) × (TAPE ≤ 58328) }
+    ensures { refreshed_in (answered result) table.new ≡ refresh_of begun.now.image state mark table.old }
 {
     let mut tape = [0u16; TAPE];
-    refresh_on(image, begun, state, mark, table, &mut tape)
+    refresh_on(begun, state, mark, table, &mut tape)
+}
+
+// Refreshing, on the smallest tape that has room.
+fn refreshed(image: &[u8], state: State, mark: u16, table: &mut [u16]) -> Result<u16, Refusal>
+    ensures { refreshed_in (answered result) table.new ≡ refresh_of image.now state mark table.old }
+{
+    let begun = read_image::begin(image, false)?;
+    let end = begun.plan().end;
+    if end <= SMALL_TAPE {
+        refresh_in::<SMALL_TAPE>(&begun, state, mark, table)
+    } else if end <= MIDDLE_TAPE {
+        refresh_in::<MIDDLE_TAPE>(&begun, state, mark, table)
+    } else {
+        refresh_in::<LARGE_TAPE>(&begun, state, mark, table)
+    }
 }
 
 /// Makes the entries of the rules that test or query a marked buffer afresh: the number, the position of a refused field, and how many these rules are.
 pub fn refresh(image: &[u8], state: State, mark: u16, table: &mut [u16]) -> RefreshDone
     ensures { refreshed_in result table.new ≡ refresh_of image.now state mark table.old }
 {
-    let begun = read_image::begin(image, false);
-    let end = begun.plan.end;
-    if end <= SMALL_TAPE {
-        refresh_in::<SMALL_TAPE>(image, begun, state, mark, table)
-    } else if end <= MIDDLE_TAPE {
-        refresh_in::<MIDDLE_TAPE>(image, begun, state, mark, table)
-    } else {
-        refresh_in::<LARGE_TAPE>(image, begun, state, mark, table)
-    }
+    answered(refreshed(image, state, mark, table))
 }

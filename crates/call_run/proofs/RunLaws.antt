@@ -22,14 +22,16 @@ use Rattle.running.specs.Runs.{ended_by}
 use Rattle.step_learn.specs.Knows.{Knows, Stored}
 use Rattle.step_note.specs.Events.{inscribed, Tells}
 use Rattle.step_run.specs.Went.{WentMet}
-use Rattle.call_accept.specs.declared.Taken.{Taken}
-use Rattle.call_accept.specs.declared.Taken.TheVariants as taken
+use Rattle.std.specs.Prelude.{Result, Ok, Err}
+use Rattle.meaning.specs.declared.reasons.Refusal.{Refusal}
+use Rattle.meaning.specs.Reasons.{number_of}
+use Rattle.read_image.specs.Whole.{header_of}
 use Rattle.call_accept.specs.Acceptance.{settled, TakenMet}
-use Rattle.call_accept.proofs.TakenLaws.{place-settled, by-refused, by-accepted}
+use Rattle.call_accept.proofs.TakenLaws.{place-settled, by-taken, by-header}
 use Rattle.call_store.specs.Lending.{lent_if}
 use Rattle.call_store.proofs.AdmitLaws.{Unfit, ill, misfit}
 use Rattle.call_run.specs.declared.RunDone.{RunDone}
-use Rattle.call_run.specs.Answers.{RunMet, with_store, ran_into}
+use Rattle.call_run.specs.Answers.{RunMet, answered, with_store, ran_into}
 
 abbrev done : ℕ → ℕ → State → ℕ → RunDone
 done number at s made = record { number = number; position = at; state = s; made = made }
@@ -41,24 +43,32 @@ nothing-done n at s table noted store = record { is_run = refl; events = refl }
 
 -- ---- by what was accepted
 
-module _ (s : State) (steps : ℕ) (lent : Bool) (store : List ℕ) (t : Taken) (p : Plan) (image table tape : List ℕ) (met : TakenMet t p image (length table) tape) where
+module _ (s : State) (steps : ℕ) (lent : Bool) (store image table noted : List ℕ) where
   ran_settled : (a : Read Model) → traced_by s table (lent_if lent store) steps a ≡ traced_by s table (lent_if lent store) steps (settled a)
   ran_settled (read_refused n at) = refl
   ran_settled (read_got m at) = refl
 
-  -- refused: nothing is done, and no event is noted
-  pub run-refused : (n at : ℕ) → t ≡ taken.Refused n at → (r : RunDone) → r ≡ done n at s 0 → (noted : List ℕ)
-      → RunMet r (accepted image table) s table table steps noted noted lent store store
-  run-refused n at e r g noted =
-      rw (g, ← by-refused place_of place-settled t p image table tape met n at e, ← by-refused (traced_by s table (lent_if lent store) steps) ran_settled t p image table tape met n at e)
-      (nothing-done n at s table noted store)
+  -- refused, by its header or later: nothing is done, and no event is noted
+  pub run-header : (f : Refusal) → read_refused (number_of f.reason) f.at ≡ header_of image → (r : Result RunDone Refusal) → r ≡ Err f
+      → RunMet (answered s r) (accepted image table) s table table steps noted noted lent store store
+  run-header f e r is =
+      let n = number_of f.reason in
+      rw (is, ← by-header place_of place-settled image table n f.at e, ← by-header (traced_by s table (lent_if lent store) steps) ran_settled image table n f.at e)
+      (nothing-done n f.at s table noted store)
 
-  -- accepted: what is left, for the model that was laid out
-  pub run-accepted : t ≡ taken.Accepted → (r : RunDone) (table' noted noted' store' : List ℕ)
-      → RunMet r (read_got (model_on p tape) 0) s table table' steps noted noted' lent store store'
-      → RunMet r (accepted image table) s table table' steps noted noted' lent store store'
-  run-accepted e r table' noted noted' store' g =
-      rw (by-accepted place_of place-settled t p image table tape met e, by-accepted (traced_by s table (lent_if lent store) steps) ran_settled t p image table tape met e) at g
+  module _ (p : Plan) (tape : List ℕ) where
+    pub run-refused : (f : Refusal) → TakenMet (Err f) p image (length table) tape → (r : Result RunDone Refusal) → r ≡ Err f
+        → RunMet (answered s r) (accepted image table) s table table steps noted noted lent store store
+    run-refused f met r is =
+        rw (is, ← by-taken place_of place-settled image table (Err f) p tape met, ← by-taken (traced_by s table (lent_if lent store) steps) ran_settled image table (Err f) p tape met)
+        (nothing-done (number_of f.reason) f.at s table noted store)
+
+    -- accepted: what is left, for the model that was laid out
+    pub run-accepted : (u : Unit {0}) → TakenMet (Ok u) p image (length table) tape → (r : RunDone) (table' noted' store' : List ℕ)
+        → RunMet r (read_got (model_on p tape) 0) s table table' steps noted noted' lent store store'
+        → RunMet r (accepted image table) s table table' steps noted noted' lent store store'
+    run-accepted u met r table' noted' store' g =
+        rw (by-taken place_of place-settled image table (Ok u) p tape met, by-taken (traced_by s table (lent_if lent store) steps) ran_settled image table (Ok u) p tape met) at g
 
 -- what is met where as much is lent
 pub lent_same : (r : RunDone) (a : Read Model) (s : State) (table table' : List ℕ) (steps : ℕ) (noted noted' store store' : List ℕ) (lent lent' : Bool) → lent ≡ lent'

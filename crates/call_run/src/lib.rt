@@ -8,18 +8,18 @@ ghost use Rattle.meaning.specs.Model.{Model, Chunk};
 ghost use Rattle.meaning.specs.Calls.{accepted, trace_lent, run_lent, trace_of, run_of};
 ghost use Rattle.meaning.specs.Store.{lent_by};
 ghost use Rattle.layout.specs.Plans.{places_for, model_on, Planned};
-ghost use Rattle.read_image.specs.Whole.{Begun, Learning};
+ghost use Rattle.meaning.specs.Reasons.{number_of};
 ghost use Rattle.match_beds.specs.Beds.{Roomy, Cleared};
 ghost use Rattle.step_note.specs.Events.{inscribed};
 ghost use Rattle.step_learn.specs.Knows.{Knows};
 ghost use Rattle.step_run.specs.Went.{WentMet};
 ghost use Rattle.call_run.specs.Answers.{RunMet, answered, ran_back, with_store};
 
-use call_accept::Taken;
 use call_store::Asked;
-use layout::{LARGE_TAPE, MIDDLE_TAPE, Plan, PlanRead, SMALL_TAPE, STATE_WORDS, STORE_TAPE};
+use layout::{LARGE_TAPE, MIDDLE_TAPE, Plan, SMALL_TAPE, STATE_WORDS, STORE_TAPE};
 use match_beds::{LARGE_SETS, SMALL_SETS};
 use meaning::{Refusal, State};
+use read_image::Begun;
 use step_run::Went;
 
 /// What run answers: the number, the position of the refused field if there is one, else 0, the state, and the steps made.
@@ -31,15 +31,25 @@ pub struct RunDone {
     pub made: u16,
 }
 
-// A refusal: the number and the position, the state as it was handed in, and no step made.
-fn no_run(number: u8, position: usize, state: State) -> RunDone
-    ensures { result ≡ record { number = number; position = position; state = state; made = 0 } }
+// A refusal: its number and its place, the state as it was handed in, and no step made.
+fn no_run(refusal: Refusal, state: State) -> RunDone
+    ensures { result ≡ record { number = number_of refusal.reason; position = refusal.at; state = state; made = 0 } }
 {
     RunDone {
-        number,
-        position,
+        number: refusal.reason.number(),
+        position: refusal.at,
         state,
         made: 0,
+    }
+}
+
+// What run answers of a run that was made or of a refusal.
+fn answered(ran: Result<RunDone, Refusal>, state: State) -> RunDone
+    ensures { result ≡ answered state ran }
+{
+    match ran {
+        Ok(done) => done,
+        Err(refusal) => no_run(refusal, state),
     }
 }
 
@@ -70,16 +80,6 @@ fn set_out(
         plan.rules as usize,
     );
     step_run::advance(state, clock, table, plan, tape, steps, events, sets)
-}
-
-// A run that was made, or a refusal as the answer of one: the state as it was handed in, and no step made.
-fn answered(ran: Result<RunDone, Refusal>, state: State) -> RunDone
-    ensures { result ≡ answered state ran }
-{
-    match ran {
-        Ok(done) => done,
-        Err(refusal) => no_run(refusal.reason.number(), refusal.at, state),
-    }
 }
 
 // What is left to refuse once the image and the table's length are accepted, and the run.
@@ -122,57 +122,67 @@ fn run_for(
 
 // Running, with the tape to lay the image out on and the sets to keep its rules in.
 fn run_on(
-    image: &[u8],
-    begun: PlanRead,
+    begun: &Begun,
     asked: Asked,
     table: &mut [u16],
     events: &mut [u32],
     store: &mut [u16],
     tape: &mut [u16],
     sets: &mut [u64],
-) -> RunDone
-    requires begun { Begun begun image.now }
-    requires learning { Learning begun asked.lent }
-    requires taped { begun.plan.end ≤ length tape.old }
-    requires roomy { Roomy begun.plan.rules sets.old }
+) -> Result<RunDone, Refusal>
+    requires learning { begun.now.plan.learns ≡ asked.lent }
+    requires taped { begun.now.plan.end ≤ length tape.old }
+    requires roomy { Roomy begun.now.plan.rules sets.old }
     requires cleared { Cleared sets.old }
-    ensures { RunMet result (accepted image.now table.old) asked.state table.old table.new asked.steps events.old events.new
+    ensures { RunMet (answered asked.state result) (accepted begun.now.image table.old) asked.state table.old table.new asked.steps events.old events.new
         asked.lent store.old store.new }
 {
-    let taken = call_accept::accept(image, begun, table.len(), tape);
-    let state = asked.state;
-    if let Taken::Refused(number, at) = taken {
-        return no_run(number, at, state);
-    }
-    let plan = begun.plan;
-    answered(
-        run_for(table, plan, tape, asked, events, sets, store),
-        state,
-    )
+    call_accept::accept(begun, table.len(), tape)?;
+    run_for(table, begun.plan(), tape, asked, events, sets, store)
 }
 
 // Running on a tape and with sets of these sizes. It is a function of its own, and never set into its caller, so that the stack holds one tape at a time.
 #[inline(never)]
 fn run_in<const TAPE: usize, const SETS: usize>(
-    image: &[u8],
-    begun: PlanRead,
+    begun: &Begun,
     asked: Asked,
     table: &mut [u16],
     events: &mut [u32],
     store: &mut [u16],
-) -> RunDone
-    requires begun { Begun begun image.now }
-    requires learning { Learning begun asked.lent }
-    requires taped { (begun.plan.end ≤ TAPE) × (TAPE ≤ 58328) }
-    requires roomy { Roomy begun.plan.rules (replicate SETS 0) × (SETS ≤ 1076) }
-    ensures { RunMet result (accepted image.now table.old) asked.state table.old table.new asked.steps events.old events.new
+) -> Result<RunDone, Refusal>
+    requires learning { begun.now.plan.learns ≡ asked.lent }
+    requires taped { (begun.now.plan.end ≤ TAPE) × (TAPE ≤ 58328) }
+    requires roomy { Roomy begun.now.plan.rules (replicate SETS 0) × (SETS ≤ 1076) }
+    ensures { RunMet (answered asked.state result) (accepted begun.now.image table.old) asked.state table.old table.new asked.steps events.old events.new
         asked.lent store.old store.new }
 {
     let mut tape = [0u16; TAPE];
     let mut sets = [0u64; SETS];
-    run_on(
-        image, begun, asked, table, events, store, &mut tape, &mut sets,
-    )
+    run_on(begun, asked, table, events, store, &mut tape, &mut sets)
+}
+
+// Running, on the smallest tape and with the fewest sets that have room.
+fn ran(
+    image: &[u8],
+    asked: Asked,
+    table: &mut [u16],
+    events: &mut [u32],
+    store: &mut [u16],
+) -> Result<RunDone, Refusal>
+    ensures { RunMet (answered asked.state result) (accepted image.now table.old) asked.state table.old table.new asked.steps events.old events.new
+        asked.lent store.old store.new }
+{
+    let begun = read_image::begin(image, asked.lent)?;
+    let end = begun.plan().end;
+    if end <= SMALL_TAPE {
+        run_in::<SMALL_TAPE, SMALL_SETS>(&begun, asked, table, events, store)
+    } else if end <= STORE_TAPE {
+        run_in::<STORE_TAPE, SMALL_SETS>(&begun, asked, table, events, store)
+    } else if end <= MIDDLE_TAPE {
+        run_in::<MIDDLE_TAPE, LARGE_SETS>(&begun, asked, table, events, store)
+    } else {
+        run_in::<LARGE_TAPE, LARGE_SETS>(&begun, asked, table, events, store)
+    }
 }
 
 /// Runs at most `steps` steps from a state, with what `lent` says is lent (1: a store): the number, the position of a refused field, the state and the steps made.
@@ -192,22 +202,12 @@ pub fn run_lent(
         × (events.new ≡ inscribed events.old 0 (trace_lent image.now state table.old steps (lent_by lent store.old)).events) }
 {
     let learns = lent % 2 == 1;
-    let begun = read_image::begin(image, learns);
     let asked = Asked {
         state,
         steps,
         lent: learns,
     };
-    let end = begun.plan.end;
-    if end <= SMALL_TAPE {
-        run_in::<SMALL_TAPE, SMALL_SETS>(image, begun, asked, table, events, store)
-    } else if end <= STORE_TAPE {
-        run_in::<STORE_TAPE, SMALL_SETS>(image, begun, asked, table, events, store)
-    } else if end <= MIDDLE_TAPE {
-        run_in::<MIDDLE_TAPE, LARGE_SETS>(image, begun, asked, table, events, store)
-    } else {
-        run_in::<LARGE_TAPE, LARGE_SETS>(image, begun, asked, table, events, store)
-    }
+    answered(ran(image, asked, table, events, store), state)
 }
 
 /// Runs with nothing lent, and notes each step as `run_lent` does.

@@ -13,14 +13,11 @@ use Rattle.meaning.specs.Run.{ends}
 use Rattle.meaning.specs.Store.{store_fits, store_of, store_left}
 use Rattle.meaning.specs.Fresh.{moving, FreshRan, fresh_from}
 use Rattle.laws.specs.StoreLaws.{extend, Grows, fresh-grows}
-use Rattle.layout.specs.declared.Walk.{Walk}
-use Rattle.layout.specs.declared.Walk.TheVariants.{Next, Bad}
-use Rattle.layout.specs.declared.Plan.{Plan}
-use Rattle.layout.specs.Plans.{model_on}
+use Rattle.std.specs.Prelude.{Result, Err}
+use Rattle.meaning.specs.declared.reasons.Refusal.{Refusal}
+use Rattle.meaning.specs.Reasons.{number_of}
 use Rattle.layout.specs.StateWords.{buffers_in, state_in}
-use Rattle.layout.proofs.WalkLaws.{answer-bad, answer-next}
 use Rattle.layout_state.proofs.ValueLaws.{state-is}
-use Rattle.read_image.specs.Whole.{LaidOut}
 use Rattle.step_learn.specs.Knows.{Knows, Stored}
 use Rattle.step_note.specs.Events.{inscribed, Tells}
 use Rattle.running.specs.declared.Went.{Went}
@@ -29,7 +26,7 @@ use Rattle.fresh_run.specs.Went.{WentMet}
 use Rattle.call_store.specs.Lending.{lent_if}
 use Rattle.call_store.proofs.AdmitLaws.{Unfit, ill, misfit}
 use Rattle.fresh_call.specs.declared.FreshDone.{FreshDone}
-use Rattle.fresh_call.specs.Answers.{FreshMet, with_store, fresh_into}
+use Rattle.fresh_call.specs.Answers.{FreshMet, answered, with_store, fresh_into}
 
 abbrev done : ℕ → ℕ → State → ℕ → FreshDone
 done number at s made = record { number = number; position = at; state = s; made = made }
@@ -41,19 +38,16 @@ nothing-done n at s noted store = record { is_run = refl; events = refl }
 
 -- ---- by how the image was laid out
 
-module _ (s : State) (steps : ℕ) (lent : Bool) (store : List ℕ) (w : Walk) (p : Plan) (image tape : List ℕ) (met : LaidOut w p image tape) where
+module _ (s : State) (steps : ℕ) (lent : Bool) (store image noted : List ℕ) where
   -- refused: nothing is done, and no event is noted
-  pub fresh-refused : (n at : ℕ) → w ≡ Bad n at → (r : FreshDone) → r ≡ done n at s 0 → (noted : List ℕ) → FreshMet r (decode image) s steps noted noted lent store store
-  fresh-refused n at e r g noted =
-      let reads : read_refused n at ≡ decode image = sym (answer-bad w (model_on p tape) n at e) ∙ met.reads in
-      rw (g, ← reads) (nothing-done n at s noted store)
+  pub fresh-refused : (f : Refusal) → read_refused (number_of f.reason) f.at ≡ decode image → (r : Result FreshDone Refusal) → r ≡ Err f
+      → FreshMet (answered s r) (decode image) s steps noted noted lent store store
+  fresh-refused f reads r is = rw (is, ← reads) (nothing-done (number_of f.reason) f.at s noted store)
 
   -- accepted: what is left, for the model that was laid out
-  pub fresh-accepted : (q : ℕ) → w ≡ Next q → (r : FreshDone) (noted noted' store' : List ℕ)
-      → FreshMet r (read_got (model_on p tape) 0) s steps noted noted' lent store store' → FreshMet r (decode image) s steps noted noted' lent store store'
-  fresh-accepted q e r noted noted' store' g =
-      let reads : read_got (model_on p tape) q ≡ decode image = sym (answer-next w (model_on p tape) q e) ∙ met.reads in
-      rw (← reads) g
+  pub fresh-accepted : (m : Model) (q : ℕ) → read_got m q ≡ decode image → (r : FreshDone) (noted' store' : List ℕ)
+      → FreshMet r (read_got m 0) s steps noted noted' lent store store' → FreshMet r (decode image) s steps noted noted' lent store store'
+  fresh-accepted m q reads r noted' store' g = rw (← reads) g
 
 -- what is met where as much is lent
 pub lent_same : (r : FreshDone) (a : Read Model) (s : State) (steps : ℕ) (noted noted' store store' : List ℕ) (lent lent' : Bool) → lent ≡ lent'

@@ -9,7 +9,7 @@ ghost use Rattle.meaning.specs.Model.{Model, Chunk};
 ghost use Rattle.meaning.specs.Store.{lent_by};
 ghost use Rattle.meaning.specs.Fresh.{fresh_trace_lent, fresh_lent, fresh_trace_of, fresh_of};
 ghost use Rattle.layout.specs.Plans.{places_for, model_on, Planned};
-ghost use Rattle.read_image.specs.Whole.{Begun, Learning};
+ghost use Rattle.meaning.specs.Reasons.{number_of};
 ghost use Rattle.step_note.specs.Events.{inscribed};
 ghost use Rattle.step_learn.specs.Knows.{Knows};
 ghost use Rattle.fresh_run.specs.Went.{WentMet};
@@ -17,8 +17,9 @@ ghost use Rattle.fresh_call.specs.Answers.{FreshMet, answered, fresh_back, with_
 
 use call_store::Asked;
 use fresh_run::Went;
-use layout::{LARGE_TAPE, MIDDLE_TAPE, Plan, PlanRead, SMALL_TAPE, STATE_WORDS, STORE_TAPE, Walk};
+use layout::{LARGE_TAPE, MIDDLE_TAPE, Plan, SMALL_TAPE, STATE_WORDS, STORE_TAPE};
 use meaning::{Refusal, State};
+use read_image::Begun;
 
 /// What a run with nothing kept answers: the number, the position of the refused field if there is one, else 0, the state, and the steps made.
 #[derive(Clone, Copy, Debug, PartialEq, Eq)]
@@ -29,15 +30,25 @@ pub struct FreshDone {
     pub made: u16,
 }
 
-// A refusal: the number and the position, the state as it was handed in, and no step made.
-fn no_run(number: u8, position: usize, state: State) -> FreshDone
-    ensures { result ≡ record { number = number; position = position; state = state; made = 0 } }
+// A refusal: its number and its place, the state as it was handed in, and no step made.
+fn no_run(refusal: Refusal, state: State) -> FreshDone
+    ensures { result ≡ record { number = number_of refusal.reason; position = refusal.at; state = state; made = 0 } }
 {
     FreshDone {
-        number,
-        position,
+        number: refusal.reason.number(),
+        position: refusal.at,
         state,
         made: 0,
+    }
+}
+
+// What a run answers that was made, or that was refused.
+fn answered(ran: Result<FreshDone, Refusal>, state: State) -> FreshDone
+    ensures { result ≡ answered state ran }
+{
+    match ran {
+        Ok(done) => done,
+        Err(refusal) => no_run(refusal, state),
     }
 }
 
@@ -57,16 +68,6 @@ fn set_out(
 {
     step_chains::lay_chains(plan, tape);
     fresh_run::advance(state, clock, plan, tape, steps, events)
-}
-
-// A run that was made, or a refusal as the answer of one: the state as it was handed in, and no step made.
-fn answered(ran: Result<FreshDone, Refusal>, state: State) -> FreshDone
-    ensures { result ≡ answered state ran }
-{
-    match ran {
-        Ok(done) => done,
-        Err(refusal) => no_run(refusal.reason.number(), refusal.at, state),
-    }
 }
 
 // What is left to refuse once the image is accepted, and the run.
@@ -96,43 +97,56 @@ fn run_for(
 
 // Running, with the tape to lay the image out on.
 fn run_on(
-    image: &[u8],
-    begun: PlanRead,
+    begun: &Begun,
     asked: Asked,
     events: &mut [u32],
     store: &mut [u16],
     tape: &mut [u16],
-) -> FreshDone
-    requires begun { Begun begun image.now }
-    requires learning { Learning begun asked.lent }
-    requires taped { begun.plan.end ≤ length tape.old }
-    ensures { FreshMet result (decode image.now) asked.state asked.steps events.old events.new asked.lent store.old store.new }
+) -> Result<FreshDone, Refusal>
+    requires learning { begun.now.plan.learns ≡ asked.lent }
+    requires taped { begun.now.plan.end ≤ length tape.old }
+    ensures { FreshMet (answered asked.state result) (decode begun.now.image) asked.state asked.steps events.old events.new asked.lent store.old store.new }
 {
-    let walk = read_image::lay_out(image, begun, tape);
-    let state = asked.state;
-    if let Walk::Bad(number, at) = walk {
-        return no_run(number, at, state);
-    }
-    let plan = begun.plan;
-    answered(run_for(plan, tape, asked, events, store), state)
+    read_image::lay_out(begun, tape)?;
+    run_for(begun.plan(), tape, asked, events, store)
 }
 
 // Running on a tape of this size. It is a function of its own, and never set into its caller, so that the stack holds one tape at a time.
 #[inline(never)]
 fn run_in<const TAPE: usize>(
-    image: &[u8],
-    begun: PlanRead,
+    begun: &Begun,
     asked: Asked,
     events: &mut [u32],
     store: &mut [u16],
-) -> FreshDone
-    requires begun { Begun begun image.now }
-    requires learning { Learning begun asked.lent }
-    requires taped { (begun.plan.end ≤ TAPE) × (TAPE ≤ 58328) }
-    ensures { FreshMet result (decode image.now) asked.state asked.steps events.old events.new asked.lent store.old store.new }
+) -> Result<FreshDone, Refusal>
+    requires learning { begun.now.plan.learns ≡ asked.lent }
+    requires taped { (begun.now.plan.end ≤ TAPE) × (TAPE ≤ 58328) }
+    ensures { FreshMet (answered asked.state result) (decode begun.now.image) asked.state asked.steps events.old events.new asked.lent store.old store.new }
 {
     let mut tape = [0u16; TAPE];
-    run_on(image, begun, asked, events, store, &mut tape)
+    run_on(begun, asked, events, store, &mut tape)
+}
+
+// Running, on the smallest tape that has room.
+fn ran(
+    image: &[u8],
+    asked: Asked,
+    events: &mut [u32],
+    store: &mut [u16],
+) -> Result<FreshDone, Refusal>
+    ensures { FreshMet (answered asked.state result) (decode image.now) asked.state asked.steps events.old events.new asked.lent store.old store.new }
+{
+    let begun = read_image::begin(image, asked.lent)?;
+    let end = begun.plan().end;
+    if end <= SMALL_TAPE {
+        run_in::<SMALL_TAPE>(&begun, asked, events, store)
+    } else if end <= STORE_TAPE {
+        run_in::<STORE_TAPE>(&begun, asked, events, store)
+    } else if end <= MIDDLE_TAPE {
+        run_in::<MIDDLE_TAPE>(&begun, asked, events, store)
+    } else {
+        run_in::<LARGE_TAPE>(&begun, asked, events, store)
+    }
 }
 
 /// Runs at most `steps` steps from a state with nothing kept, and with what `lent` says is lent (1: a store): the number, the position of a refused field, the state and the steps made.
@@ -151,22 +165,12 @@ pub fn fresh_lent(
         × (events.new ≡ inscribed events.old 0 (fresh_trace_lent image.now state steps (lent_by lent store.old)).events) }
 {
     let learns = lent % 2 == 1;
-    let begun = read_image::begin(image, learns);
     let asked = Asked {
         state,
         steps,
         lent: learns,
     };
-    let end = begun.plan.end;
-    if end <= SMALL_TAPE {
-        run_in::<SMALL_TAPE>(image, begun, asked, events, store)
-    } else if end <= STORE_TAPE {
-        run_in::<STORE_TAPE>(image, begun, asked, events, store)
-    } else if end <= MIDDLE_TAPE {
-        run_in::<MIDDLE_TAPE>(image, begun, asked, events, store)
-    } else {
-        run_in::<LARGE_TAPE>(image, begun, asked, events, store)
-    }
+    answered(ran(image, asked, events, store), state)
 }
 
 /// Runs with nothing lent, and notes each step as `fresh_lent` does.

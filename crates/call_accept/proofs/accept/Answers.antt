@@ -1,22 +1,19 @@
 -- `call_accept::accept` meets its contract: the image first, then the table's length.
 use Rattle.call_accept.proofs.TakenLaws.{taken-bad, taken-other, taken-right}
-use borrow.Author.Tests.{not-true, not-false}
 use borrow.Author.Rules.{rules}
 use Rattle.call_accept.proofs.accept.Goals as goal
 
-pub returns-in-Bad : goal.returns-in-Bad
-returns-in-Bad c =
-    let a = c.args in
-    taken-bad a.begun.plan a.image.now c.lay_out-walk.new.tape c.lay_out-walk.result c.lay_out-walk.ensures a.lent _ _ c.in-Bad.is
+pub returns-in_err-lay_out : goal.returns-in_err-lay_out
+returns-in_err-lay_out c =
+    let b = c.args.begun.now in
+    taken-bad b.plan b.image _ c.args.lent _ c.in_err-lay_out.ensures.reads _ (search rules)
 
 pub returns-then-not-right_length : goal.returns-then-not-right_length
 returns-then-not-right_length c =
-    let a = c.args in
-    taken-other a.begun.plan a.image.now c.lay_out-walk.new.tape c.lay_out-walk.result c.lay_out-walk.ensures a.lent _ c.in_default.is
-    c.right_length.result c.right_length.ensures (c.if-not-right_length.true)
+    let b = c.args.begun.now in
+    taken-other b.plan b.image _ c.args.lent _ c.in_ok-lay_out.ensures.reads c.right_length.result (search rules) c.if-not-right_length.true _ (search rules)
 
 pub returns : goal.returns
 returns c =
-    let a = c.args in
-    taken-right a.begun.plan a.image.now c.lay_out-walk.new.tape c.lay_out-walk.result c.lay_out-walk.ensures a.lent _ c.in_default.is
-    c.right_length.result c.right_length.ensures (c.if-not-right_length.false)
+    let b = c.args.begun.now in
+    taken-right b.plan b.image _ c.args.lent _ c.in_ok-lay_out.ensures.reads c.right_length.result (search rules) c.if-not-right_length.false c.in_ok-lay_out.ensures.planned

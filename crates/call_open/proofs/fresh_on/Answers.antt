@@ -1,10 +1,5 @@
 -- `call_open::fresh_on` meets its contract: heads, rows and opening state are handed on from their sections of the tape.
-use Prim.Native.Nat.{ℕ, ◌≤◌, ◌*◌}
-use native.Mathlib.Omega.{arith}
-use lib.ListN.{length, drop, length-drop}
 use Rattle.laws.specs.PartLaws.{to_end}
-use Rattle.layout.proofs.PlanLaws.{sections}
-use borrow.Author.Rules.{rules}
 use Rattle.call_open.proofs.fresh_on.Goals as goal
 
 pub returns : goal.returns

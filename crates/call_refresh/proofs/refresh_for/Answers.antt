@@ -1,14 +1,10 @@
 -- `call_refresh::refresh_for` meets its contract: the state is judged before the mark.
-use Prim.Native.Nat.{ℕ, ◌≤◌, ◌+◌, ◌*◌}
-use mathlib.Core.Path.{◌≡◌, refl, sym, ap}
+use Rattle.std.specs.Prelude.{Err}
+use Prim.Native.Nat.{ℕ}
+use mathlib.Core.Path.{refl}
 use mathlib.Core.List.{List}
-use borrow.Author.Tests.{not-true, not-false}
-use native.Mathlib.Omega.{arith}
-use lib.ListN.{length, take}
-use lib.Seq.{length-take-le}
 use Rattle.layout.specs.Plans.{rules_on, model_on}
 use Rattle.laws.specs.PartLaws.{to_end}
-use Rattle.layout.proofs.PlanLaws.{sections}
 use Rattle.call_refresh.proofs.RefreshLaws.{refresh-ill, refresh-mark, refresh-done}
 use borrow.Author.Rules.{rules}
 use Rattle.call_refresh.proofs.refresh_for.Goals as goal
@@ -23,7 +19,7 @@ returns-then-not-well_formed c =
     let a = c.args in
     refresh-ill a.state a.mark a.table.now (model_on a.plan a.tape.now) _ a.plan.buffers (words (goal.at.returns-then-not-well_formed c).After-lay_state) c.well_formed-2.result c.well_formed-2.ensures
     c.lay_state.ensures.words_after refl refl
-    (c.if-not-well_formed.true) c.no_refresh.result c.no_refresh.ensures
+    (c.if-not-well_formed.true) (Err c.into.result) (search rules)
 
 pub returns-then-not-mark_allowed : goal.returns-then-not-mark_allowed
 unfolding model_on
@@ -31,7 +27,7 @@ returns-then-not-mark_allowed c =
     let a = c.args in
     refresh-mark a.state a.mark a.table.now (model_on a.plan a.tape.now) _ a.plan.buffers (words (goal.at.returns-then-not-mark_allowed c).After-lay_state) c.well_formed-2.result
     c.well_formed-2.ensures c.lay_state.ensures.words_after refl refl
-    (c.if-not-well_formed.false) c.mark_allowed.result c.mark_allowed.ensures (c.if-not-mark_allowed.true) c.no_refresh-then-not-mark_allowed.result c.no_refresh-then-not-mark_allowed.ensures
+    (c.if-not-well_formed.false) c.mark_allowed.result c.mark_allowed.ensures (c.if-not-mark_allowed.true) (Err c.into-then-not-mark_allowed.result) (search rules)
 
 pub returns : goal.returns
 unfolding model_on
