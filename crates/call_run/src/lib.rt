@@ -82,20 +82,22 @@ fn set_out(
     step_run::advance(state, clock, table, plan, tape, steps, events, sets)
 }
 
-// What is left to refuse once the image and the table's length are accepted, and the run.
+// What is left to refuse once the image and the table's length are accepted, and the run. It is never set into its caller, so that the stack holds what it needs
+// only once the image is laid out.
+#[inline(never)]
 fn run_for(
     table: &mut [u16],
     plan: Plan,
     tape: &mut [u16],
-    asked: Asked,
+    asked: &Asked,
     events: &mut [u32],
     sets: &mut [u64],
     store: &mut [u16],
 ) -> Result<RunDone, Refusal>
     requires { Planned plan tape.old × (length table.old ≡ 9 * plan.rules) × Roomy plan.rules sets.old × Cleared sets.old
-        × (plan.places ≡ places_for plan.facts plan.learns) × (plan.learns ≡ asked.lent) }
-    ensures { RunMet (answered asked.state result) (read_got (model_on plan tape.old) 0) asked.state table.old table.new asked.steps events.old events.new
-        asked.lent store.old store.new }
+        × (plan.places ≡ places_for plan.facts plan.learns) × (plan.learns ≡ asked.now.lent) }
+    ensures { RunMet (answered asked.now.state result) (read_got (model_on plan tape.old) 0) asked.now.state table.old table.new asked.now.steps events.old events.new
+        asked.now.lent store.old store.new }
 {
     let state = asked.state;
     let mut now = [0u16; STATE_WORDS];
@@ -123,19 +125,19 @@ fn run_for(
 // Running, with the tape to lay the image out on and the sets to keep its rules in.
 fn run_on(
     begun: &Begun,
-    asked: Asked,
+    asked: &Asked,
     table: &mut [u16],
     events: &mut [u32],
     store: &mut [u16],
     tape: &mut [u16],
     sets: &mut [u64],
 ) -> Result<RunDone, Refusal>
-    requires learning { begun.now.plan.learns ≡ asked.lent }
+    requires learning { begun.now.plan.learns ≡ asked.now.lent }
     requires taped { begun.now.plan.end ≤ length tape.old }
     requires roomy { Roomy begun.now.plan.rules sets.old }
     requires cleared { Cleared sets.old }
-    ensures { RunMet (answered asked.state result) (accepted begun.now.image table.old) asked.state table.old table.new asked.steps events.old events.new
-        asked.lent store.old store.new }
+    ensures { RunMet (answered asked.now.state result) (accepted begun.now.image table.old) asked.now.state table.old table.new asked.now.steps events.old events.new
+        asked.now.lent store.old store.new }
 {
     call_accept::accept(begun, table.len(), tape)?;
     run_for(table, begun.plan(), tape, asked, events, sets, store)
@@ -145,16 +147,16 @@ fn run_on(
 #[inline(never)]
 fn run_in<const TAPE: usize, const SETS: usize>(
     begun: &Begun,
-    asked: Asked,
+    asked: &Asked,
     table: &mut [u16],
     events: &mut [u32],
     store: &mut [u16],
 ) -> Result<RunDone, Refusal>
-    requires learning { begun.now.plan.learns ≡ asked.lent }
+    requires learning { begun.now.plan.learns ≡ asked.now.lent }
     requires taped { (begun.now.plan.end ≤ TAPE) × (TAPE ≤ 58328) }
     requires roomy { Roomy begun.now.plan.rules (replicate SETS 0) × (SETS ≤ 1076) }
-    ensures { RunMet (answered asked.state result) (accepted begun.now.image table.old) asked.state table.old table.new asked.steps events.old events.new
-        asked.lent store.old store.new }
+    ensures { RunMet (answered asked.now.state result) (accepted begun.now.image table.old) asked.now.state table.old table.new asked.now.steps events.old events.new
+        asked.now.lent store.old store.new }
 {
     let mut tape = [0u16; TAPE];
     let mut sets = [0u64; SETS];
@@ -164,13 +166,13 @@ fn run_in<const TAPE: usize, const SETS: usize>(
 // Running, on the smallest tape and with the fewest sets that have room.
 fn ran(
     image: &[u8],
-    asked: Asked,
+    asked: &Asked,
     table: &mut [u16],
     events: &mut [u32],
     store: &mut [u16],
 ) -> Result<RunDone, Refusal>
-    ensures { RunMet (answered asked.state result) (accepted image.now table.old) asked.state table.old table.new asked.steps events.old events.new
-        asked.lent store.old store.new }
+    ensures { RunMet (answered asked.now.state result) (accepted image.now table.old) asked.now.state table.old table.new asked.now.steps events.old events.new
+        asked.now.lent store.old store.new }
 {
     let begun = read_image::begin(image, asked.lent)?;
     let end = begun.plan().end;
@@ -207,7 +209,7 @@ pub fn run_lent(
         steps,
         lent: learns,
     };
-    answered(ran(image, asked, table, events, store), state)
+    answered(ran(image, &asked, table, events, store), state)
 }
 
 /// Runs with nothing lent, and notes each step as `run_lent` does.

@@ -1,5 +1,5 @@
 // The calls: open, run and refresh, and the length of the table that they need; and the runs without a table. Each takes whatever it is handed,
-// and does its work or refuses by number; none has a `requires`. Where a call is named here alone, its crate has it with its contract.
+// and does its work or refuses by number; none has a `requires`. The contract of a call that is only named here stands in its own crate.
 #![tactic(auto)]
 
 ghost use Rattle.std.specs.Prelude.{◌≡◌};

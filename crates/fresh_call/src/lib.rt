@@ -74,13 +74,13 @@ fn set_out(
 fn run_for(
     plan: Plan,
     tape: &mut [u16],
-    asked: Asked,
+    asked: &Asked,
     events: &mut [u32],
     store: &mut [u16],
 ) -> Result<FreshDone, Refusal>
-    requires { Planned plan tape.old × (plan.places ≡ places_for plan.facts plan.learns) × (plan.learns ≡ asked.lent) }
-    ensures { FreshMet (answered asked.state result) (read_got (model_on plan tape.old) 0) asked.state asked.steps events.old events.new
-        asked.lent store.old store.new }
+    requires { Planned plan tape.old × (plan.places ≡ places_for plan.facts plan.learns) × (plan.learns ≡ asked.now.lent) }
+    ensures { FreshMet (answered asked.now.state result) (read_got (model_on plan tape.old) 0) asked.now.state asked.now.steps events.old events.new
+        asked.now.lent store.old store.new }
 {
     let state = asked.state;
     let mut now = [0u16; STATE_WORDS];
@@ -98,14 +98,14 @@ fn run_for(
 // Running, with the tape to lay the image out on.
 fn run_on(
     begun: &Begun,
-    asked: Asked,
+    asked: &Asked,
     events: &mut [u32],
     store: &mut [u16],
     tape: &mut [u16],
 ) -> Result<FreshDone, Refusal>
-    requires learning { begun.now.plan.learns ≡ asked.lent }
+    requires learning { begun.now.plan.learns ≡ asked.now.lent }
     requires taped { begun.now.plan.end ≤ length tape.old }
-    ensures { FreshMet (answered asked.state result) (decode begun.now.image) asked.state asked.steps events.old events.new asked.lent store.old store.new }
+    ensures { FreshMet (answered asked.now.state result) (decode begun.now.image) asked.now.state asked.now.steps events.old events.new asked.now.lent store.old store.new }
 {
     read_image::lay_out(begun, tape)?;
     run_for(begun.plan(), tape, asked, events, store)
@@ -115,13 +115,13 @@ fn run_on(
 #[inline(never)]
 fn run_in<const TAPE: usize>(
     begun: &Begun,
-    asked: Asked,
+    asked: &Asked,
     events: &mut [u32],
     store: &mut [u16],
 ) -> Result<FreshDone, Refusal>
-    requires learning { begun.now.plan.learns ≡ asked.lent }
+    requires learning { begun.now.plan.learns ≡ asked.now.lent }
     requires taped { (begun.now.plan.end ≤ TAPE) × (TAPE ≤ 58328) }
-    ensures { FreshMet (answered asked.state result) (decode begun.now.image) asked.state asked.steps events.old events.new asked.lent store.old store.new }
+    ensures { FreshMet (answered asked.now.state result) (decode begun.now.image) asked.now.state asked.now.steps events.old events.new asked.now.lent store.old store.new }
 {
     let mut tape = [0u16; TAPE];
     run_on(begun, asked, events, store, &mut tape)
@@ -130,11 +130,11 @@ fn run_in<const TAPE: usize>(
 // Running, on the smallest tape that has room.
 fn ran(
     image: &[u8],
-    asked: Asked,
+    asked: &Asked,
     events: &mut [u32],
     store: &mut [u16],
 ) -> Result<FreshDone, Refusal>
-    ensures { FreshMet (answered asked.state result) (decode image.now) asked.state asked.steps events.old events.new asked.lent store.old store.new }
+    ensures { FreshMet (answered asked.now.state result) (decode image.now) asked.now.state asked.now.steps events.old events.new asked.now.lent store.old store.new }
 {
     let begun = read_image::begin(image, asked.lent)?;
     let end = begun.plan().end;
@@ -170,7 +170,7 @@ pub fn fresh_lent(
         steps,
         lent: learns,
     };
-    answered(ran(image, asked, events, store), state)
+    answered(ran(image, &asked, events, store), state)
 }
 
 /// Runs with nothing lent, and notes each step as `fresh_lent` does.

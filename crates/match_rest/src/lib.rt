@@ -16,6 +16,7 @@ use layout::{ENTRY_WORDS, HEAD_WORDS, RULE_WORDS};
 use match_beds::SURE_AT;
 use match_order::HITS_AT;
 use match_rule::Tried;
+use prepared::RuleWords;
 
 // What a match of rule k gave is noted: whether it matches, by its place in the order; and it sleeps if one word of the state told that it does not.
 fn settle(sets: &mut [u64], order: &[u16], k: usize, tried: Tried)
@@ -48,9 +49,10 @@ fn visit(
     ensures { Visited heads.now words.now order.now state.now k table.old table.new sets.old sets.new }
 {
     let tests = heads[HEAD_WORDS * k] as usize;
+    let rule = RuleWords::new(words, RULE_WORDS * k, tests);
     let a = ENTRY_WORDS * k;
     let e = a + ENTRY_WORDS;
-    let tried = match_rule::try_into(&mut table[a..e], words, RULE_WORDS * k, tests, state);
+    let tried = match_rule::try_into(&mut table[a..e], &rule, state);
     settle(sets, order, k, tried);
 }
 

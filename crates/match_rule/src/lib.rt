@@ -1,7 +1,7 @@
 // The match of one rule: from its rows and queries in words, with the state in words too and the variables lent, so that nothing is copied.
 #![tactic(auto)]
 
-ghost use Rattle.std.specs.Prelude.{if◌then◌else◌, ◌≡◌, ℕ, ◌+◌, ◌*◌, ◌/◌, ◌%◌, ◌≤◌, length, get_or, replicate};
+ghost use Rattle.std.specs.Prelude.{if◌then◌else◌, ◌≡◌, ℕ, ◌+◌, ◌*◌, ◌/◌, ◌%◌, ◌≤◌, length, replicate};
 ghost use Rattle.meaning.specs.Base.{same};
 ghost use Rattle.meaning.specs.Model.{Rule};
 ghost use Rattle.meaning.specs.Image.{ask_of};
@@ -12,7 +12,8 @@ ghost use Rattle.layout.specs.StateWords.{buffers_in, state_in};
 ghost use Rattle.match_rule.specs.Words.{vars_in, StandsAt};
 ghost use Rattle.match_rule.specs.Shut.{is_hit, why_of, asked, Because, Made};
 
-use layout::{ASKED_AT, QUERIES_AT, ROW_WORDS};
+use layout::{QUERIES_AT, ROW_WORDS};
+use prepared::RuleWords;
 
 /// What trying to match a rule gives: it matches; a word of the state, by its number, has another value than the one wanted;
 /// or a variable has two values, or none, or a buffer that must be busy is not. (Three cases, so neither an `Option` nor a `Result`.)
@@ -137,13 +138,15 @@ fn ask(query: u16, state: &[u16]) -> Tried
     Tried::Hit
 }
 
-// Whether the queries of the rule whose words start at o hold in a state, and why not; they are left at the first that does not.
-fn match_queries(words: &[u16], o: usize, state: &[u16]) -> Tried
-    requires { (o + 97 ≤ length words.now) × (get_or words.now (o + 88) 0 ≤ 8) × (88 ≤ length state.now) }
-    ensures by_index { (clock : ℕ) → is_hit result ≡ queries_hold (queries_at words.now o) (state_in state.now clock) }
-    ensures because { (n : ℕ) → Because result words.now o n state.now }
+// Whether the queries of a rule hold in a state, and why not; they are left at the first that does not.
+fn match_queries(rule: &RuleWords, state: &[u16]) -> Tried
+    requires { 88 ≤ length state.now }
+    ensures by_index { (clock : ℕ) → is_hit result ≡ queries_hold (queries_at rule.now.words rule.now.at) (state_in state.now clock) }
+    ensures because { (n : ℕ) → Because result rule.now.words rule.now.at n state.now }
 {
-    let m = words[o + ASKED_AT] as usize;
+    let words = rule.words();
+    let o = rule.at();
+    let m = rule.queries();
     for i in 0..m {
         let tried = ask(words[o + QUERIES_AT + i], state);
         if tried != Tried::Hit {
@@ -153,24 +156,16 @@ fn match_queries(words: &[u16], o: usize, state: &[u16]) -> Tried
     Tried::Hit
 }
 
-// Whether the n tests that stand in words from o on hold, and then the queries after them, with the variables in bound and nine, and why not.
-fn match_words(
-    words: &[u16],
-    o: usize,
-    n: usize,
-    state: &[u16],
-    bound: &mut [u16],
-    nine: &mut [u16],
-) -> Tried
-    requires { (n ≤ 8) × (o + 97 ≤ length words.now) × (get_or words.now (o + 88) 0 ≤ 8) × (88 ≤ length state.now)
-        × (length bound.old ≡ 8) × (length nine.old ≡ 9) × (vars_in bound.old nine.old ≡ no_vars) }
+// Whether the tests of a rule hold, and then its queries, with the variables in bound and nine, and why not.
+fn match_words(rule: &RuleWords, state: &[u16], bound: &mut [u16], nine: &mut [u16]) -> Tried
+    requires { (88 ≤ length state.now) × (length bound.old ≡ 8) × (length nine.old ≡ 9) × (vars_in bound.old nine.old ≡ no_vars) }
     ensures by_index { (clock : ℕ) → (if is_hit result then on (vars_in bound.new nine.new) else stop)
-        ≡ rule_run (state_in state.now clock) (tests_in words.now o n) (queries_at words.now o) }
-    ensures because { Because result words.now o n state.now }
+        ≡ rule_run (state_in state.now clock) (tests_in rule.now.words rule.now.at rule.now.tests) (queries_at rule.now.words rule.now.at) }
+    ensures because { Because result rule.now.words rule.now.at rule.now.tests state.now }
 {
-    let tried = match_tests(words, o, n, state, bound, nine);
+    let tried = match_tests(rule.words(), rule.at(), rule.tests(), state, bound, nine);
     if let Tried::Hit = tried {
-        return match_queries(words, o, state);
+        return match_queries(rule, state);
     }
     tried
 }
@@ -183,14 +178,14 @@ pub fn no_entry(nine: &mut [u16])
     nine.fill(0);
 }
 
-/// The fresh entry of the rule whose words start at o, with n tests, into nine words; and why it does not match.
-pub fn try_into(nine: &mut [u16], words: &[u16], o: usize, n: usize, state: &[u16]) -> Tried
-    requires { (length nine.old ≡ 9) × (n ≤ 8) × (o + 97 ≤ length words.now) × (get_or words.now (o + 88) 0 ≤ 8) × (88 ≤ length state.now) }
-    ensures { Made result nine.new words.now o n state.now }
+/// The fresh entry of a rule, into nine words; and why it does not match.
+pub fn try_into(nine: &mut [u16], rule: &RuleWords, state: &[u16]) -> Tried
+    requires { (length nine.old ≡ 9) × (88 ≤ length state.now) }
+    ensures { Made result nine.new rule.now.words rule.now.at rule.now.tests state.now }
 {
     no_entry(nine);
     let mut bound = [0u16; 8];
-    let tried = match_words(words, o, n, state, &mut bound, nine);
+    let tried = match_words(rule, state, &mut bound, nine);
     if let Tried::Hit = tried {
         nine[0] = 1;
     } else {
@@ -200,11 +195,11 @@ pub fn try_into(nine: &mut [u16], words: &[u16], o: usize, n: usize, state: &[u1
 }
 
 /// The same, for whoever does not ask why.
-pub fn entry_into(nine: &mut [u16], words: &[u16], o: usize, n: usize, state: &[u16])
-    requires { (length nine.old ≡ 9) × (n ≤ 8) × (o + 97 ≤ length words.now) × (get_or words.now (o + 88) 0 ≤ 8) × (88 ≤ length state.now) }
-    ensures { (r : Rule) (clock : ℕ) → StandsAt r words.now o n → nine.new ≡ entry_of r (state_in state.now clock) }
+pub fn entry_into(nine: &mut [u16], rule: &RuleWords, state: &[u16])
+    requires { (length nine.old ≡ 9) × (88 ≤ length state.now) }
+    ensures { (r : Rule) (clock : ℕ) → StandsAt r rule.now.words rule.now.at rule.now.tests → nine.new ≡ entry_of r (state_in state.now clock) }
 {
-    try_into(nine, words, o, n, state);
+    try_into(nine, rule, state);
 }
 
 /// Whether two entries are the same, word for word.

@@ -9,6 +9,7 @@ ghost use Rattle.layout.specs.StateWords.{state_in};
 ghost use Rattle.match_table.specs.Entries.{with_entry};
 
 use layout::{ENTRY_WORDS, HEAD_WORDS, RULE_WORDS};
+use prepared::RuleWords;
 
 // Rule k's entry, made afresh, into its nine words of the table.
 fn entry_at(table: &mut [u16], k: usize, heads: &[u16], words: &[u16], n: usize, state: &[u16])
@@ -16,9 +17,10 @@ fn entry_at(table: &mut [u16], k: usize, heads: &[u16], words: &[u16], n: usize,
     ensures { (clock : ℕ) → table.new ≡ with_entry table.old k (entry_of (rule_in heads.now words.now k) (state_in state.now clock)) }
 {
     let tests = heads[HEAD_WORDS * k] as usize;
+    let rule = RuleWords::new(words, RULE_WORDS * k, tests);
     let a = ENTRY_WORDS * k;
     let e = a + ENTRY_WORDS;
-    match_rule::entry_into(&mut table[a..e], words, RULE_WORDS * k, tests, state);
+    match_rule::entry_into(&mut table[a..e], &rule, state);
 }
 
 /// The fresh table of n rules.

@@ -24,6 +24,7 @@ impl<'a> Model for RuleWords<'a> {
 }
 
 impl<'a> RuleWords<'a> {
+    /// The words of a rule that begin at a place, with so many tests.
     pub fn new(words: &'a [u16], at: usize, tests: usize) -> RuleWords<'a>
         requires { (tests ≤ 8) × (at + 97 ≤ length words.now) × (get_or words.now (at + 88) 0 ≤ 8) }
         ensures { result ≡ record { words = words.now; at = at; tests = tests } }
@@ -31,7 +32,7 @@ impl<'a> RuleWords<'a> {
         RuleWords { words, at, tests }
     }
 
-    /// All the words, and
+    /// The words among which the rule's stand.
     pub fn words(&self) -> &'a [u16]
         ensures value { result.now ≡ self.now.words }
         ensures room { self.now.at + 97 ≤ length result.now }
@@ -39,7 +40,7 @@ impl<'a> RuleWords<'a> {
         self.words
     }
 
-    /// where among them the rule's begin.
+    /// Where the rule's words begin.
     pub fn at(&self) -> usize
         ensures { result ≡ self.now.at }
     {

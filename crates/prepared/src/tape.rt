@@ -26,6 +26,7 @@ impl<'a> Model for Prepared<'a> {
 }
 
 impl<'a> Prepared<'a> {
+    /// A tape by its plan.
     pub fn new(plan: Plan, tape: &'a [u16]) -> Prepared<'a>
         requires { Planned plan tape.now }
         ensures { result ≡ record { plan = plan; tape = tape.now } }
@@ -90,6 +91,7 @@ impl<'a> Prepared<'a> {
     {
         &self.tape[self.plan.order..]
     }
+
     /// How many actions rule k has, eight at most.
     pub fn actions(&self, k: usize) -> usize
         requires { k < self.now.plan.rules }

@@ -22,7 +22,9 @@ mod begun;
 
 pub use begun::{Begun, begin};
 
-// The slot counts and the opening chunks, laid on the tape; the slot counts are given back too, to read the rest by.
+// The slot counts and the opening chunks, laid on the tape; the slot counts are given back too, to read the rest by. It is never set into its caller, so that the stack
+// does not hold what it needs while the rest is read.
+#[inline(never)]
 fn lay_opening(reader: &mut Reader, plan: Plan, tape: &mut [u16]) -> Result<[u16; 64], Refusal>
     requires { (read_got (header_in plan) reader.old.at ≡ header finer reader.old.image 0) × InBounds plan × (152 ≤ length tape.old) }
     ensures { OpeningMet result plan reader.old reader.new tape.new }

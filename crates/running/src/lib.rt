@@ -18,13 +18,12 @@ ghost use Rattle.step_made.specs.Made.{event_of};
 ghost use Rattle.running.specs.Runs.{Moves, Stays, RunMet, ended_by};
 
 use layout::Plan;
-use meaning::ALL_DONE;
-use meaning::{Event, Reason};
+use meaning::{ALL_DONE, Event, Reason};
 use step_learn::NEWS_WORDS;
 use step_made::Made;
 
 /// How a run went: whether all steps were made, or why the next was not; the clock after them, the steps made, and the plan that knows of what was learned.
-#[derive(Clone, Copy)]
+#[derive(Clone, Copy, Debug, PartialEq, Eq)]
 pub struct Went {
     pub ended: Result<(), Reason>,
     pub clock: u32,

@@ -18,7 +18,7 @@ use Rattle.layout.specs.StateWords.{state_in}
 use Rattle.step_learn.specs.Joins.{joins_on, adds_on, no_place, Collected}
 use Rattle.step_made.specs.declared.Made.{Made}
 
--- "Where an answer is an enum, a definition sets out this paper's number and values for each of its cases"
+-- a definition sets out the number and values for each case of the answer
 abbrev pub event_of : Event → meaning.Event
 event_of (Fired rule) = meaning.event_fired rule
 event_of (Waited ms) = meaning.event_waited ms

@@ -1,7 +1,7 @@
 // One step, in place on a state's 88 words: the chosen rule fires, or time passes, or no step is made.
 #![tactic(auto)]
 
-ghost use Rattle.std.specs.Prelude.{◌≡◌, ℕ, ◌+◌, ◌*◌, ◌≤◌, ◌<◌, length, get_or};
+ghost use Rattle.std.specs.Prelude.{◌≡◌, ℕ, ◌*◌, ◌≤◌, ◌<◌, length};
 ghost use Rattle.meaning.specs.Base.{same};
 ghost use Rattle.meaning.specs.Model.{Rule};
 ghost use Rattle.meaning.specs.Match.{entry_of};
@@ -18,15 +18,16 @@ ghost use Rattle.match_rest.specs.Rest.{entry_at};
 use layout::{ENTRY_WORDS, HEAD_WORDS, Plan, RULE_WORDS};
 use match_beds::SURE_AT;
 use meaning::Reason;
+use prepared::RuleWords;
 use step_made::Made;
 
-// Whether nine words are the fresh entry of the rule whose words start at o, with n tests.
-fn is_fresh(nine: &[u16], words: &[u16], o: usize, n: usize, state: &[u16]) -> bool
-    requires { (length nine.now ≡ 9) × (n ≤ 8) × (o + 97 ≤ length words.now) × (get_or words.now (o + 88) 0 ≤ 8) × (88 ≤ length state.now) }
-    ensures { (r : Rule) (clock : ℕ) → StandsAt r words.now o n → result ≡ same nine.now (entry_of r (state_in state.now clock)) }
+// Whether nine words are the fresh entry of a rule.
+fn is_fresh(nine: &[u16], rule: &RuleWords, state: &[u16]) -> bool
+    requires { (length nine.now ≡ 9) × (88 ≤ length state.now) }
+    ensures { (r : Rule) (clock : ℕ) → StandsAt r rule.now.words rule.now.at rule.now.tests → result ≡ same nine.now (entry_of r (state_in state.now clock)) }
 {
     let mut fresh = [0u16; ENTRY_WORDS];
-    match_rule::entry_into(&mut fresh, words, o, n, state);
+    match_rule::entry_into(&mut fresh, rule, state);
     match_rule::same_entry(nine, &fresh)
 }
 
@@ -49,9 +50,10 @@ fn chosen_fresh(
     let heads = plan.heads;
     let rows = plan.rows;
     let tests = tape[heads + HEAD_WORDS * k] as usize;
+    let rule = RuleWords::new(&tape[rows..], RULE_WORDS * k, tests);
     let a = ENTRY_WORDS * k;
     let e = a + ENTRY_WORDS;
-    is_fresh(&table[a..e], &tape[rows..], RULE_WORDS * k, tests, state)
+    is_fresh(&table[a..e], &rule, state)
 }
 
 // Fires rule k with its nine words of the table, unless these are not its fresh entry, the clock would pass its limit, or what it adds to the store has no place.

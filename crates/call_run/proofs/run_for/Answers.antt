@@ -34,11 +34,11 @@ unfolding model_on
 own c = rows-length (λ k. fact_in (drop 152 c.args.tape.now) (11 * k)) 0 c.args.plan.facts
 
 -- the state is well formed, and the store fits
-fits : (c : In_ok-known) → (well_formed (model (goal.at.In_ok-known c).Start) c.args.asked.state ≡ true) × (store_fits (model (goal.at.In_ok-known c).Start).types (lent_if c.args.plan.learns c.args.store.now) ≡ true)
+fits : (c : In_ok-known) → (well_formed (model (goal.at.In_ok-known c).Start) c.args.asked.now.state ≡ true) × (store_fits (model (goal.at.In_ok-known c).Start).types (lent_if c.args.plan.learns c.args.store.now) ≡ true)
 fits c = taken-by _ _ _ c.in_ok-known.ensures.judged refl
 
 -- the run that was made
-went : (c : After-set_out-went) → let a = c.args in WentMet c.set_out-went.result (model (goal.at.After-set_out-went c).Start) (store_of (lent_if a.plan.learns a.store.now)) (words (goal.at.After-set_out-went c).After-admit) c.set_out-went.new.state a.asked.state.clock a.table.now c.set_out-went.new.table a.asked.steps a.events.now c.set_out-went.new.events c.set_out-went.new.tape
+went : (c : After-set_out-went) → let a = c.args in WentMet c.set_out-went.result (model (goal.at.After-set_out-went c).Start) (store_of (lent_if a.plan.learns a.store.now)) (words (goal.at.After-set_out-went c).After-admit) c.set_out-went.new.state a.asked.now.state.clock a.table.now c.set_out-went.new.table a.asked.now.steps a.events.now c.set_out-went.new.events c.set_out-went.new.tape
 went c =
     c.set_out-went.ensures.went_met (model (goal.at.After-set_out-went c).Start) _ c.in_ok-known.ensures.knows
 
@@ -48,9 +48,9 @@ returns-in_err-known c =
     let m = model (goal.at.returns-in_err-known c).Start in
     let why = c.in_err-known.field-0.0 in
     let is : c.from_residual.result ≡ Err (record { reason = why; at = 0 }) = search rules in
-    let unfit = refused-by m a.asked.state _ c.in_err-known.ensures.judged (no-zero why) in
-    let met = run-unfit a.asked.state a.table.now a.asked.steps m (words (goal.at.returns-in_err-known c).After-admit) c.in_err-known.ensures.stands a.plan.learns a.store.now _ unfit _ (ap (answered a.asked.state) is) a.events.now in
-    lent_same _ (read_got m 0) a.asked.state a.table.now _ a.asked.steps a.events.now _ a.store.now _ a.plan.learns a.asked.lent c.requires.5 met
+    let unfit = refused-by m a.asked.now.state _ c.in_err-known.ensures.judged (no-zero why) in
+    let met = run-unfit a.asked.now.state a.table.now a.asked.now.steps m (words (goal.at.returns-in_err-known c).After-admit) c.in_err-known.ensures.stands a.plan.learns a.store.now _ unfit _ (ap (answered a.asked.now.state) is) a.events.now in
+    lent_same _ (read_got m 0) a.asked.now.state a.table.now _ a.asked.now.steps a.events.now _ a.store.now _ a.plan.learns a.asked.now.lent c.requires.5 met
 
 pub give_back-requires : goal.give_back-requires
 give_back-requires c =
@@ -62,6 +62,6 @@ returns c =
     let a = c.args in
     let met = went (goal.at.returns c).After-set_out-went in
     let left = given_back a.plan c.set_out-went.result.plan _ a.store.now (model (goal.at.returns c).Start) c.set_out-went.ensures.planned (own (goal.at.returns c).Start) (fits (goal.at.returns c).In_ok-known).1 _ (left-known _ (model (goal.at.returns c).Start) _ _ _ _ _ _ _ _ _ _ met) in
-    let ran = run-went a.asked.state a.table.now a.asked.steps (model (goal.at.returns c).Start) (words (goal.at.returns c).After-admit) c.in_ok-known.ensures.stands a.plan.learns a.store.now (fits (goal.at.returns c).In_ok-known).0 (fits (goal.at.returns c).In_ok-known).1
+    let ran = run-went a.asked.now.state a.table.now a.asked.now.steps (model (goal.at.returns c).Start) (words (goal.at.returns c).After-admit) c.in_ok-known.ensures.stands a.plan.learns a.store.now (fits (goal.at.returns c).In_ok-known).0 (fits (goal.at.returns c).In_ok-known).1
     c.set_out-went.result c.read_state.result c.set_out-went.new.state _ a.events.now _ _ _ c.read_state.ensures met (c.give_back.ensures ∙ left) in
-    rw c.number.ensures (lent_same _ (read_got (model (goal.at.returns c).Start) 0) a.asked.state a.table.now _ a.asked.steps a.events.now _ a.store.now _ a.plan.learns a.asked.lent c.requires.5 ran)
+    rw c.number.ensures (lent_same _ (read_got (model (goal.at.returns c).Start) 0) a.asked.now.state a.table.now _ a.asked.now.steps a.events.now _ a.store.now _ a.plan.learns a.asked.now.lent c.requires.5 ran)

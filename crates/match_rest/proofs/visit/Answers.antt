@@ -16,4 +16,4 @@ returns c =
     let long = c.try_into-tried.auto.nine ∙ length-take-le (9 * args.k + 9 - 9 * args.k) (drop (9 * args.k) table) (omega (arith, length-drop (9 * args.k) table, c.requires.0.entry)) ∙ nine in
     visited args.heads.now args.words.now args.order.now args.state.now args.k table c.try_into-tried.new.nine args.sets.now c.settle.new.sets long c.requires.0.entry c.try_into-tried.result _
     (ap (λ (zs : List ℕ). take (9 * args.k) table ++ (c.try_into-tried.new.nine ++ zs)) (ap (λ (j : ℕ). drop j (drop (9 * args.k) table)) nine ∙ drop-drop 9 (9 * args.k) table))
-    c.try_into-tried.ensures c.settle.ensures
+    (rw c.new-rule.ensures at c.try_into-tried.ensures) c.settle.ensures

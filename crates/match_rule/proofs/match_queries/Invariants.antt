@@ -8,4 +8,4 @@ use Rattle.match_rule.proofs.match_queries.Given as goal
 
 abbrev pub invariant-loop-i : goal.invariant-loop-i
 invariant-loop-i l =
-    (clock : ℕ) → queries_hold (queries_from l.words (l.o + 89) l.i (l.m - l.i)) (state_in l.state clock) ≡ queries_hold (queries_at l.words l.o) (state_in l.state clock)
+    (clock : ℕ) → queries_hold (queries_from l.rule.words (l.rule.at + 89) l.i (l.m - l.i)) (state_in l.state clock) ≡ queries_hold (queries_at l.rule.words l.rule.at) (state_in l.state clock)

@@ -18,12 +18,12 @@ returns-in-Hit c =
     let a = c.args in
     let size = c.match_words-tried.auto.nine ∙ c.no_entry.auto.nine ∙ c.requires.0 in
     let hit = hit-words c.match_words-tried.new.nine size in
-    made c.match_words-tried.result _ (vars (goal.at.returns-in-Hit c).After-match_words-tried) a.words.now a.o a.n a.state.now
+    made c.match_words-tried.result _ (vars (goal.at.returns-in-Hit c).After-match_words-tried) a.rule.now.words a.rule.now.at a.rule.now.tests a.state.now
     (hit ∙ sym (ap (λ (t : Tried). entry_words (if is_hit t then on (vars (goal.at.returns-in-Hit c).After-match_words-tried) else stop)) c.in-Hit.is)) c.match_words-tried.ensures.by_index c.match_words-tried.ensures.because
 
 pub returns-in_default : goal.returns-in_default
 returns-in_default c =
     let a = c.args in
     let not = not-hit c.match_words-tried.result c.in_default.not-Hit in
-    made c.match_words-tried.result c.no_entry-in_default.new.nine (vars (goal.at.returns-in_default c).After-match_words-tried) a.words.now a.o a.n a.state.now
+    made c.match_words-tried.result c.no_entry-in_default.new.nine (vars (goal.at.returns-in_default c).After-match_words-tried) a.rule.now.words a.rule.now.at a.rule.now.tests a.state.now
     (c.no_entry-in_default.ensures ∙ sym (ap (λ (b : Bool). entry_words (if b then on (vars (goal.at.returns-in_default c).After-match_words-tried) else stop)) not)) c.match_words-tried.ensures.by_index c.match_words-tried.ensures.because
