@@ -8,8 +8,8 @@ mod reasons;
 
 pub use reasons::{ALL_DONE, Reason, Refusal};
 
-/// One buffer: the type of its chunk, eight slot values, the ms until it is visible, and whether the last action on it was a request that found no fact.
-/// (`isa` is ACT-R's own word for a chunk's type; Rattle keeps the word `type` for itself.)
+// One buffer: the type of its chunk, eight slot values, the ms until it is visible, and whether the last action on it was a request that found no fact.
+// (`isa` is ACT-R's own word for a chunk's type; Rattle keeps the word `type` for itself.)
 #[derive(Clone, Copy, Debug, PartialEq, Eq)]
 pub struct Buffer {
     pub isa: u16,
@@ -18,7 +18,7 @@ pub struct Buffer {
     pub error: bool,
 }
 
-/// Eight buffers and the clock in ms.
+// Eight buffers and the clock in ms.
 #[derive(Clone, Copy, Debug, PartialEq, Eq)]
 pub struct State {
     pub buffers: [Buffer; 8],
@@ -32,7 +32,7 @@ pub enum Event {
     Waited(u16),
 }
 
-/// The nil chunk, visible after some ms.
+// The nil chunk, visible after some ms.
 pub fn nil_after(delay: u16) -> Buffer
     ensures { result ≡ nil_after delay }
 {
@@ -44,7 +44,7 @@ pub fn nil_after(delay: u16) -> Buffer
     }
 }
 
-/// The all-zero state, which a refused opening gives.
+// The all-zero state, which a refused opening gives.
 pub fn zero_state() -> State
     ensures { result ≡ zero_state }
 {

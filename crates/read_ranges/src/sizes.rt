@@ -23,7 +23,6 @@ impl<'a> Model for Sizes<'a> {
 }
 
 impl<'a> Sizes<'a> {
-    /// So many buffers, and types with these slot counts.
     pub fn new(buffers: u16, types: &'a [u16]) -> Sizes<'a>
         requires { (buffers ≤ 8) × (0 < length types.now) }
         ensures { result ≡ sizes buffers types.now }
