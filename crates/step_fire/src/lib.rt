@@ -60,14 +60,7 @@ fn perform(state: &mut [u16], k: usize, image: &Prepared, q: usize, nine: &[u16]
 }
 
 // Does the m actions from o on, each on its buffer, where `acted` tells the buffers that they are on. The other buffers stay.
-fn act_all(
-    state: &mut [u16],
-    image: &Prepared,
-    o: usize,
-    m: usize,
-    nine: &[u16],
-    acted: u16,
-)
+fn act_all(state: &mut [u16], image: &Prepared, o: usize, m: usize, nine: &[u16], acted: u16)
     requires { (88 ≤ length state.old) × (o + 11 * m ≤ length (rows_on image.now.plan image.now.tape)) × (9 ≤ length nine.now) × ChainsOn image.now.plan image.now.tape
         × ActedMask (actions_in (rows_on image.now.plan image.now.tape) o m) acted }
     ensures { (k : ℕ) → buffer_in state.new k
