@@ -40,4 +40,6 @@ returns-in-Some c =
 pub returns-in-None : goal.returns-in-None
 returns-in-None c =
     let a = c.args in
-    none_made (drop 152 a.image.now.tape) a.image.now.plan.failure (rw (c.facts-facts.ensures, c.rows.ensures, c.plan-plan.ensures.value) at c.retrieve.ensures.nine_value) c.in-None.is (rw c.plan-plan.ensures.value at c.nil.ensures)
+    let found = rw (c.facts-facts.ensures, c.rows.ensures, c.plan-plan.ensures.value) at c.retrieve.ensures.nine_value in
+    let made = none_made (drop 152 a.image.now.tape) c.plan-plan.result.failure found c.in-None.is c.nil.ensures in
+    rw c.plan-plan.ensures.value at made
