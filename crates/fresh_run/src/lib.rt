@@ -13,6 +13,7 @@ ghost use Rattle.fresh_run.specs.Went.{WentMet};
 
 use layout::Plan;
 use meaning::Reason;
+use prepared::Prepared;
 use running::Engine;
 pub use running::Went;
 use step_made::Made;
@@ -42,7 +43,7 @@ impl Engine for Fresh {
         tape: &[u16],
         news: &mut [u16],
     ) -> Result<Made, Reason> {
-        fresh_step::step(state, clock, plan, tape, news)
+        fresh_step::step(state, clock, &Prepared::new(plan, tape), news)
     }
 
     ghost done = { run-done };

@@ -5,12 +5,14 @@ ghost use Rattle.std.specs.Prelude.{◌+◌, ◌*◌, ◌≤◌, ◌<◌, length
 ghost use Rattle.meaning.specs.Retrieval.{retrieve, retrieved};
 ghost use Rattle.layout.specs.Rows.{masked_in};
 ghost use Rattle.layout.specs.StateWords.{buffer_in};
-ghost use Rattle.layout.specs.Plans.{facts_on, rows_on, Planned};
+ghost use Rattle.layout.specs.Plans.{facts_on, rows_on};
 ghost use Rattle.step_retrieve.specs.Chains.{ChainsOn};
 ghost use Rattle.step_wait.specs.Remade.{Remade};
 ghost use Rattle.step_effect.specs.Deeds.{chunk_in, nil_in, modified};
 
-use layout::{BUFFER_WORDS, FACTS_AT, Plan, ROW_WORDS};
+use layout::{BUFFER_WORDS, ROW_WORDS};
+use prepared::Prepared;
+
 /// The word of a buffer's error flag.
 pub const CLEAR: u16 = 0;
 
@@ -54,16 +56,15 @@ pub fn modify(state: &mut [u16], k: usize, words: &[u16], q: usize, nine: &[u16]
 
 /// Writes over buffer k the fact that the request at q of the rows finds, with its latency as the delay and the error flag clear;
 /// or nil with the failure latency and the error flag set.
-pub fn request(state: &mut [u16], k: usize, plan: Plan, tape: &[u16], q: usize, nine: &[u16])
-    requires { (88 ≤ length state.old) × (k < 8) × (q + 11 ≤ length (rows_on plan tape.now)) × (9 ≤ length nine.now) × Planned plan tape.now × ChainsOn plan tape.now }
-    ensures { Remade state.old state.new k (retrieved plan.failure
-        (retrieve (facts_on plan tape.now) (get_or (rows_on plan tape.now) (q + 1) 0) (masked_in (rows_on plan tape.now) q) nine.now)) }
+pub fn request(state: &mut [u16], k: usize, image: &Prepared, q: usize, nine: &[u16])
+    requires { (88 ≤ length state.old) × (k < 8) × (q + 11 ≤ length (rows_on image.now.plan image.now.tape)) × (9 ≤ length nine.now) × ChainsOn image.now.plan image.now.tape }
+    ensures { Remade state.old state.new k (retrieved image.now.plan.failure
+        (retrieve (facts_on image.now.plan image.now.tape) (get_or (rows_on image.now.plan image.now.tape) (q + 1) 0) (masked_in (rows_on image.now.plan image.now.tape) q) nine.now)) }
 {
-    let rows = plan.rows;
-    let chains = plan.chains;
+    let plan = image.plan();
+    let facts = image.facts();
     let n = plan.facts as usize;
-    let facts = &tape[FACTS_AT..];
-    match step_retrieve::retrieve(facts, &tape[chains..], n, &tape[rows..], q, nine) {
+    match step_retrieve::retrieve(facts, image.chains(), n, image.rows(), q, nine) {
         Some(i) => {
             let f = ROW_WORDS * i;
             fill(state, k, facts[f], facts, f + 3, facts[f + 2], CLEAR);

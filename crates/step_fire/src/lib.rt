@@ -10,12 +10,13 @@ ghost use Rattle.meaning.specs.Fire.{done, deed_on, fire};
 ghost use Rattle.meaning.specs.Mark.{acted_on, mark_of};
 ghost use Rattle.layout.specs.Rows.{action_in, actions_in};
 ghost use Rattle.layout.specs.StateWords.{buffer_in, state_in};
-ghost use Rattle.layout.specs.Plans.{facts_on, rows_on, Planned};
+ghost use Rattle.layout.specs.Plans.{facts_on, rows_on};
 ghost use Rattle.step_retrieve.specs.Chains.{ChainsOn};
 ghost use Rattle.step_wait.specs.Remade.{Remade};
 ghost use Rattle.step_fire.specs.Acts.{ActedMask, acting};
 
-use layout::{Plan, ROW_WORDS};
+use layout::ROW_WORDS;
+use prepared::Prepared;
 
 // The buffers that the m action rows from o on are on, buffer b with weight 2 to the power b.
 fn acted_mask(words: &[u16], o: usize, m: usize) -> u16
@@ -45,57 +46,47 @@ fn action_on(words: &[u16], o: usize, m: usize, k: usize) -> usize
 }
 
 // Does the action at q of the rows on buffer k.
-fn perform(state: &mut [u16], k: usize, plan: Plan, tape: &[u16], q: usize, nine: &[u16])
-    requires { (88 ≤ length state.old) × (k < 8) × (q + 11 ≤ length (rows_on plan tape.now)) × (9 ≤ length nine.now) × Planned plan tape.now × ChainsOn plan tape.now }
+fn perform(state: &mut [u16], k: usize, image: &Prepared, q: usize, nine: &[u16])
+    requires { (88 ≤ length state.old) × (k < 8) × (q + 11 ≤ length (rows_on image.now.plan image.now.tape)) × (9 ≤ length nine.now) × ChainsOn image.now.plan image.now.tape }
     ensures { Remade state.old state.new k
-        (done plan.failure (facts_on plan tape.now) nine.now (buffer_in state.old k) (action_in (rows_on plan tape.now) q).deed) }
+        (done image.now.plan.failure (facts_on image.now.plan image.now.tape) nine.now (buffer_in state.old k) (action_in (rows_on image.now.plan image.now.tape) q).deed) }
 {
-    let rows = plan.rows;
-    let words = &tape[rows..];
+    let words = image.rows();
     match words[q + 1] {
         0 => step_effect::modify(state, k, words, q, nine),
-        1..=63 => step_effect::request(state, k, plan, tape, q, nine),
+        1..=63 => step_effect::request(state, k, image, q, nine),
         _ => step_effect::nil(state, k, 0, step_effect::CLEAR),
     }
 }
 
 // Does the m actions from o on, each on its buffer, where `acted` tells the buffers that they are on. The other buffers stay.
-fn act_all(
-    state: &mut [u16],
-    plan: Plan,
-    tape: &[u16],
-    o: usize,
-    m: usize,
-    nine: &[u16],
-    acted: u16,
-)
-    requires { (88 ≤ length state.old) × (o + 11 * m ≤ length (rows_on plan tape.now)) × (9 ≤ length nine.now) × Planned plan tape.now × ChainsOn plan tape.now
-        × ActedMask (actions_in (rows_on plan tape.now) o m) acted }
+fn act_all(state: &mut [u16], image: &Prepared, o: usize, m: usize, nine: &[u16], acted: u16)
+    requires { (88 ≤ length state.old) × (o + 11 * m ≤ length (rows_on image.now.plan image.now.tape)) × (9 ≤ length nine.now) × ChainsOn image.now.plan image.now.tape
+        × ActedMask (actions_in (rows_on image.now.plan image.now.tape) o m) acted }
     ensures { (k : ℕ) → buffer_in state.new k
-        ≡ acting plan.failure (facts_on plan tape.now) nine.now (buffer_in state.old k) (deed_on (actions_in (rows_on plan tape.now) o m) k) }
+        ≡ acting image.now.plan.failure (facts_on image.now.plan image.now.tape) nine.now (buffer_in state.old k) (deed_on (actions_in (rows_on image.now.plan image.now.tape) o m) k) }
 {
-    let rows = plan.rows;
+    let rows = image.rows();
     let mut rest = acted as u64;
     // a walk from bit to bit, for speed: few buffers are acted on
     while rest != 0 {
         let k = match_sets::lowest(rest);
-        let q = action_on(&tape[rows..], o, m, k);
-        perform(state, k, plan, tape, q, nine);
+        let q = action_on(rows, o, m, k);
+        perform(state, k, image, q, nine);
         rest = match_sets::drop_lowest(rest);
     }
 }
 
 /// Fires a rule with the m actions from o on and the nine words of its entry; the mark of the buffers acted on or arrived.
 /// A buffer acted on that would have arrived without its action is in both masks.
-pub fn fire(state: &mut [u16], plan: Plan, tape: &[u16], o: usize, m: usize, nine: &[u16]) -> u16
-    requires { (88 ≤ length state.old) × (o + 11 * m ≤ length (rows_on plan tape.now)) × (m ≤ 8) × (9 ≤ length nine.now) × Planned plan tape.now × ChainsOn plan tape.now }
-    ensures by_index { (clock : ℕ) (r : Rule) → r.actions ≡ actions_in (rows_on plan tape.now) o m
-        → state_in state.new (clock + 50) ≡ fire plan.failure (facts_on plan tape.now) r nine.now (state_in state.old clock) }
-    ensures mark { (clock clock' : ℕ) → result ≡ mark_of (actions_in (rows_on plan tape.now) o m) (state_in state.old clock) (state_in state.new clock') }
+pub fn fire(state: &mut [u16], image: &Prepared, o: usize, m: usize, nine: &[u16]) -> u16
+    requires { (88 ≤ length state.old) × (o + 11 * m ≤ length (rows_on image.now.plan image.now.tape)) × (m ≤ 8) × (9 ≤ length nine.now) × ChainsOn image.now.plan image.now.tape }
+    ensures by_index { (clock : ℕ) (r : Rule) → r.actions ≡ actions_in (rows_on image.now.plan image.now.tape) o m
+        → state_in state.new (clock + 50) ≡ fire image.now.plan.failure (facts_on image.now.plan image.now.tape) r nine.now (state_in state.old clock) }
+    ensures mark { (clock clock' : ℕ) → result ≡ mark_of (actions_in (rows_on image.now.plan image.now.tape) o m) (state_in state.old clock) (state_in state.new clock') }
 {
-    let rows = plan.rows;
-    let acted = acted_mask(&tape[rows..], o, m);
+    let acted = acted_mask(image.rows(), o, m);
     let arrived = step_wait::wait(state, 50);
-    act_all(state, plan, tape, o, m, nine, acted);
+    act_all(state, image, o, m, nine, acted);
     arrived | acted
 }

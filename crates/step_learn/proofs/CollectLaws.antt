@@ -5,7 +5,6 @@ use mathlib.Core.Bool.{true, false}
 use mathlib.Core.List.{List, map}
 use native.Mathlib.Omega.{arith}
 use lib.ListN.{get_or}
-use lib.Seq.{get_or-drop}
 use Rattle.meaning.specs.Base.{bit}
 use Rattle.meaning.specs.Model.{Action, Chunk}
 use Rattle.meaning.specs.Learning.{learned, chunks_of, cleared, joining}
@@ -59,16 +58,12 @@ module _ (known : List Chunk) (as' : List Action) (state : List ℕ) where
 
 -- ---- the actions of a rule, and whether a store is lent
 
--- the count of a rule's actions, by the words of the tape
-pub actions-count : (p : Plan) (tape : List ℕ) (k : ℕ) → get_or (heads_on p tape) (4 * k + 1) 0 ≡ get_or tape (p.heads + 4 * k + 1) 0
-actions-count p tape k = let e : p.heads + (4 * k + 1) ≡ p.heads + 4 * k + 1 = omega arith in get_or-drop p.heads tape (4 * k + 1) 0 ∙ ap (λ (i : ℕ). get_or tape i 0) e
-
 module _ (p : Plan) (tape state : List ℕ) (k : ℕ) (news : List ℕ) where
   pub collected-none : p.learns ≡ false → Collected news 0 (joins_on p tape state k)
   unfolding rows_in
   collected-none e = rw e (record { few = omega arith; rows = refl })
 
-  pub collected-so : (n : ℕ) → p.learns ≡ true
-      → Collected news n (joining (chunks_of (facts_on p tape)) (cleared (actions_in (rows_on p tape) (185 * k + 97) (get_or tape (p.heads + 4 * k + 1) 0)) 0 (buffers_in state)))
+  pub collected-so : (n m : ℕ) → p.learns ≡ true → m ≡ get_or (heads_on p tape) (4 * k + 1) 0
+      → Collected news n (joining (chunks_of (facts_on p tape)) (cleared (actions_in (rows_on p tape) (185 * k + 97) m) 0 (buffers_in state)))
       → Collected news n (joins_on p tape state k)
-  collected-so n e c = rw (e, actions-count p tape k) c
+  collected-so n m e many c = rw e (rw many at c)

@@ -5,18 +5,16 @@ use mathlib.Core.Path.{◌≡◌, refl, sym, ap, ◌∙◌}
 use mathlib.Core.Bool.{Bool, true, false, ◌||◌}
 use mathlib.Core.List.{List, [], ◌∷◌, ◌++◌, map, append-nil, append_assoc}
 use native.Mathlib.Omega.{arith}
-use lib.ListN.{get_or, drop}
-use lib.Seq.{get_or-drop}
+use lib.ListN.{get_or}
 use Rattle.meaning.specs.declared.Buffer.{Buffer}
 use Rattle.meaning.specs.Base.{any_of}
 use Rattle.meaning.specs.Model.{Chunk, Fact}
 use Rattle.meaning.specs.Learning.{learned, chunks_of, chunk_of, equal, joining}
-use Rattle.layout.specs.declared.Plan.{Plan}
 use Rattle.layout.specs.Rows.{rows_in, fact_in, facts_in}
 use Rattle.layout.specs.StateWords.{buffer_in}
-use Rattle.layout.proofs.RowLaws.{rows_left, fact-like}
+use Rattle.layout.proofs.RowLaws.{rows_left}
 use Rattle.laws.specs.BaseLaws.{by-lt}
-use Rattle.step_retrieve.specs.Chains.{chain_of, Leap, ChainsOn}
+use Rattle.step_retrieve.specs.Chains.{chain_of, Leap}
 use Rattle.step_learn.specs.Clears.{gives, given}
 use Rattle.step_learn.proofs.ChunkLaws.{same_chunk, chunk-first}
 
@@ -98,22 +96,6 @@ module _ (state : List ℕ) (b : ℕ) (facts : List ℕ) (n : ℕ) where
       ap among_from (sym e) ∙ past (x - k) k (omega (arith, leap.forth)) (λ j a g. out j (leap.between j a (omega arith) (omega arith))))
       (λ l. let e : k + (n - k) ≡ n = omega arith in
       among-end x l ∙ sym (among-end n (omega arith)) ∙ ap among_from (sym e) ∙ past (n - k) k (omega arith) (λ j a g. out j (leap.between j a (omega arith) (omega arith))))
-
--- the rows that follow o words of a tape
-pub chunk-drop : (state : List ℕ) (b o : ℕ) (tape : List ℕ) (f : ℕ) → same_chunk state b tape (o + f) ≡ same_chunk state b (drop o tape) f
-chunk-drop state b o tape f =
-    ap (λ (x : Fact). equal (chunk_of (buffer_in state b)) x.chunk)
-    (fact-like tape (drop o tape) (o + f) f (λ j l. let e : o + f + j ≡ o + (f + j) = omega arith in rw (get_or-drop, e)))
-
--- where a chain starts and goes on, by the words of the tape
-module _ (p : Plan) (tape : List ℕ) (chains : ChainsOn p tape) where
-  pub chain-starts : (h : ℕ) → h < 64 → Leap (drop 152 tape) p.facts h 0 (get_or tape (p.chains + h) 0)
-  chain-starts h l = rw (← get_or-drop p.chains tape h 0) (chains.starts h l)
-
-  pub chain-goes-on : (k : ℕ) → k < p.facts → Leap (drop 152 tape) p.facts (chain_of (drop 152 tape) k) (k + 1) (get_or tape (p.chains + 64 + k) 0)
-  chain-goes-on k l =
-      let e : p.chains + 64 + k ≡ p.chains + (64 + k) = omega arith in
-      rw (e, ← get_or-drop p.chains tape (64 + k) 0) (chains.goes_on k l)
 
 -- ---- the chunk of one buffer, after rows that it may be among
 

@@ -6,12 +6,13 @@ ghost use Rattle.meaning.specs.Base.{any_of, bit};
 ghost use Rattle.meaning.specs.Learning.{learned, chunks_of, chunk_of, equal, joining};
 ghost use Rattle.layout.specs.Rows.{fact_in, facts_in, actions_in};
 ghost use Rattle.layout.specs.StateWords.{buffer_in};
-ghost use Rattle.layout.specs.Plans.{facts_on, Planned};
+ghost use Rattle.layout.specs.Plans.{facts_on};
 ghost use Rattle.step_retrieve.specs.Chains.{ChainsOn};
 ghost use Rattle.step_learn.specs.Joins.{joins_on, Collected};
 ghost use Rattle.step_learn.specs.Clears.{ClearMask, gives, given};
 
-use layout::{ACTIONS_AT, BUFFER_WORDS, FACTS_AT, HEAD_WORDS, Plan, ROW_WORDS, RULE_WORDS};
+use layout::{ACTIONS_AT, BUFFER_WORDS, ROW_WORDS, RULE_WORDS};
+use prepared::Prepared;
 
 /// The words that what a step adds is collected in: eight rows.
 pub const NEWS_WORDS: usize = 88;
@@ -64,20 +65,21 @@ fn same_chunk(state: &[u16], b: usize, facts: &[u16], f: usize) -> bool
 }
 
 // Whether a fact that the plan knows of has the chunk in buffer b: only the chain of its first slot is walked.
-fn known(state: &[u16], b: usize, plan: Plan, tape: &[u16]) -> bool
-    requires { (88 ≤ length state.now) × (b < 8) × Planned plan tape.now × ChainsOn plan tape.now }
-    ensures { result ≡ any_of (equal (chunk_of (buffer_in state.now b))) (chunks_of (facts_on plan tape.now)) }
+fn known(state: &[u16], b: usize, image: &Prepared) -> bool
+    requires { (88 ≤ length state.now) × (b < 8) × ChainsOn image.now.plan image.now.tape }
+    ensures { result ≡ any_of (equal (chunk_of (buffer_in state.now b))) (chunks_of (facts_on image.now.plan image.now.tape)) }
 {
-    let n = plan.facts as usize;
-    let chains = plan.chains;
+    let n = image.plan().facts as usize;
+    let facts = image.facts();
+    let chains = image.chains();
     let h = (state[BUFFER_WORDS * b + 1] % 64) as usize;
-    let mut k = tape[chains + h] as usize;
+    let mut k = chains[h] as usize;
     // a walk along a chain, whose end is seen only when it is reached
     while k < n {
-        if same_chunk(state, b, tape, FACTS_AT + ROW_WORDS * k) {
+        if same_chunk(state, b, facts, ROW_WORDS * k) {
             return true;
         }
-        k = tape[chains + 64 + k] as usize;
+        k = chains[64 + k] as usize;
     }
     false
 }
@@ -110,13 +112,13 @@ fn write_row(news: &mut [u16], n: usize, state: &[u16], b: usize)
 }
 
 // The chunk in buffer b after n new rows, if it gives one and neither a fact that the plan knows of nor one of these rows has it; how many rows there are then.
-fn join(news: &mut [u16], n: usize, state: &[u16], b: usize, plan: Plan, tape: &[u16]) -> usize
-    requires { (11 * n + 11 ≤ length news.old) × (88 ≤ length state.now) × (b < 8) × Planned plan tape.now × ChainsOn plan tape.now }
+fn join(news: &mut [u16], n: usize, state: &[u16], b: usize, image: &Prepared) -> usize
+    requires { (11 * n + 11 ≤ length news.old) × (88 ≤ length state.now) × (b < 8) × ChainsOn image.now.plan image.now.tape }
     ensures result_after { facts_in news.new result ≡ (facts_in news.old n
-        ++ map learned (joining (chunks_of (facts_on plan tape.now) ++ chunks_of (facts_in news.old n)) (given (buffer_in state.now b)))) }
+        ++ map learned (joining (chunks_of (facts_on image.now.plan image.now.tape) ++ chunks_of (facts_in news.old n)) (given (buffer_in state.now b)))) }
     ensures more { result ≤ n + 1 }
 {
-    if gives(state, b) && !known(state, b, plan, tape) && !among(state, b, news, n) {
+    if gives(state, b) && !known(state, b, image) && !among(state, b, news, n) {
         write_row(news, n, state, b);
         return n + 1;
     }
@@ -124,23 +126,21 @@ fn join(news: &mut [u16], n: usize, state: &[u16], b: usize, plan: Plan, tape: &
 }
 
 /// Writes the chunks that the firing of rule k would add to the store, as rows of facts, into `news`; how many they are (none where no store is lent).
-pub fn collect(news: &mut [u16], state: &[u16], plan: Plan, tape: &[u16], k: usize) -> usize
-    requires { Planned plan tape.now × ChainsOn plan tape.now × (k < plan.rules) × (88 ≤ length state.now) × (88 ≤ length news.old) }
-    ensures { Collected news.new result (joins_on plan tape.now state.now k) }
+pub fn collect(news: &mut [u16], state: &[u16], image: &Prepared, k: usize) -> usize
+    requires { ChainsOn image.now.plan image.now.tape × (k < image.now.plan.rules) × (88 ≤ length state.now) × (88 ≤ length news.old) }
+    ensures { Collected news.new result (joins_on image.now.plan image.now.tape state.now k) }
 {
-    if !plan.learns {
+    if !image.plan().learns {
         return 0;
     }
-    let rows = plan.rows;
-    let at = plan.heads + HEAD_WORDS * k + 1;
-    let m = tape[at] as usize;
-    let mask = clear_mask(&tape[rows..], RULE_WORDS * k + ACTIONS_AT, m);
+    let m = image.actions(k);
+    let mask = clear_mask(image.rows(), RULE_WORDS * k + ACTIONS_AT, m);
     let mut n = 0;
     let mut rest = mask as u64;
     // a walk from bit to bit, for speed: few rules clear a buffer, and most of them one
     while rest != 0 {
         let b = match_sets::lowest(rest);
-        n = join(news, n, state, b, plan, tape);
+        n = join(news, n, state, b, image);
         rest = match_sets::drop_lowest(rest);
     }
     n

@@ -6,12 +6,13 @@ ghost use Rattle.meaning.specs.Wait.{soonest};
 ghost use Rattle.meaning.specs.Step.{wait_step};
 ghost use Rattle.layout.specs.Rows.{rule_in};
 ghost use Rattle.layout.specs.StateWords.{buffers_in, state_in};
-ghost use Rattle.layout.specs.Plans.{facts_on, heads_on, rows_on, Planned};
+ghost use Rattle.layout.specs.Plans.{facts_on, heads_on, rows_on};
 ghost use Rattle.step_retrieve.specs.Chains.{ChainsOn};
 ghost use Rattle.step_made.specs.Made.{ms_of, clock_after, firing, placed, StepMet, Joins, Waits};
 
-use layout::{ACTIONS_AT, HEAD_WORDS, Plan, RULE_WORDS};
+use layout::{ACTIONS_AT, RULE_WORDS};
 use meaning::{Event, Reason};
+use prepared::Prepared;
 
 /// A step that was made: what it did, the mark of the buffers that it changed, and how many chunks join the store.
 #[derive(Clone, Copy, Debug, PartialEq, Eq)]
@@ -47,26 +48,25 @@ pub fn fire(
     state: &mut [u16],
     clock: u32,
     k: usize,
-    plan: Plan,
-    tape: &[u16],
+    image: &Prepared,
     nine: &[u16],
     news: &mut [u16],
 ) -> Result<Made, Reason>
-    requires { Planned plan tape.now × (k < plan.rules) × (88 ≤ length state.old) × ChainsOn plan tape.now × (length nine.now ≡ 9) × (88 ≤ length news.old) }
-    ensures step_met { StepMet (placed plan tape.now (state_in state.old clock)
-        (firing plan.failure (facts_on plan tape.now) (state_in state.old clock) k (rule_in (heads_on plan tape.now) (rows_on plan tape.now) k) nine.now))
+    requires { (k < image.now.plan.rules) × (88 ≤ length state.old) × ChainsOn image.now.plan image.now.tape × (length nine.now ≡ 9) × (88 ≤ length news.old) }
+    ensures step_met { StepMet (placed image.now.plan image.now.tape (state_in state.old clock)
+        (firing image.now.plan.failure (facts_on image.now.plan image.now.tape) (state_in state.old clock) k (rule_in (heads_on image.now.plan image.now.tape) (rows_on image.now.plan image.now.tape) k) nine.now))
         result state.old state.new clock }
-    ensures joins { Joins result plan tape.now state.old news.new }
+    ensures joins { Joins result image.now.plan image.now.tape state.old news.new }
 {
     clock_after(clock, FIRING)?;
-    let joined = step_learn::collect(news, state, plan, tape, k);
+    let joined = step_learn::collect(news, state, image, k);
+    let plan = image.plan();
     if (plan.places as usize) < plan.facts as usize + joined {
         return Err(Reason::StoreFull);
     }
-    let heads = plan.heads;
-    let actions = tape[heads + HEAD_WORDS * k + 1] as usize;
+    let actions = image.actions(k);
     let o = RULE_WORDS * k + ACTIONS_AT;
-    let mark = step_fire::fire(state, plan, tape, o, actions, nine);
+    let mark = step_fire::fire(state, image, o, actions, nine);
     Ok(Made {
         event: Event::Fired(k as u16),
         mark,

@@ -18,7 +18,7 @@ ghost use Rattle.match_rest.specs.Rest.{entry_at};
 use layout::{ENTRY_WORDS, HEAD_WORDS, Plan, RULE_WORDS};
 use match_beds::SURE_AT;
 use meaning::Reason;
-use prepared::RuleWords;
+use prepared::{Prepared, RuleWords};
 use step_made::Made;
 
 // Whether nine words are the fresh entry of a rule.
@@ -79,7 +79,8 @@ fn fire_step(
     }
     let first = ENTRY_WORDS * k;
     let end = first + ENTRY_WORDS;
-    step_made::fire(state, clock, k, plan, tape, &table[first..end], news)
+    let image = Prepared::new(plan, tape);
+    step_made::fire(state, clock, k, &image, &table[first..end], news)
 }
 
 /// One step of the model that plan and tape mean, with its table and the set of its matching rules; a step that is refused leaves the state as it is.

@@ -12,13 +12,13 @@ pub returns-then-not-among-clause-result_after : goal.returns-then-not-among-cla
 returns-then-not-among-clause-result_after c =
     let a = c.args in
     c.write_row.ensures
-    ∙ join-new (chunks_of (facts_on a.plan a.tape.now)) (facts_in a.news.now a.n) (buffer_in a.state.now a.b) (sym c.gives.ensures ∙ c.if-gives.true)
+    ∙ join-new (chunks_of (facts_on a.image.now.plan a.image.now.tape)) (facts_in a.news.now a.n) (buffer_in a.state.now a.b) (sym c.gives.ensures ∙ c.if-gives.true)
     (sym c.known.ensures ∙ c.if-not-known.true) (sym c.among.ensures ∙ c.if-not-among.true)
 
 pub returns-clause-result_after : goal.returns-clause-result_after
 returns-clause-result_after c =
     let a = c.args in
-    let known = chunks_of (facts_on a.plan a.tape.now) in
+    let known = chunks_of (facts_on a.image.now.plan a.image.now.tape) in
     let old = facts_in a.news.now a.n in
     let buffer = buffer_in a.state.now a.b in
     (elim c.else-gives.branch [

@@ -13,4 +13,4 @@ returns-then-not-chosen_fresh-clause-step_met c =
 pub returns-clause-step_met : goal.returns-clause-step_met
 returns-clause-step_met c =
     let a = c.args in
-    fresh-fires a.plan a.tape.now _ _ a.state.now a.clock (c.chosen_fresh.ensures a.clock) (search rules) (part-is a.k a.table.now) c.fire.result c.fire.new.state c.fire.ensures.step_met
+    fresh-fires a.plan a.tape.now _ _ a.state.now a.clock (c.chosen_fresh.ensures a.clock) (search rules) (part-is a.k a.table.now) c.fire.result c.fire.new.state (rw c.new-image.ensures at c.fire.ensures.step_met)

@@ -5,14 +5,14 @@ use Rattle.fresh_run.proofs.FreshEngine.turn.Goals as goal
 pub returns-clause-stays : goal.returns-clause-stays
 returns-clause-stays c =
     let a = c.args in
-    stops a.plan a.tape.now c.requires.0 a.state.now a.clock c.step.new.state _ c.step.ensures.move_met
+    stops a.plan a.tape.now c.requires.0 a.state.now a.clock c.step.new.state _ (rw c.new.ensures at c.step.ensures.move_met)
 
 pub returns-clause-kept : goal.returns-clause-kept
 returns-clause-kept c =
     let a = c.args in
-    kept a.plan a.tape.now c.requires.0 a.state.now a.clock c.step.new.state _ c.step.ensures.move_met
+    kept a.plan a.tape.now c.requires.0 a.state.now a.clock c.step.new.state _ (rw c.new.ensures at c.step.ensures.move_met)
 
 pub returns-clause-moves : goal.returns-clause-moves
 returns-clause-moves c =
     let a = c.args in
-    goes-on a.plan a.tape.now c.requires.0 a.state.now a.clock c.step.new.state _ c.step.ensures.move_met c.step.new.news c.step.ensures.adds
+    goes-on a.plan a.tape.now c.requires.0 a.state.now a.clock c.step.new.state _ (rw c.new.ensures at c.step.ensures.move_met) c.step.new.news (rw c.new.ensures at c.step.ensures.adds)
