@@ -12,7 +12,6 @@ use meaning::{Reason, Refusal};
 use read_ranges::{Reader, Sizes};
 
 // One test, into a row: a buffer from `least` to below the count, a type, a mask within the type's slots and its terms.
-#[tactic(auto, unfolding(meaning::specs::Image::test))]
 fn test(
     reader: &mut Reader,
     sizes: &Sizes,
