@@ -10,7 +10,6 @@ ghost use Rattle.match_best.specs.Chosen.{Below};
 ghost use Rattle.fresh_best.specs.Matched.{matched_of, Entered};
 
 use layout::{ENTRY_WORDS, HEAD_WORDS, RULE_WORDS};
-use prepared::RuleWords;
 
 /// Of n rules, each matched afresh, the one that is chosen; its entry goes to nine lent words.
 pub fn best(
@@ -32,8 +31,7 @@ pub fn best(
     let mut top = 0u32;
     for k in 0..n {
         let tests = heads[HEAD_WORDS * k] as usize;
-        let rule = RuleWords::new(words, RULE_WORDS * k, tests);
-        if fresh_match::hits(&mut trial, &rule, state) {
+        if fresh_match::hits(&mut trial, words, RULE_WORDS * k, tests, state) {
             let height = match_best::key(heads[HEAD_WORDS * k + 2]);
             if top < height {
                 nine.copy_from_slice(&trial);

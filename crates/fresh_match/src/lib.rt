@@ -1,14 +1,14 @@
 // One rule matched by itself: it is given up at its first slot that differs, and until a variable is met or all its tests hold nothing is written for it.
 #![tactic(auto)]
 
-ghost use Rattle.std.specs.Prelude.{◌≡◌, ◌∷◌, ℕ, ◌+◌, ◌*◌, ◌/◌, ◌%◌, ◌≤◌, length, replicate};
+ghost use Rattle.std.specs.Prelude.{◌≡◌, ◌∷◌, ℕ, ◌+◌, ◌*◌, ◌/◌, ◌%◌, ◌≤◌, length, get_or, replicate};
 ghost use Rattle.meaning.specs.Image.{ask_of};
 ghost use Rattle.meaning.specs.Match.{answers, queries_hold};
 ghost use Rattle.layout.specs.Rows.{queries_at};
 ghost use Rattle.layout.specs.StateWords.{buffer_in, state_in};
 ghost use Rattle.fresh_match.specs.Hits.{LookMet, HitMet};
 
-use layout::{QUERIES_AT, ROW_WORDS};
+use layout::{ASKED_AT, QUERIES_AT, ROW_WORDS};
 use prepared::RuleWords;
 
 /// What a look at the tests of a rule finds, as far as its first variable: something differs; all of them hold, and there is no variable; or a variable is met.
@@ -21,13 +21,15 @@ pub enum Looked {
 }
 
 // Looks at the n tests that stand in words from o on: whether each buffer is visible and of the test's type, and each named slot has its symbol.
-// What is left of a mask has the bit of slot b at 128, and no slot is looked at once it is 0 (for speed).
+// What is left of a mask has the bit of slot b at 128, and no slot is looked at once it is 0.
+// The walk over the mask and the count of the tests stay by hand, for speed: by `for` a choice among 256 rules took 1.0 to 1.2 of the reference engine's time, and takes 0.8 so.
 fn look(words: &[u16], o: usize, n: usize, state: &[u16]) -> Looked
     requires { (o + 11 * n ≤ length words.now) × (88 ≤ length state.now) }
     ensures { LookMet result words.now o n state.now }
 {
-    for i in 0..n {
-        let q = o + ROW_WORDS * i;
+    let mut q = o;
+    let mut i = 0;
+    while i < n {
         let k = 11 * (words[q] % 8) as usize;
         if state[k + 9] != 0 {
             return Looked::Differs;
@@ -35,13 +37,10 @@ fn look(words: &[u16], o: usize, n: usize, state: &[u16]) -> Looked
         if state[k] != words[q + 1] {
             return Looked::Differs;
         }
-        let mask = words[q + 2];
-        for b in 0..8 {
-            let left = (mask << b) % 256;
-            if left == 0 {
-                break;
-            }
-            if 128 <= left {
+        let mut rest = words[q + 2] % 256;
+        let mut b = 0;
+        while rest != 0 {
+            if 128 <= rest {
                 let term = words[q + 3 + b];
                 if 4096 <= term {
                     return Looked::Meets;
@@ -50,7 +49,11 @@ fn look(words: &[u16], o: usize, n: usize, state: &[u16]) -> Looked
                     return Looked::Differs;
                 }
             }
+            rest = rest * 2 % 256;
+            b += 1;
         }
+        q += 11;
+        i += 1;
     }
     Looked::Holds
 }
@@ -75,14 +78,12 @@ fn answers(query: u16, state: &[u16]) -> bool
     state[k + 10] == 1
 }
 
-// Whether the queries of a rule hold in a state; they are left at the first that does not.
-fn held(rule: &RuleWords, state: &[u16]) -> bool
-    requires { 88 ≤ length state.now }
-    ensures { (clock : ℕ) → result ≡ queries_hold (queries_at rule.now.words rule.now.at) (state_in state.now clock) }
+// Whether the queries of the rule whose words start at o hold in a state; they are left at the first that does not.
+fn held(words: &[u16], o: usize, state: &[u16]) -> bool
+    requires { (o + 97 ≤ length words.now) × (get_or words.now (o + 88) 0 ≤ 8) × (88 ≤ length state.now) }
+    ensures { (clock : ℕ) → result ≡ queries_hold (queries_at words.now o) (state_in state.now clock) }
 {
-    let words = rule.words();
-    let o = rule.at();
-    let m = rule.queries();
+    let m = words[o + ASKED_AT] as usize;
     for asked in 0..m {
         if !answers(words[o + QUERIES_AT + asked], state) {
             return false;
@@ -99,26 +100,28 @@ fn plain_entry(nine: &mut [u16])
     nine.copy_from_slice(&[1, 0, 0, 0, 0, 0, 0, 0, 0]);
 }
 
-// The entry of a rule, into nine words, and whether it matches.
-fn whole_match(nine: &mut [u16], rule: &RuleWords, state: &[u16]) -> bool
-    requires { (length nine.old ≡ 9) × (88 ≤ length state.now) }
-    ensures { HitMet result nine.new rule.now.words rule.now.at rule.now.tests state.now }
+// The entry of the rule whose words start at o, with n tests, into nine words, and whether it matches.
+fn whole_match(nine: &mut [u16], words: &[u16], o: usize, n: usize, state: &[u16]) -> bool
+    requires { (length nine.old ≡ 9) × (n ≤ 8) × (o + 97 ≤ length words.now) × (get_or words.now (o + 88) 0 ≤ 8) × (88 ≤ length state.now) }
+    ensures { HitMet result nine.new words.now o n state.now }
 {
-    match_rule::entry_into(nine, rule, state);
+    let rule = RuleWords::new(words, o, n);
+    match_rule::entry_into(nine, &rule, state);
     nine[0] == 1
 }
 
-/// Whether a rule matches; if it does, the nine words are its entry.
-pub fn hits(nine: &mut [u16], rule: &RuleWords, state: &[u16]) -> bool
-    requires { (length nine.old ≡ 9) × (88 ≤ length state.now) }
-    ensures { HitMet result nine.new rule.now.words rule.now.at rule.now.tests state.now }
+/// Whether the rule whose words start at o, with n tests, matches; if it does, the nine words are its entry.
+// (On words, and not on a `RuleWords`, for speed: such a value would be stored for each rule at each step, and is lent on only where a variable is met.)
+pub fn hits(nine: &mut [u16], words: &[u16], o: usize, n: usize, state: &[u16]) -> bool
+    requires { (length nine.old ≡ 9) × (n ≤ 8) × (o + 97 ≤ length words.now) × (get_or words.now (o + 88) 0 ≤ 8) × (88 ≤ length state.now) }
+    ensures { HitMet result nine.new words.now o n state.now }
 {
-    match look(rule.words(), rule.at(), rule.tests(), state) {
+    match look(words, o, n, state) {
         Looked::Differs => false,
         Looked::Holds => {
             plain_entry(nine);
-            held(rule, state)
+            held(words, o, state)
         }
-        Looked::Meets => whole_match(nine, rule, state),
+        Looked::Meets => whole_match(nine, words, o, n, state),
     }
 }

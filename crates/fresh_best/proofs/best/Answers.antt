@@ -10,7 +10,6 @@ use Rattle.layout.specs.Rows.{rule_in}
 use Rattle.layout.specs.StateWords.{state_in}
 use Rattle.match_best.specs.Chosen.{candidate_with}
 use Rattle.match_best.proofs.TurnLaws.{chosen_from, chosen-end, chosen-skip, chosen-turn, chosen-kept}
-use Rattle.match_rule.specs.Words.{StandsAt}
 use Rattle.match_rule.proofs.MadeLaws.{rule-stands}
 use Rattle.fresh_best.specs.Matched.{entry_in}
 use Rattle.fresh_best.proofs.FreshLaws.{fresh_start}
@@ -18,15 +17,11 @@ use Rattle.fresh_best.proofs.best.Goals as goal
 use Rattle.fresh_best.proofs.best.Goals.{After-hits, else-hits, then-hits+else-top-height, then-hits+then-top-height}
 use Rattle.fresh_best.proofs.best.Invariants.{Turning}
 
--- the words that rule k is matched from are its own
-stands : (c : After-hits) → let rule = c.new-rule.result in StandsAt (rule_in c.args.heads.now c.args.words.now c.loop-k.k) rule.words rule.at rule.tests
-stands c = rw c.new-rule.ensures (rule-stands c.args.heads.now c.args.words.now c.loop-k.k)
-
 -- rule k, matched: whether its entry counts
 counted : (c : After-hits) → let l = c.loop-k in let a = c.args in (clock : ℕ) → c.hits.result ≡ counts (candidate_with a.heads.now a.words.now (entry_in a.heads.now a.words.now (state_in a.state.now clock)) l.k)
 counted c clock =
     let a = c.args in
-    c.hits.ensures.counted (rule_in a.heads.now a.words.now c.loop-k.k) clock (stands c)
+    c.hits.ensures.counted (rule_in a.heads.now a.words.now c.loop-k.k) clock (rule-stands a.heads.now a.words.now c.loop-k.k)
 
 pub loop-k-init : goal.loop-k-init
 loop-k-init c =
@@ -64,7 +59,7 @@ loop-k-preserved c =
             nine_words = w.copy_from_slice.auto.self ∙ l.invariant.nine_words;
             trial_words = tried;
             leads = (c.loop-k-test.true, w.key-height.ensures);
-            entered = λ clock. copied ∙ c.hits.ensures.entered w.if-hits.true (rule_in heads words l.k) clock (stands (goal.at.loop-k-preserved c).After-hits);
+            entered = λ clock. copied ∙ c.hits.ensures.entered w.if-hits.true (rule_in heads words l.k) clock (rule-stands heads words l.k);
             so_far = λ clock. chosen-turn heads words (at clock) a.n l.k l.best c.loop-k-test.true (matches clock) (λ i. omega (arith, c.type_inv.heads i)) l.top _ l.invariant.leads w.key-height.ensures w.if-top-height.true
                 ∙ l.invariant.so_far clock;
           })

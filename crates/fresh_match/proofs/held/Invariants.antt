@@ -8,4 +8,4 @@ use Rattle.fresh_match.proofs.held.Given as goal
 
 abbrev pub invariant-loop-asked : goal.invariant-loop-asked
 invariant-loop-asked l =
-    (clock : ℕ) → queries_hold (queries_from l.rule.words (l.rule.at + 89) l.asked (l.m - l.asked)) (state_in l.state clock) ≡ queries_hold (queries_at l.rule.words l.rule.at) (state_in l.state clock)
+    (clock : ℕ) → queries_hold (queries_from l.words (l.o + 89) l.asked (l.m - l.asked)) (state_in l.state clock) ≡ queries_hold (queries_at l.words l.o) (state_in l.state clock)
