@@ -22,7 +22,7 @@ pub enum Looked {
 
 // Looks at the n tests that stand in words from o on: whether each buffer is visible and of the test's type, and each named slot has its symbol.
 // What is left of a mask has the bit of slot b at 128, and no slot is looked at once it is 0.
-// The walk over the mask and the count of the tests stay by hand, for speed: by `for` a choice among 256 rules took 1.0 to 1.2 of the reference engine's time, and takes 0.8 so.
+// The walk over the mask and the count of the tests stay by hand, for speed, as docs/SPEED.md says.
 fn look(words: &[u16], o: usize, n: usize, state: &[u16]) -> Looked
     requires { (o + 11 * n ≤ length words.now) × (88 ≤ length state.now) }
     ensures { LookMet result words.now o n state.now }
