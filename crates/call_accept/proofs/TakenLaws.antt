@@ -15,11 +15,11 @@ use Rattle.layout.specs.declared.Plan.{Plan}
 use Rattle.layout.specs.Rows.{rule_in}
 use Rattle.layout.specs.Plans.{heads_on, rows_on, model_on, Planned}
 use Rattle.layout.proofs.RowLaws.{rows-length}
-use Rattle.std.specs.Prelude.{Result, Ok, Err}
+use Rattle.std.specs.Prelude.{Result, Ok, Err, IfErr}
 use Rattle.meaning.specs.declared.reasons.Refusal.{Refusal}
 use Rattle.meaning.specs.declared.reasons.Reason.TheVariants.{WrongTable}
 use Rattle.meaning.specs.Reasons.{number_of}
-use Rattle.read_image.specs.Whole.{header_of}
+use Rattle.read_image.specs.Whole.{header_of, RefusedOf}
 use Rattle.read_image.proofs.WholeLaws.{decode-refused}
 use Rattle.call_accept.specs.Acceptance.{settled, taken_by, TakenMet}
 
@@ -59,6 +59,14 @@ module _ (p : Plan) (image tape : List ℕ) (lent : ℕ) where
     taken-right h planned =
         let g : lent ≡ 9 * p.rules = eqb-true lent (9 * p.rules) (sym judged ∙ h) in
         record { is_taken = λ table l. accepted-right image table (model_on p tape) q laid (omega (arith, rules-many)); planned = planned; right_length = g }
+
+-- a header that was refused, whatever value is begun
+pub refused-taken : {A : Type 0} (b : Result A Refusal) (f : Refusal) (r : Result (Unit {0}) Refusal) (lent : ℕ) (tape : List ℕ) → b ≡ Err f → r ≡ Err f
+    → IfErr b (λ why. (p : Plan) (image : List ℕ) → RefusedOf why image → TakenMet r p image lent tape)
+refused-taken (Err g) f r lent tape is same = λ p image e.
+    let one : r ≡ Err g = cc in
+    taken-bad p image tape lent g (decode-refused image _ _ e) r one
+refused-taken (Ok x) f r lent tape is same = tt
 
 -- an accepted image has no place
 pub place-settled : (a : Read Model) → place_of a ≡ place_of (settled a)

@@ -64,7 +64,7 @@ fn open_on(begun: &Begun, table: &mut [u16], tape: &mut [u16]) -> Result<State, 
     requires { begun.now.plan.end ≤ length tape.old }
     ensures { opened_in (answered result) table.new ≡ open_of begun.now.image table.old }
 {
-    call_accept::accept(begun, table.len(), tape)?;
+    call_accept::accept(Ok(begun), table.len(), tape)?;
     fresh_on(table, begun.plan(), tape);
     Ok(layout_state::read_state(&tape[OPENING_AT..], 0))
 }

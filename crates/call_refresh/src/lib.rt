@@ -91,7 +91,7 @@ fn refresh_on(
     requires { begun.now.plan.end ≤ length tape.old }
     ensures { refreshed_in (answered result) table.new ≡ refresh_of begun.now.image state mark table.old }
 {
-    call_accept::accept(begun, table.len(), tape)?;
+    call_accept::accept(Ok(begun), table.len(), tape)?;
     refresh_for(table, begun.plan(), tape, state, mark)
 }
 

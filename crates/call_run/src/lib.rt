@@ -139,7 +139,7 @@ fn run_on(
     ensures { RunMet (answered asked.now.state result) (accepted begun.now.image table.old) asked.now.state table.old table.new asked.now.steps events.old events.new
         asked.now.lent store.old store.new }
 {
-    call_accept::accept(begun, table.len(), tape)?;
+    call_accept::accept(Ok(begun), table.len(), tape)?;
     run_for(table, begun.plan(), tape, asked, events, sets, store)
 }
 

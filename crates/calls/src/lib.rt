@@ -43,7 +43,7 @@ fn words_needed(image: &[u8]) -> Result<u16, Refusal>
     ensures { needed_in (answered result) ≡ needed_of image.now }
 {
     let begun = read_image::begin(image, false)?;
-    read_image::check(&begun)?;
+    read_image::check(Ok(&begun))?;
     Ok(9 * begun.plan().rules)
 }
 

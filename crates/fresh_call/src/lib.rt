@@ -107,7 +107,7 @@ fn run_on(
     requires taped { begun.now.plan.end ≤ length tape.old }
     ensures { FreshMet (answered asked.now.state result) (decode begun.now.image) asked.now.state asked.now.steps events.old events.new asked.now.lent store.old store.new }
 {
-    read_image::lay_out(begun, tape)?;
+    read_image::lay_out(Ok(begun), tape)?;
     run_for(begun.plan(), tape, asked, events, store)
 }
 

@@ -20,7 +20,7 @@ use Rattle.meaning.specs.Numbers.{finer}
 use Rattle.meaning.specs.Image.{Header, header, slot_counts, chunk, fact, rule, padding, ending, Beginning, beginning, Contents, contents, model, decode, decode_by}
 use Rattle.meaning.specs.Learning.{chunk_of}
 use Rattle.laws.specs.ReadLaws.{no-got, times-all}
-use Rattle.std.specs.Prelude.{Result, Ok, Err}
+use Rattle.std.specs.Prelude.{Result, Ok, Err, IfErr}
 use Rattle.meaning.specs.declared.reasons.Refusal.{Refusal}
 use Rattle.layout.specs.Walks.{mapped, Small}
 use Rattle.layout.specs.Rows.{sizes, rule_in}
@@ -30,7 +30,7 @@ use Rattle.layout.specs.Plans.{places_for, plan_of, heads_on, rows_on, model_on}
 use Rattle.read_ranges.specs.Cursors.{Cursor}
 use Rattle.read_ranges.specs.Reading.{told_by}
 use Rattle.read_opening.specs.Parts.{header_in, Placed, opening_state}
-use Rattle.read_image.specs.Whole.{header_of, InBounds, Fitting, Begins, ended_by, verdict, Checked}
+use Rattle.read_image.specs.Whole.{header_of, InBounds, Fitting, Begins, RefusedOf, ended_by, LaidOut, verdict, Checked}
 
 -- what is made of an answer is made of what was read
 pub told-mapped : {A B : Type 0} (f : A → B) (r : Result A Refusal) (c : Cursor) → told_by f r c ≡ mapped f (told_by (λ x. x) r c)
@@ -222,6 +222,24 @@ laid-checked w p tape s e = record { reads = verdict-of w (model_on p tape) (dec
     go : (w : Result ℕ Refusal) (m : Model) (q : ℕ) → ended_by w (model_on p tape) ≡ read_got m q → length m.rules ≡ p.rules
     go (Ok z) m q g = let same : model_on p tape ≡ m = cc in rw (← same) (rows-length (rule_in (heads_on p tape) (rows_on p tape)) 0 p.rules)
     go (Err f) m q g = absurd (no-got _ f.at m q g)
+
+-- ---- a header that was refused, whatever value is begun
+
+module _ {A : Type 0} where
+  pub refused-laid : (b : Result A Refusal) (f : Refusal) (r : Result ℕ Refusal) (tape : List ℕ) → b ≡ Err f → r ≡ Err f
+      → IfErr b (λ why. (p : Plan) (image : List ℕ) → RefusedOf why image → LaidOut r p image tape)
+  refused-laid (Err g) f r tape is same = λ p image e.
+      let one : r ≡ Err g = cc in
+      rw one (record { reads = decode-refused image _ _ e; planned = tt })
+  refused-laid (Ok x) f r tape is same = tt
+
+  pub refused-checked : (b : Result A Refusal) (f : Refusal) (r : Result ℕ Refusal) → b ≡ Err f → r ≡ Err f
+      → IfErr b (λ why. (p : Plan) (image : List ℕ) → RefusedOf why image → Checked r p image)
+  refused-checked (Err g) f r is same = λ p image e.
+      let bad = decode-refused image _ _ e in
+      let one : r ≡ Err g = cc in
+      rw one (record { reads = rw (← bad); many = λ m q d. absurd (no-got _ g.at m q (bad ∙ d)) })
+  refused-checked (Ok x) f r is same = tt
 
 -- ---- the end
 

@@ -58,6 +58,10 @@ abbrev pub begun_read : Result Started Refusal → Read Header
 begun_read (Ok b) = read_got (header_in b.plan) b.at
 begun_read (Err r) = read_refused (number_of r.reason) r.at
 
+-- a refusal of the header of that image
+abbrev pub RefusedOf : Refusal → List ℕ → Type 0
+RefusedOf r image = read_refused (number_of r.reason) r.at ≡ header_of image
+
 -- slot counts and opening chunks that were laid out: the definition's beginning or refusal, in the same image;
 -- and of those that were not refused, that the types given back are those on the tape, with at most eight slots each, and the opening section is the opening state
 pub record OpeningMet (r : Result (List ℕ) Refusal) (p : Plan) (old new : Cursor) (tape : List ℕ) : Type 0 where

@@ -8,7 +8,7 @@ use read_ranges::Reader;
 use std::marker::Model;
 
 /// The bytes of an image whose header is read, where reading goes on, and the plan that the header makes.
-#[derive(Drop)]
+#[derive(Clone, Drop)]
 pub struct Begun<'a> {
     image: &'a [u8],
     at: usize,
@@ -26,6 +26,14 @@ impl<'a> Model for Begun<'a> {
 }
 
 impl<'a> Begun<'a> {
+    /// An image whose header was read up to a bit, as a plan.
+    pub fn new(image: &'a [u8], at: usize, plan: Plan) -> Begun<'a>
+        requires { Begins image.now at plan }
+        ensures { result ≡ record { image = image.now; at = at; plan = plan } }
+    {
+        Begun { image, at, plan }
+    }
+
     /// The plan: at most 256 rules, as long as they need, and with room on the largest tape.
     pub fn plan(&self) -> Plan
         ensures value { result ≡ self.now.plan }

@@ -1,16 +1,17 @@
 // A whole image: accepted, and laid out on a tape; or refused by reason and place. Each field is judged when it is read, in reading order.
 #![tactic(auto)]
 
-ghost use Rattle.std.specs.Prelude.{◌≡◌, ◌*◌, ◌≤◌, ◌<◌, IfOk, OnOk, length, take};
+ghost use Rattle.std.specs.Prelude.{◌≡◌, ◌*◌, ◌≤◌, ◌<◌, ℕ, List, IfOk, IfErr, OnOk, length, take};
 ghost use Rattle.meaning.specs.Numbers.{finer};
 ghost use Rattle.meaning.specs.Read.{read_got};
 ghost use Rattle.meaning.specs.Image.{header, contents, ending};
 ghost use Rattle.layout.specs.Walks.{Small};
 ghost use Rattle.layout.specs.Rows.{sizes, Laid};
+ghost use Rattle.layout.specs.declared.Plan.{Plan};
 ghost use Rattle.layout.specs.Plans.{heads_on, rows_on};
 ghost use Rattle.read_opening.specs.Parts.{header_in};
 ghost use Rattle.read_ranges.specs.Reading.{told_by, Follows};
-ghost use Rattle.read_image.specs.Whole.{contents_on, InBounds, OpeningMet, LaidOut, Checked};
+ghost use Rattle.read_image.specs.Whole.{contents_on, InBounds, OpeningMet, RefusedOf, LaidOut, Checked};
 
 use layout::{
     FACTS_AT, HEAD_WORDS, LARGE_TAPE, MIDDLE_TAPE, OPENING_AT, Plan, SMALL_TAPE, TYPES_AT,
@@ -75,8 +76,8 @@ fn contents(reader: &mut Reader, types: &[u16], plan: Plan, tape: &mut [u16]) ->
     finish(reader)
 }
 
-/// Lays an image that is begun out on a tape that has room for its plan: the bit after its last field, or a refusal. What a refused image leaves on the tape says nothing.
-pub fn lay_out(begun: &Begun, tape: &mut [u16]) -> Result<usize, Refusal>
+// Opening and contents of an image that is begun: laid out on a tape that has room for its plan.
+fn lay_on(begun: &Begun, tape: &mut [u16]) -> Result<usize, Refusal>
     requires { begun.now.plan.end ≤ length tape.old }
     ensures { LaidOut result begun.now.plan begun.now.image tape.new }
 {
@@ -88,6 +89,16 @@ pub fn lay_out(begun: &Begun, tape: &mut [u16]) -> Result<usize, Refusal>
     Ok(reader.at())
 }
 
+/// Lays an image out on a tape that has room for its plan: the bit after its last field, or a refusal. Where its header was refused, it is refused so.
+/// What a refused image leaves on the tape says nothing.
+pub fn lay_out(begun: Result<&Begun, Refusal>, tape: &mut [u16]) -> Result<usize, Refusal>
+    requires { IfOk begun (λ b. b.now.plan.end ≤ length tape.old) }
+    ensures laid_out { IfOk begun.entry (λ b. LaidOut result b.now.plan b.now.image tape.new) }
+    ensures refused { IfErr begun.entry (λ why. (p : Plan) (image : List ℕ) → RefusedOf why image → LaidOut result p image tape.new) }
+{
+    lay_on(begun?, tape)
+}
+
 // The same on a tape of its own, which stands on the stack no longer than this.
 #[inline(never)]
 fn check_in<const TAPE: usize>(begun: &Begun) -> Result<usize, Refusal>
@@ -95,11 +106,11 @@ fn check_in<const TAPE: usize>(begun: &Begun) -> Result<usize, Refusal>
     ensures { Checked result begun.now.plan begun.now.image }
 {
     let mut tape = [0u16; TAPE];
-    lay_out(begun, &mut tape)
+    lay_on(begun, &mut tape)
 }
 
-/// Whether an image that is begun is accepted: the bit after its last field, or a refusal.
-pub fn check(begun: &Begun) -> Result<usize, Refusal>
+// Whether an image that is begun is accepted, on the smallest tape that has room.
+fn check_on(begun: &Begun) -> Result<usize, Refusal>
     ensures { Checked result begun.now.plan begun.now.image }
 {
     let end = begun.plan().end;
@@ -110,4 +121,12 @@ pub fn check(begun: &Begun) -> Result<usize, Refusal>
         return check_in::<MIDDLE_TAPE>(begun);
     }
     check_in::<LARGE_TAPE>(begun)
+}
+
+/// Whether an image is accepted: the bit after its last field, or a refusal. Where its header was refused, it is refused so.
+pub fn check(begun: Result<&Begun, Refusal>) -> Result<usize, Refusal>
+    ensures checked { IfOk begun.entry (λ b. Checked result b.now.plan b.now.image) }
+    ensures refused { IfErr begun.entry (λ why. (p : Plan) (image : List ℕ) → RefusedOf why image → Checked result p image) }
+{
+    check_on(begun?)
 }

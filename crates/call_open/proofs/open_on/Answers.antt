@@ -7,9 +7,9 @@ use Rattle.call_open.proofs.open_on.Goals as goal
 pub returns-in_err-accept : goal.returns-in_err-accept
 returns-in_err-accept c =
     let a = c.args in
-    open-refused a.begun.now.image a.table.now a.begun.now.plan _ _ c.in_err-accept.ensures _ (search rules)
+    open-refused a.begun.now.image a.table.now a.begun.now.plan _ _ c.in_err-accept.ensures.taken _ (search rules)
 
 pub returns : goal.returns
 returns c =
     let a = c.args in
-    open-accepted a.begun.now.image a.table.now a.begun.now.plan _ _ c.in_ok-accept.ensures c.read_state.result _ (simp to_end at c.read_state.ensures) (search rules)
+    open-accepted a.begun.now.image a.table.now a.begun.now.plan _ _ c.in_ok-accept.ensures.taken c.read_state.result _ (simp to_end at c.read_state.ensures) (search rules)

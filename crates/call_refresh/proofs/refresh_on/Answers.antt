@@ -6,9 +6,9 @@ use Rattle.call_refresh.proofs.refresh_on.Goals as goal
 pub returns-in_err-accept : goal.returns-in_err-accept
 returns-in_err-accept c =
     let a = c.args in
-    refresh-refused a.state a.mark a.begun.now.image a.table.now a.begun.now.plan _ _ c.in_err-accept.ensures _ (search rules)
+    refresh-refused a.state a.mark a.begun.now.image a.table.now a.begun.now.plan _ _ c.in_err-accept.ensures.taken _ (search rules)
 
 pub returns : goal.returns
 returns c =
     let a = c.args in
-    refresh-accepted a.state a.mark a.begun.now.image a.table.now a.begun.now.plan _ _ c.in_ok-accept.ensures _ (search rules)
+    refresh-accepted a.state a.mark a.begun.now.image a.table.now a.begun.now.plan _ _ c.in_ok-accept.ensures.taken _ (search rules)

@@ -11,12 +11,12 @@ returns-in_err-begun c =
 pub returns-in_err-check : goal.returns-in_err-check
 returns-in_err-check c =
     let same = c.in_ok-begun.ensures.begun.0 in
-    let refused = length-bad c.args.image.now _ _ (rw same at c.in_err-check.ensures.reads) in
+    let refused = length-bad c.args.image.now _ _ (rw same at c.in_err-check.ensures.checked.reads) in
     search (rules, refused)
 
 pub returns : goal.returns
 returns c =
     let same = c.in_ok-begun.ensures.begun.0 in
-    let checked = rw same at c.check.ensures in
-    let needed = length-next c.check.result c.in_ok-begun.begun.plan c.args.image.now _ checked (rw same at c.in_ok-check.ensures.reads) in
+    let checked = rw same at c.check.ensures.checked in
+    let needed = length-next c.check.result c.in_ok-begun.begun.plan c.args.image.now _ checked (rw same at c.in_ok-check.ensures.checked.reads) in
     search (rules, needed)

@@ -8,7 +8,7 @@ use Rattle.fresh_call.proofs.run_on.Goals as goal
 pub returns-in_err-lay_out : goal.returns-in_err-lay_out
 returns-in_err-lay_out c =
     let a = c.args in
-    fresh-refused a.asked.now.state a.asked.now.steps a.asked.now.lent a.store.now a.begun.now.image a.events.now _ c.in_err-lay_out.ensures.reads c.from_residual.result (search rules)
+    fresh-refused a.asked.now.state a.asked.now.steps a.asked.now.lent a.store.now a.begun.now.image a.events.now _ c.in_err-lay_out.ensures.laid_out.reads c.from_residual.result (search rules)
 
 pub run_for-requires : goal.run_for-requires
 run_for-requires c =
@@ -17,4 +17,4 @@ run_for-requires c =
 pub returns : goal.returns
 returns c =
     let a = c.args in
-    fresh-accepted a.asked.now.state a.asked.now.steps a.asked.now.lent a.store.now a.begun.now.image a.events.now _ _ c.in_ok-lay_out.ensures.reads _ _ _ (search rules)
+    fresh-accepted a.asked.now.state a.asked.now.steps a.asked.now.lent a.store.now a.begun.now.image a.events.now _ _ c.in_ok-lay_out.ensures.laid_out.reads _ _ _ (search rules)

@@ -4,4 +4,4 @@ use Rattle.read_image.proofs.WholeLaws.{laid-checked}
 use Rattle.read_image.proofs.check_in.Goals as goal
 
 pub returns : goal.returns
-returns g c = laid-checked c.lay_out.result _ _ _ c.lay_out.ensures.reads
+returns g c = laid-checked c.lay_on.result _ _ _ c.lay_on.ensures.reads
