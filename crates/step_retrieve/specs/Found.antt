@@ -1,5 +1,5 @@
 -- What the number of a fact that is found stands for.
-use Rattle.std.specs.Prelude.{ℕ, ◌*◌, ◌<◌, List, Some, None}
+use Rattle.std.specs.Prelude.{ℕ, ◌+◌, ◌*◌, ◌<◌, ◌≡◌, List, Some, None, get_or}
 use Rattle.std.specs.Prelude as std
 use Rattle.std.proofs.Math.Option.{Option, none, some}
 use Rattle.meaning.specs.Model.{Fact}
@@ -13,3 +13,8 @@ fact_of facts None = none
 abbrev pub Below : std.Option ℕ → ℕ → Type 0
 Below (Some k) n = k < n
 Below None n = Unit {0}
+
+-- its activation is that one
+abbrev pub Weighed : List ℕ → std.Option ℕ → ℕ → Type 0
+Weighed facts (Some k) activation = activation ≡ get_or facts (11 * k + 1) 0
+Weighed facts None activation = Unit {0}

@@ -7,7 +7,7 @@ ghost use Rattle.meaning.specs.Image.{names};
 ghost use Rattle.meaning.specs.Highest.{better};
 ghost use Rattle.meaning.specs.Retrieval.{value_of, fits, weaker, retrieve};
 ghost use Rattle.layout.specs.Rows.{word_term, masked_in, fact_in, facts_in};
-ghost use Rattle.step_retrieve.specs.Found.{fact_of, Below};
+ghost use Rattle.step_retrieve.specs.Found.{fact_of, Below, Weighed};
 ghost use Rattle.step_retrieve.specs.Chains.{Chained};
 
 use layout::ROW_WORDS;
@@ -67,35 +67,42 @@ pub fn chain(index: &mut [u16], facts: &[u16], n: usize)
     }
 }
 
+// The best fact so far, if there is one, and its activation: kept beside it, for speed, so that it is not read again for each fact.
+#[derive(Clone, Copy)]
+struct Best {
+    fact: Option<usize>,
+    activation: u16,
+}
+
 // Whether fact k has a higher activation than the best so far.
-fn is_higher(facts: &[u16], best: Option<usize>, k: usize) -> bool
-    requires { (11 * k + 11 ≤ length facts.now) × Below best (length facts.now / 11) }
-    ensures { better weaker (fact_of facts.now best) (fact_in facts.now (11 * k)) ≡ (if result then some (fact_in facts.now (11 * k)) else fact_of facts.now best) }
+fn is_higher(facts: &[u16], best: Best, k: usize) -> bool
+    requires { (11 * k + 11 ≤ length facts.now) × Below best.fact (length facts.now / 11) × Weighed facts.now best.fact best.activation }
+    ensures { better weaker (fact_of facts.now best.fact) (fact_in facts.now (11 * k)) ≡ (if result then some (fact_in facts.now (11 * k)) else fact_of facts.now best.fact) }
 {
-    match best {
-        Some(j) => facts[ROW_WORDS * j + 1] < facts[ROW_WORDS * k + 1],
+    match best.fact {
+        Some(_) => best.activation < facts[ROW_WORDS * k + 1],
         None => true,
     }
 }
 
 // The best so far, or fact k, if it fits the request at q and is higher.
 // A fact of another type, or no higher than the best so far, is passed before its slots are looked at.
-fn better(
-    facts: &[u16],
-    best: Option<usize>,
-    k: usize,
-    words: &[u16],
-    q: usize,
-    nine: &[u16],
-) -> Option<usize>
-    requires { (11 * k + 11 ≤ length facts.now) × (q + 11 ≤ length words.now) × (9 ≤ length nine.now) × Below best (length facts.now / 11) }
-    ensures turned { fact_of facts.now result
+fn better(facts: &[u16], best: Best, k: usize, words: &[u16], q: usize, nine: &[u16]) -> Best
+    requires { (11 * k + 11 ≤ length facts.now) × (q + 11 ≤ length words.now) × (9 ≤ length nine.now) × Below best.fact (length facts.now / 11) × Weighed facts.now best.fact best.activation }
+    ensures turned { fact_of facts.now result.fact
         ≡ (if fits (get_or words.now (q + 1) 0) (masked_in words.now q) nine.now (fact_in facts.now (11 * k))
-        then better weaker (fact_of facts.now best) (fact_in facts.now (11 * k)) else fact_of facts.now best) }
-    ensures below { (n : ℕ) → Below best n → k < n → Below result n }
+        then better weaker (fact_of facts.now best.fact) (fact_in facts.now (11 * k)) else fact_of facts.now best.fact) }
+    ensures below { (n : ℕ) → Below best.fact n → k < n → Below result.fact n }
+    ensures weighed { Weighed facts.now result.fact result.activation }
 {
+    if facts[ROW_WORDS * k] != words[q + 1] {
+        return best;
+    }
     if is_higher(facts, best, k) && fits(facts, ROW_WORDS * k, words, q, nine) {
-        Some(k)
+        Best {
+            fact: Some(k),
+            activation: facts[ROW_WORDS * k + 1],
+        }
     } else {
         best
     }
@@ -115,12 +122,15 @@ pub fn retrieve(
     ensures nine_value { retrieve (facts_in facts.now n) (get_or words.now (q + 1) 0) (masked_in words.now q) nine.now ≡ fact_of facts.now result }
     ensures below { Below result n }
 {
-    let mut best = None;
+    let mut best = Best {
+        fact: None,
+        activation: 0,
+    };
     if !is_named(words[q + 2], 0) {
         for k in 0..n {
             best = better(facts, best, k, words, q, nine);
         }
-        return best;
+        return best.fact;
     }
     let first = value_of(nine, words[q + 3]);
     let mut next = index[(first % 64) as usize] as usize;
@@ -129,5 +139,5 @@ pub fn retrieve(
         best = better(facts, best, next, words, q, nine);
         next = index[64 + next] as usize;
     }
-    best
+    best.fact
 }
