@@ -17,7 +17,7 @@ use Rattle.meaning.specs.Reasons.{number_of}
 use Rattle.read_image.specs.Whole.{header_of}
 use Rattle.call_accept.specs.Acceptance.{settled, TakenMet}
 use Rattle.call_accept.proofs.TakenLaws.{by-taken, by-header}
-use Rattle.call_open.specs.Answers.{answered, opened_in}
+use Rattle.call_open.specs.Answers.{answered, opened_in, given_with}
 
 opened-settled : (table : List ℕ) (a : Read Model) → opened_by table a ≡ opened_by table (settled a)
 opened-settled table (read_refused n at) = refl
@@ -28,14 +28,14 @@ opened number s table = record { number = number; position = 0; state = s; table
 
 module _ (image table : List ℕ) where
   -- refused, by its header or later: nothing is done
-  pub open-header : (f : Refusal) → read_refused (number_of f.reason) f.at ≡ header_of image → (r : Result State Refusal) → r ≡ Err f → opened_in (answered r) table ≡ open_of image table
+  pub open-header : (f : Refusal) → read_refused (number_of f.reason) f.at ≡ header_of image → (r : Result (Unit {0}) Refusal) (s : State) → r ≡ Err f → opened_in (answered (given_with r s)) table ≡ open_of image table
   unfolding open_of
-  open-header f e r is = rw is (by-header (opened_by table) (opened-settled table) image table (number_of f.reason) f.at e)
+  open-header f e r s is = rw is (by-header (opened_by table) (opened-settled table) image table (number_of f.reason) f.at e)
 
   module _ (p : Plan) (tape : List ℕ) where
-    pub open-refused : (f : Refusal) → TakenMet (Err f) p image (length table) tape → (r : Result State Refusal) → r ≡ Err f → opened_in (answered r) table ≡ open_of image table
+    pub open-refused : (f : Refusal) → TakenMet (Err f) p image (length table) tape → (r : Result (Unit {0}) Refusal) (s : State) → r ≡ Err f → opened_in (answered (given_with r s)) table ≡ open_of image table
     unfolding open_of
-    open-refused f met r is = rw is (by-taken (opened_by table) (opened-settled table) image table (Err f) p tape met)
+    open-refused f met r s is = rw is (by-taken (opened_by table) (opened-settled table) image table (Err f) p tape met)
 
     -- accepted: the fresh table in the state that stands on the tape, which is the opening one
     pub open-accepted : (u : Unit {0}) → TakenMet (Ok u) p image (length table) tape → (s : State) (table' : List ℕ) → s ≡ state_in (drop 64 tape) 0

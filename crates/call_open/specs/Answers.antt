@@ -16,3 +16,8 @@ opened_in r table = record { number = r.number; position = r.position; state = r
 abbrev pub answered : Result State Refusal → OpenDone
 answered (Ok s) = record { number = all_done; position = 0; state = s }
 answered (Err refusal) = record { number = number_of refusal.reason; position = refusal.at; state = zero_state }
+
+-- an opening state that was written where it was wanted, or the refusal
+abbrev pub given_with : Result (Unit {0}) Refusal → State → Result State Refusal
+given_with (Ok u) s = Ok s
+given_with (Err refusal) s = Err refusal

@@ -8,7 +8,7 @@ ghost use Rattle.meaning.specs.Match.{fresh_table};
 ghost use Rattle.meaning.specs.Calls.{open_of};
 ghost use Rattle.layout.specs.StateWords.{state_in};
 ghost use Rattle.layout.specs.Plans.{rules_on, Planned};
-ghost use Rattle.call_open.specs.Answers.{answered, opened_in};
+ghost use Rattle.call_open.specs.Answers.{answered, given_with, opened_in};
 
 use layout::{LARGE_TAPE, MIDDLE_TAPE, OPENING_AT, Plan, SMALL_TAPE};
 use meaning::{ALL_DONE, Refusal, State};
@@ -34,12 +34,12 @@ fn no_opening(refusal: Refusal) -> OpenDone
     }
 }
 
-// What open answers of an opening state or a refusal.
-fn answered(opened: Result<State, Refusal>) -> OpenDone
-    ensures { result ≡ answered opened }
+// What open answers where a state was opened, or of a refusal.
+fn answered(opened: Result<(), Refusal>, state: State) -> OpenDone
+    ensures { result ≡ answered (given_with opened state) }
 {
     match opened {
-        Ok(state) => OpenDone {
+        Ok(()) => OpenDone {
             number: ALL_DONE,
             position: 0,
             state,
@@ -59,38 +59,48 @@ fn fresh_on(table: &mut [u16], plan: Plan, tape: &[u16])
     match_table::fresh(table, &tape[heads..], &tape[rows..], n, &tape[OPENING_AT..]);
 }
 
-// Opening, with the tape to lay the image out on.
-fn open_on(begun: &Begun, table: &mut [u16], tape: &mut [u16]) -> Result<State, Refusal>
+// Opening, with the tape to lay the image out on. The opening state goes where the caller wants it: within a result it would be copied by a call.
+fn open_on(
+    begun: &Begun,
+    table: &mut [u16],
+    tape: &mut [u16],
+    state: &mut State,
+) -> Result<(), Refusal>
     requires { begun.now.plan.end ≤ length tape.old }
-    ensures { opened_in (answered result) table.new ≡ open_of begun.now.image table.old }
+    ensures { opened_in (answered (given_with result state.new)) table.new ≡ open_of begun.now.image table.old }
 {
     call_accept::accept(Ok(begun), table.len(), tape)?;
     fresh_on(table, begun.plan(), tape);
-    Ok(layout_state::read_state(&tape[OPENING_AT..], 0))
+    *state = layout_state::read_state(&tape[OPENING_AT..], 0);
+    Ok(())
 }
 
 // Opening on a tape of this size. It is a function of its own, and never set into its caller, so that the stack holds one tape at a time.
 #[inline(never)]
-fn open_in<const TAPE: usize>(begun: &Begun, table: &mut [u16]) -> Result<State, Refusal>
+fn open_in<const TAPE: usize>(
+    begun: &Begun,
+    table: &mut [u16],
+    state: &mut State,
+) -> Result<(), Refusal>
     requires { (begun.now.plan.end ≤ TAPE) × (TAPE ≤ 58328) }
-    ensures { opened_in (answered result) table.new ≡ open_of begun.now.image table.old }
+    ensures { opened_in (answered (given_with result state.new)) table.new ≡ open_of begun.now.image table.old }
 {
     let mut tape = [0u16; TAPE];
-    open_on(begun, table, &mut tape)
+    open_on(begun, table, &mut tape, state)
 }
 
 // Opening, on the smallest tape that has room.
-fn opened(image: &[u8], table: &mut [u16]) -> Result<State, Refusal>
-    ensures { opened_in (answered result) table.new ≡ open_of image.now table.old }
+fn opened(image: &[u8], table: &mut [u16], state: &mut State) -> Result<(), Refusal>
+    ensures { opened_in (answered (given_with result state.new)) table.new ≡ open_of image.now table.old }
 {
     let begun = read_image::begin(image, false)?;
     let end = begun.plan().end;
     if end <= SMALL_TAPE {
-        open_in::<SMALL_TAPE>(&begun, table)
+        open_in::<SMALL_TAPE>(&begun, table, state)
     } else if end <= MIDDLE_TAPE {
-        open_in::<MIDDLE_TAPE>(&begun, table)
+        open_in::<MIDDLE_TAPE>(&begun, table, state)
     } else {
-        open_in::<LARGE_TAPE>(&begun, table)
+        open_in::<LARGE_TAPE>(&begun, table, state)
     }
 }
 
@@ -98,5 +108,7 @@ fn opened(image: &[u8], table: &mut [u16]) -> Result<State, Refusal>
 pub fn open(image: &[u8], table: &mut [u16]) -> OpenDone
     ensures { opened_in result table.new ≡ open_of image.now table.old }
 {
-    answered(opened(image, table))
+    let mut state = meaning::zero_state();
+    let opened = opened(image, table, &mut state);
+    answered(opened, state)
 }

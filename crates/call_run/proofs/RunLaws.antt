@@ -31,7 +31,7 @@ use Rattle.call_accept.proofs.TakenLaws.{place-settled, by-taken, by-header}
 use Rattle.call_store.specs.Lending.{lent_if}
 use Rattle.call_store.proofs.AdmitLaws.{Unfit, ill, misfit}
 use Rattle.call_run.specs.declared.RunDone.{RunDone}
-use Rattle.call_run.specs.Answers.{RunMet, answered, with_store, ran_into}
+use Rattle.call_run.specs.Answers.{RunMet, answered, given_with, with_store, ran_into}
 
 abbrev done : ℕ → ℕ → State → ℕ → RunDone
 done number at s made = record { number = number; position = at; state = s; made = made }
@@ -49,17 +49,17 @@ module _ (s : State) (steps : ℕ) (lent : Bool) (store image table noted : List
   ran_settled (read_got m at) = refl
 
   -- refused, by its header or later: nothing is done, and no event is noted
-  pub run-header : (f : Refusal) → read_refused (number_of f.reason) f.at ≡ header_of image → (r : Result RunDone Refusal) → r ≡ Err f
-      → RunMet (answered s r) (accepted image table) s table table steps noted noted lent store store
-  run-header f e r is =
+  pub run-header : (f : Refusal) → read_refused (number_of f.reason) f.at ≡ header_of image → (r : Result (Unit {0}) Refusal) (d : RunDone) → r ≡ Err f
+      → RunMet (answered s (given_with r d)) (accepted image table) s table table steps noted noted lent store store
+  run-header f e r d is =
       let n = number_of f.reason in
       rw (is, ← by-header place_of place-settled image table n f.at e, ← by-header (traced_by s table (lent_if lent store) steps) ran_settled image table n f.at e)
       (nothing-done n f.at s table noted store)
 
   module _ (p : Plan) (tape : List ℕ) where
-    pub run-refused : (f : Refusal) → TakenMet (Err f) p image (length table) tape → (r : Result RunDone Refusal) → r ≡ Err f
-        → RunMet (answered s r) (accepted image table) s table table steps noted noted lent store store
-    run-refused f met r is =
+    pub run-refused : (f : Refusal) → TakenMet (Err f) p image (length table) tape → (r : Result (Unit {0}) Refusal) (d : RunDone) → r ≡ Err f
+        → RunMet (answered s (given_with r d)) (accepted image table) s table table steps noted noted lent store store
+    run-refused f met r d is =
         rw (is, ← by-taken place_of place-settled image table (Err f) p tape met, ← by-taken (traced_by s table (lent_if lent store) steps) ran_settled image table (Err f) p tape met)
         (nothing-done (number_of f.reason) f.at s table noted store)
 

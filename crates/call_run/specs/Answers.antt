@@ -21,6 +21,11 @@ abbrev pub answered : State → Result RunDone Refusal → RunDone
 answered s (Ok done) = done
 answered s (Err refusal) = record { number = number_of refusal.reason; position = refusal.at; state = s; made = 0 }
 
+-- the answer of a run that was written where it was wanted, or the refusal
+abbrev pub given_with : Result (Unit {0}) Refusal → RunDone → Result RunDone Refusal
+given_with (Ok u) done = Ok done
+given_with (Err refusal) done = Err refusal
+
 -- and with the words of the store
 abbrev pub with_store : RunDone → List ℕ → List ℕ → WithStore Ran
 with_store r table store = record { answer = ran_back r table; store = store }

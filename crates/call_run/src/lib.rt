@@ -13,12 +13,12 @@ ghost use Rattle.match_beds.specs.Beds.{Roomy, Cleared};
 ghost use Rattle.step_note.specs.Events.{inscribed};
 ghost use Rattle.step_learn.specs.Knows.{Knows};
 ghost use Rattle.step_run.specs.Went.{WentMet};
-ghost use Rattle.call_run.specs.Answers.{RunMet, answered, ran_back, with_store};
+ghost use Rattle.call_run.specs.Answers.{RunMet, answered, given_with, ran_back, with_store};
 
 use call_store::Asked;
 use layout::{LARGE_TAPE, MIDDLE_TAPE, Plan, SMALL_TAPE, STATE_WORDS, STORE_TAPE};
 use match_beds::{LARGE_SETS, SMALL_SETS};
-use meaning::{Refusal, State};
+use meaning::{ALL_DONE, Refusal, State};
 use read_image::Begun;
 use step_run::Went;
 
@@ -43,12 +43,12 @@ fn no_run(refusal: Refusal, state: State) -> RunDone
     }
 }
 
-// What run answers of a run that was made or of a refusal.
-fn answered(ran: Result<RunDone, Refusal>, state: State) -> RunDone
-    ensures { result ≡ answered state ran }
+// What run answers where a run was made, or of a refusal.
+fn answered(ran: Result<(), Refusal>, done: RunDone, state: State) -> RunDone
+    ensures { result ≡ answered state (given_with ran done) }
 {
     match ran {
-        Ok(done) => done,
+        Ok(()) => done,
         Err(refusal) => no_run(refusal, state),
     }
 }
@@ -83,7 +83,7 @@ fn set_out(
 }
 
 // What is left to refuse once the image and the table's length are accepted, and the run. It is never set into its caller, so that the stack holds what it needs
-// only once the image is laid out.
+// only once the image is laid out. The answer of a run that was made goes where the caller wants it: within a result it would be copied by each call between.
 #[inline(never)]
 fn run_for(
     table: &mut [u16],
@@ -93,10 +93,11 @@ fn run_for(
     events: &mut [u32],
     sets: &mut [u64],
     store: &mut [u16],
-) -> Result<RunDone, Refusal>
+    done: &mut RunDone,
+) -> Result<(), Refusal>
     requires { Planned plan tape.old × (length table.old ≡ 9 * plan.rules) × Roomy plan.rules sets.old × Cleared sets.old
         × (plan.places ≡ places_for plan.facts plan.learns) × (plan.learns ≡ asked.now.lent) }
-    ensures { RunMet (answered asked.now.state result) (read_got (model_on plan tape.old) 0) asked.now.state table.old table.new asked.now.steps events.old events.new
+    ensures { RunMet (answered asked.now.state (given_with result done.new)) (read_got (model_on plan tape.old) 0) asked.now.state table.old table.new asked.now.steps events.old events.new
         asked.now.lent store.old store.new }
 {
     let state = asked.state;
@@ -114,12 +115,13 @@ fn run_for(
         sets,
     );
     call_store::give_back(store, plan, went.plan, tape);
-    Ok(RunDone {
+    *done = RunDone {
         number: went.number(),
         position: 0,
         state: layout_state::read_state(&now, went.clock),
         made: went.made,
-    })
+    };
+    Ok(())
 }
 
 // Running, with the tape to lay the image out on and the sets to keep its rules in.
@@ -131,16 +133,17 @@ fn run_on(
     store: &mut [u16],
     tape: &mut [u16],
     sets: &mut [u64],
-) -> Result<RunDone, Refusal>
+    done: &mut RunDone,
+) -> Result<(), Refusal>
     requires learning { begun.now.plan.learns ≡ asked.now.lent }
     requires taped { begun.now.plan.end ≤ length tape.old }
     requires roomy { Roomy begun.now.plan.rules sets.old }
     requires cleared { Cleared sets.old }
-    ensures { RunMet (answered asked.now.state result) (accepted begun.now.image table.old) asked.now.state table.old table.new asked.now.steps events.old events.new
+    ensures { RunMet (answered asked.now.state (given_with result done.new)) (accepted begun.now.image table.old) asked.now.state table.old table.new asked.now.steps events.old events.new
         asked.now.lent store.old store.new }
 {
     call_accept::accept(Ok(begun), table.len(), tape)?;
-    run_for(table, begun.plan(), tape, asked, events, sets, store)
+    run_for(table, begun.plan(), tape, asked, events, sets, store, done)
 }
 
 // Running on a tape and with sets of these sizes. It is a function of its own, and never set into its caller, so that the stack holds one tape at a time.
@@ -151,16 +154,19 @@ fn run_in<const TAPE: usize, const SETS: usize>(
     table: &mut [u16],
     events: &mut [u32],
     store: &mut [u16],
-) -> Result<RunDone, Refusal>
+    done: &mut RunDone,
+) -> Result<(), Refusal>
     requires learning { begun.now.plan.learns ≡ asked.now.lent }
     requires taped { (begun.now.plan.end ≤ TAPE) × (TAPE ≤ 58328) }
     requires roomy { Roomy begun.now.plan.rules (replicate SETS 0) × (SETS ≤ 1076) }
-    ensures { RunMet (answered asked.now.state result) (accepted begun.now.image table.old) asked.now.state table.old table.new asked.now.steps events.old events.new
+    ensures { RunMet (answered asked.now.state (given_with result done.new)) (accepted begun.now.image table.old) asked.now.state table.old table.new asked.now.steps events.old events.new
         asked.now.lent store.old store.new }
 {
     let mut tape = [0u16; TAPE];
     let mut sets = [0u64; SETS];
-    run_on(begun, asked, table, events, store, &mut tape, &mut sets)
+    run_on(
+        begun, asked, table, events, store, &mut tape, &mut sets, done,
+    )
 }
 
 // Running, on the smallest tape and with the fewest sets that have room.
@@ -170,21 +176,23 @@ fn ran(
     table: &mut [u16],
     events: &mut [u32],
     store: &mut [u16],
-) -> Result<RunDone, Refusal>
-    ensures { RunMet (answered asked.now.state result) (accepted image.now table.old) asked.now.state table.old table.new asked.now.steps events.old events.new
+    done: &mut RunDone,
+) -> Result<(), Refusal>
+    ensures { RunMet (answered asked.now.state (given_with result done.new)) (accepted image.now table.old) asked.now.state table.old table.new asked.now.steps events.old events.new
         asked.now.lent store.old store.new }
 {
     let begun = read_image::begin(image, asked.lent)?;
     let end = begun.plan().end;
     if end <= SMALL_TAPE {
-        run_in::<SMALL_TAPE, SMALL_SETS>(&begun, asked, table, events, store)
-    } else if end <= STORE_TAPE {
-        run_in::<STORE_TAPE, SMALL_SETS>(&begun, asked, table, events, store)
-    } else if end <= MIDDLE_TAPE {
-        run_in::<MIDDLE_TAPE, LARGE_SETS>(&begun, asked, table, events, store)
-    } else {
-        run_in::<LARGE_TAPE, LARGE_SETS>(&begun, asked, table, events, store)
+        return run_in::<SMALL_TAPE, SMALL_SETS>(&begun, asked, table, events, store, done);
     }
+    if end <= STORE_TAPE {
+        return run_in::<STORE_TAPE, SMALL_SETS>(&begun, asked, table, events, store, done);
+    }
+    if end <= MIDDLE_TAPE {
+        return run_in::<MIDDLE_TAPE, LARGE_SETS>(&begun, asked, table, events, store, done);
+    }
+    run_in::<LARGE_TAPE, LARGE_SETS>(&begun, asked, table, events, store, done)
 }
 
 /// Runs at most `steps` steps from a state, with what `lent` says is lent (1: a store): the number, the position of a refused field, the state and the steps made.
@@ -209,7 +217,14 @@ pub fn run_lent(
         steps,
         lent: learns,
     };
-    answered(ran(image, &asked, table, events, store), state)
+    let mut done = RunDone {
+        number: ALL_DONE,
+        position: 0,
+        state,
+        made: 0,
+    };
+    let ran = ran(image, &asked, table, events, store, &mut done);
+    answered(ran, done, asked.state)
 }
 
 /// Runs with nothing lent, and notes each step as `run_lent` does.

@@ -7,7 +7,7 @@ use Rattle.call_open.proofs.open_on.Goals as goal
 pub returns-in_err-accept : goal.returns-in_err-accept
 returns-in_err-accept c =
     let a = c.args in
-    open-refused a.begun.now.image a.table.now a.begun.now.plan _ _ c.in_err-accept.ensures.taken _ (search rules)
+    open-refused a.begun.now.image a.table.now a.begun.now.plan _ _ c.in_err-accept.ensures.taken _ _ (search rules)
 
 pub returns : goal.returns
 returns c =

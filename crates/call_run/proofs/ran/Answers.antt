@@ -6,4 +6,4 @@ use Rattle.call_run.proofs.ran.Goals as goal
 pub returns-in_err-begun : goal.returns-in_err-begun
 returns-in_err-begun c =
     let a = c.args in
-    run-header a.asked.now.state a.asked.now.steps a.asked.now.lent a.store.now a.image.now a.table.now a.events.now _ c.in_err-begun.ensures.reads c.from_residual.result (search rules)
+    run-header a.asked.now.state a.asked.now.steps a.asked.now.lent a.store.now a.image.now a.table.now a.events.now _ c.in_err-begun.ensures.reads c.from_residual.result _ (search rules)

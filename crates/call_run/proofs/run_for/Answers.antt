@@ -1,10 +1,11 @@
 -- `call_run::run_for` meets its contract: state and store are judged, and then the model that stands on the tape runs.
-use Rattle.std.specs.Prelude.{Err}
+use Rattle.std.specs.Prelude.{Result, Err}
 use Prim.Native.Nat.{ℕ, ◌*◌}
 use mathlib.Core.Path.{◌≡◌, refl, ap, ◌∙◌}
 use mathlib.Core.Bool.{true}
 use mathlib.Core.List.{List}
 use lib.ListN.{length, drop}
+use Rattle.meaning.specs.declared.reasons.Refusal.{Refusal}
 use Rattle.meaning.specs.Model.{Model}
 use Rattle.meaning.specs.Read.{read_got}
 use Rattle.meaning.specs.State.{well_formed}
@@ -17,7 +18,7 @@ use Rattle.call_store.specs.Lending.{lent_if}
 use Rattle.call_store.proofs.LendLaws.{backing, given_back}
 use Rattle.call_store.proofs.AdmitLaws.{taken-by, no-zero, refused-by}
 use Rattle.call_run.proofs.RunLaws.{lent_same, left-known, run-unfit, run-went}
-use Rattle.call_run.specs.Answers.{answered}
+use Rattle.call_run.specs.Answers.{answered, given_with}
 use borrow.Author.Rules.{rules}
 use Rattle.call_run.proofs.run_for.Goals as goal
 use Rattle.call_run.proofs.run_for.Goals.{After-admit, After-set_out-went, In_ok-known, Start}
@@ -49,7 +50,7 @@ returns-in_err-known c =
     let why = c.in_err-known.field-0.0 in
     let is : c.from_residual.result ≡ Err (record { reason = why; at = 0 }) = search rules in
     let unfit = refused-by m a.asked.now.state _ c.in_err-known.ensures.judged (no-zero why) in
-    let met = run-unfit a.asked.now.state a.table.now a.asked.now.steps m (words (goal.at.returns-in_err-known c).After-admit) c.in_err-known.ensures.stands a.plan.learns a.store.now _ unfit _ (ap (answered a.asked.now.state) is) a.events.now in
+    let met = run-unfit a.asked.now.state a.table.now a.asked.now.steps m (words (goal.at.returns-in_err-known c).After-admit) c.in_err-known.ensures.stands a.plan.learns a.store.now _ unfit _ (ap (λ (r : Result (Unit {0}) Refusal). answered a.asked.now.state (given_with r a.done.now)) is) a.events.now in
     lent_same _ (read_got m 0) a.asked.now.state a.table.now _ a.asked.now.steps a.events.now _ a.store.now _ a.plan.learns a.asked.now.lent c.requires.5 met
 
 pub give_back-requires : goal.give_back-requires

@@ -9,7 +9,7 @@ use Rattle.call_run.proofs.run_on.Goals as goal
 pub returns-in_err-accept : goal.returns-in_err-accept
 returns-in_err-accept c =
     let a = c.args in
-    run-refused a.asked.now.state a.asked.now.steps a.asked.now.lent a.store.now a.begun.now.image a.table.now a.events.now a.begun.now.plan _ _ c.in_err-accept.ensures.taken c.from_residual.result (search rules)
+    run-refused a.asked.now.state a.asked.now.steps a.asked.now.lent a.store.now a.begun.now.image a.table.now a.events.now a.begun.now.plan _ _ c.in_err-accept.ensures.taken c.from_residual.result _ (search rules)
 
 pub run_for-requires : goal.run_for-requires
 run_for-requires c =
