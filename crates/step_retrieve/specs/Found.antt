@@ -14,7 +14,7 @@ abbrev pub Below : std.Option ℕ → ℕ → Type 0
 Below (Some k) n = k < n
 Below None n = Unit {0}
 
--- its activation is that one
+-- the least activation of a higher fact: one more than that fact's own, and 0 where there is no fact
 abbrev pub Weighed : List ℕ → std.Option ℕ → ℕ → Type 0
-Weighed facts (Some k) activation = activation ≡ get_or facts (11 * k + 1) 0
-Weighed facts None activation = Unit {0}
+Weighed facts (Some k) least = least ≡ get_or facts (11 * k + 1) 0 + 1
+Weighed facts None least = least ≡ 0

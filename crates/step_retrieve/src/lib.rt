@@ -67,33 +67,31 @@ pub fn chain(index: &mut [u16], facts: &[u16], n: usize)
     }
 }
 
-// The best fact so far, if there is one, and its activation: kept beside it, for speed, so that it is not read again for each fact.
+// The best fact so far, if there is one, and the least activation of a higher one, which is 0 while there is no best fact: kept beside it, for speed, so that
+// one comparison tells whether a fact is higher.
 #[derive(Clone, Copy)]
 struct Best {
     fact: Option<usize>,
-    activation: u16,
+    least: u32,
 }
 
 // Whether fact k has a higher activation than the best so far.
 fn is_higher(facts: &[u16], best: Best, k: usize) -> bool
-    requires { (11 * k + 11 ≤ length facts.now) × Below best.fact (length facts.now / 11) × Weighed facts.now best.fact best.activation }
+    requires { (11 * k + 11 ≤ length facts.now) × Below best.fact (length facts.now / 11) × Weighed facts.now best.fact best.least }
     ensures { better weaker (fact_of facts.now best.fact) (fact_in facts.now (11 * k)) ≡ (if result then some (fact_in facts.now (11 * k)) else fact_of facts.now best.fact) }
 {
-    match best.fact {
-        Some(_) => best.activation < facts[ROW_WORDS * k + 1],
-        None => true,
-    }
+    best.least <= facts[ROW_WORDS * k + 1] as u32
 }
 
 // The best so far, or fact k, if it fits the request at q and is higher.
 // A fact of another type, or no higher than the best so far, is passed before its slots are looked at.
 fn better(facts: &[u16], best: Best, k: usize, words: &[u16], q: usize, nine: &[u16]) -> Best
-    requires { (11 * k + 11 ≤ length facts.now) × (q + 11 ≤ length words.now) × (9 ≤ length nine.now) × Below best.fact (length facts.now / 11) × Weighed facts.now best.fact best.activation }
+    requires { (11 * k + 11 ≤ length facts.now) × (q + 11 ≤ length words.now) × (9 ≤ length nine.now) × Below best.fact (length facts.now / 11) × Weighed facts.now best.fact best.least }
     ensures turned { fact_of facts.now result.fact
         ≡ (if fits (get_or words.now (q + 1) 0) (masked_in words.now q) nine.now (fact_in facts.now (11 * k))
         then better weaker (fact_of facts.now best.fact) (fact_in facts.now (11 * k)) else fact_of facts.now best.fact) }
     ensures below { (n : ℕ) → Below best.fact n → k < n → Below result.fact n }
-    ensures weighed { Weighed facts.now result.fact result.activation }
+    ensures weighed { Weighed facts.now result.fact result.least }
 {
     if facts[ROW_WORDS * k] != words[q + 1] {
         return best;
@@ -101,7 +99,7 @@ fn better(facts: &[u16], best: Best, k: usize, words: &[u16], q: usize, nine: &[
     if is_higher(facts, best, k) && fits(facts, ROW_WORDS * k, words, q, nine) {
         Best {
             fact: Some(k),
-            activation: facts[ROW_WORDS * k + 1],
+            least: facts[ROW_WORDS * k + 1] as u32 + 1,
         }
     } else {
         best
@@ -124,7 +122,7 @@ pub fn retrieve(
 {
     let mut best = Best {
         fact: None,
-        activation: 0,
+        least: 0,
     };
     if !is_named(words[q + 2], 0) {
         for k in 0..n {

@@ -1,12 +1,12 @@
 -- `step_retrieve::retrieve` meets its contract: the best so far, and then the facts that are left, give the best of all; what a chain passes does not fit.
-use Rattle.std.proofs.Common.{◌≡◌, ◌+◌, ◌%◌, true, sym, ◌∙◌, get_or, arith, rules}
+use Rattle.std.proofs.Common.{◌≡◌, ◌+◌, ◌%◌, true, refl, sym, ◌∙◌, get_or, arith, rules}
 use Rattle.meaning.specs.Image.{names}
 use Rattle.step_retrieve.proofs.TurnLaws.{found-start, found-turn, found-end}
 use Rattle.step_retrieve.proofs.LeapLaws.{leapt}
 use Rattle.step_retrieve.proofs.retrieve.Goals as goal
 
 pub loop-k-init : goal.loop-k-init
-loop-k-init c = let a = c.args in record { best = tt; weighed = tt; same = found-start a.facts.now a.n _ _ a.nine.now }
+loop-k-init c = let a = c.args in record { best = tt; weighed = refl; same = found-start a.facts.now a.n _ _ a.nine.now }
 
 pub loop-k-preserved : goal.loop-k-preserved
 loop-k-preserved c =
@@ -31,7 +31,7 @@ loop-next-init c =
     let leap = c.requires.4.starts (c.value_of-first.result % 64) (omega arith) in
     record {
       best = tt;
-      weighed = tt;
+      weighed = refl;
       same = leapt a.facts.now a.n a.words.now a.q a.nine.now _ c.value_of-first.ensures named 0 _ leap _ ∙ found-start a.facts.now a.n _ _ a.nine.now;
       chained = leap.lands;
     }
