@@ -12,6 +12,8 @@ ghost use Rattle.fresh_best.specs.Matched.{matched_of, Entered};
 use layout::{ENTRY_WORDS, HEAD_WORDS, RULE_WORDS};
 
 /// Of n rules, each matched afresh, the one that is chosen; its entry goes to nine lent words.
+// (A function of its own, and never set into a run, for speed: its loop has fewer instructions so, as docs/SPEED.md says.)
+#[inline(never)]
 pub fn best(
     heads: &[u16],
     words: &[u16],

@@ -79,6 +79,8 @@ fn answers(query: u16, state: &[u16]) -> bool
 }
 
 // Whether the queries of the rule whose words start at o hold in a state; they are left at the first that does not.
+// (Never set into its caller, for speed, as docs/SPEED.md says: a rule comes here only if its tests hold, and the loop over all rules is short without it.)
+#[inline(never)]
 fn held(words: &[u16], o: usize, state: &[u16]) -> bool
     requires { (o + 97 ≤ length words.now) × (get_or words.now (o + 88) 0 ≤ 8) × (88 ≤ length state.now) }
     ensures { (clock : ℕ) → result ≡ queries_hold (queries_at words.now o) (state_in state.now clock) }
@@ -101,6 +103,8 @@ fn plain_entry(nine: &mut [u16])
 }
 
 // The entry of the rule whose words start at o, with n tests, into nine words, and whether it matches.
+// (Always set into its caller, with the match of `match_rule`, for speed, as docs/SPEED.md says.)
+#[inline(always)]
 fn whole_match(nine: &mut [u16], words: &[u16], o: usize, n: usize, state: &[u16]) -> bool
     requires { (length nine.old ≡ 9) × (n ≤ 8) × (o + 97 ≤ length words.now) × (get_or words.now (o + 88) 0 ≤ 8) × (88 ≤ length state.now) }
     ensures { HitMet result nine.new words.now o n state.now }

@@ -58,6 +58,8 @@ fn why(place: u16, term: u16) -> Tried
 // Whether the n tests that stand in words from o on hold in a state, with the variables in bound and nine, and why not;
 // at the first slot that differs the whole rule is given up. What is left of a mask has the bit of slot b at 128, and no slot is looked at once it is 0.
 // The walk over the mask and the count of the tests stay by hand, for speed, as docs/SPEED.md says.
+// (Always set into its caller, as are `match_queries`, `match_words` and `entry_into` below, for speed too.)
+#[inline(always)]
 fn match_tests(
     words: &[u16],
     o: usize,
@@ -142,6 +144,7 @@ fn ask(query: u16, state: &[u16]) -> Tried
 }
 
 // Whether the queries of a rule hold in a state, and why not; they are left at the first that does not.
+#[inline(always)]
 fn match_queries(rule: &RuleWords, state: &[u16]) -> Tried
     requires { 88 ≤ length state.now }
     ensures by_index { (clock : ℕ) → is_hit result ≡ queries_hold (queries_at rule.now.words rule.now.at) (state_in state.now clock) }
@@ -160,6 +163,7 @@ fn match_queries(rule: &RuleWords, state: &[u16]) -> Tried
 }
 
 // Whether the tests of a rule hold, and then its queries, with the variables in bound and nine, and why not.
+#[inline(always)]
 fn match_words(rule: &RuleWords, state: &[u16], bound: &mut [u16], nine: &mut [u16]) -> Tried
     requires { (88 ≤ length state.now) × (length bound.old ≡ 8) × (length nine.old ≡ 9) × (vars_in bound.old nine.old ≡ no_vars) }
     ensures by_index { (clock : ℕ) → (if is_hit result then on (vars_in bound.new nine.new) else stop)
@@ -198,11 +202,20 @@ pub fn try_into(nine: &mut [u16], rule: &RuleWords, state: &[u16]) -> Tried
 }
 
 /// The same, for whoever does not ask why.
+// (Written out, and not by `try_into`, for speed, as docs/SPEED.md says: so it is set into its caller without the reason, and `try_into` is left as it is.)
+#[inline(always)]
 pub fn entry_into(nine: &mut [u16], rule: &RuleWords, state: &[u16])
     requires { (length nine.old ≡ 9) × (88 ≤ length state.now) }
     ensures { (r : Rule) (clock : ℕ) → StandsAt r rule.now.words rule.now.at rule.now.tests → nine.new ≡ entry_of r (state_in state.now clock) }
 {
-    try_into(nine, rule, state);
+    no_entry(nine);
+    let mut bound = [0u16; 8];
+    let tried = match_words(rule, state, &mut bound, nine);
+    if let Tried::Hit = tried {
+        nine[0] = 1;
+    } else {
+        no_entry(nine);
+    }
 }
 
 /// Whether two entries are the same, word for word.
